@@ -29,7 +29,7 @@ LAWS = tuple(("archive_pages/src/laws.rt", it, "") for it in (
     ("archive_pages/src/laws.rt", "what_is_withheld_leaves_no_trace", "always"),)
 # How what the headline's call is given is read: the models of its types, by file and type.
 MODELS = (("policy_core/src/rules.rt", "Policy"), ("policy_core/src/rules.rt", "Rule"), ("civil_time/src/days.rt", "Day"), ("civil_time/src/instants.rt", "Instant"),
-    ("archive_machine/src/keys.rt", "Key"), ("mbox_items/src/items.rt", "Item"), ("mbox_items/src/separators.rt", "Envelope"))
+    ("archive_model/src/keys.rt", "Key"), ("mbox_items/src/items.rt", "Item"), ("mbox_items/src/separators.rt", "Envelope"))
 HEAD = """# Definitions
 
 The definitions that contracts of public functions cite, each with the comment above it. A module is crates/CRATE/specs/MODULE.antt. The headline is made of those with a star, its laws add those with a plus. *Profile* in a comment means that the rule is this project's.

@@ -721,7 +721,7 @@ DEFINED = {
     "crates/low/src/days.rt": "pub struct Moon;\n",
     "crates/policy_core/src/rules.rt": "ghost use Rattle.low.specs.Views.{seen, unseen};\n\nimpl Model for Policy {\n    ghost Value = { T };\n\n    ghost view = { λ p. seen p };\n\n"
                                        "    ghost invariant = { λ p. unseen p };\n}\n",
-    **{f"crates/{it}.rt": "" for it in ("civil_time/src/days", "civil_time/src/instants", "archive_machine/src/keys", "mbox_items/src/items", "mbox_items/src/separators")},
+    **{f"crates/{it}.rt": "" for it in ("civil_time/src/days", "civil_time/src/instants", "archive_model/src/keys", "mbox_items/src/items", "mbox_items/src/separators")},
     "crates/low/specs/Other.antt": "pub use Rattle.low.specs.Rules.{Fits}\n",
     "crates/high/specs/Lib.antt": "pub use Rattle.low.specs.Days\n",
     "crates/low/src/lib.rt": "ghost use Rattle.low.specs.Rules.{up as rises};\n\npub fn f(a: u8) -> u8\n    ensures { rises result }\n{\n    a\n}\n",
@@ -757,7 +757,7 @@ crates/policy_core/src/rules.rt: Policy
 crates/policy_core/src/rules.rt: Rule
 crates/civil_time/src/days.rt: Day
 crates/civil_time/src/instants.rt: Instant
-crates/archive_machine/src/keys.rt: Key
+crates/archive_model/src/keys.rt: Key
 crates/mbox_items/src/items.rt: Item
 crates/mbox_items/src/separators.rt: Envelope
 # 5 definitions, 11 lines, in 3 modules

@@ -13,30 +13,30 @@ use Rattle.sqlite.specs.Files.{over_files, file_state, HoldsDatabase, IsOpened}
 use Rattle.sqlite.specs.Held.{Held}
 use Rattle.sqlite.specs.Start.{FindsIn}
 use Rattle.sqlite.specs.State.{HasCleanDisk}
-use Rattle.archive_machine.specs.Records.{Archive}
-use Rattle.archive_tables.specs.Schema.{schema_of}
-use Rattle.archive_tables.specs.Tables.{IsHeldAs, IsKnown, AreTablesOf, archive_by, form_of}
+use Rattle.archive_model.specs.Records.{Archive}
+use Rattle.archive_tables.specs.Schema.{schema_of_version}
+use Rattle.archive_tables.specs.Tables.{IsOpenArchiveInFormat, IsKnownVersion, AreTablesOfVersion, archive_of_version, format_of_version}
 use Rattle.archive_store.specs.Adopting.{IsAdopted}
 use Rattle.archive_store.specs.declared.store.Store.{Store}
-use Rattle.archive_run.specs.Remembering.{Remembers}
+use Rattle.archive_run.specs.Remembering.{StoreHoldsArchive}
 
 -- The log and the database file hold tables of some version, 1 to 3, whose rows stand for this archive, whatever is filed of a message.
-pub record HoldsRows (image : Image) (archive : Archive) : Type 0 where
+pub record ImageHoldsArchive (image : Image) (archive : Archive) : Type 0 where
   pub number : ℕ
-  pub known : IsKnown number
+  pub known : IsKnownVersion number
   pub trees : Trees
   pub database : HoldsDatabase image trees
-  pub schema : Lists (trees catalog_tree) (schema_of number)
-  pub tables : AreTablesOf number trees
-  pub stand_for : archive_by number trees ≡ archive
+  pub schema : Lists (trees catalog_tree) (schema_of_version number)
+  pub tables : AreTablesOfVersion number trees
+  pub rows_stand_for_archive : archive_of_version number trees ≡ archive
 
 -- This is so while there is a value, and nothing is said once it is used up.
-abbrev pub Until : {A : Type 0} → Option A → Type 0 → Type 0
-Until start Says = MatchOption start ⊤ (λ _. Says)
+abbrev pub HoldsIfSome : {A : Type 0} → Option A → Type 0 → Type 0
+HoldsIfSome start Says = MatchOption start ⊤ (λ _. Says)
 
 module _ {D : Type 0} {g : Ghosts D} (image : Image) (store : Store (FileStore D g)) where
   -- A connection found what the files held, and the store took it over.
-  pub record WasTakenOver : Type 0 where
+  pub record IsOpenedFromImage : Type 0 where
     pub connection : Held (FileStore D g)
     pub found : HasCleanDisk (file_state connection) → FindsIn image (file_state connection)
     pub opened : HasCleanDisk (file_state connection) → IsOpened connection
@@ -46,8 +46,8 @@ module _ {D : Type 0} {g : Ghosts D} (image : Image) (store : Store (FileStore D
 
 module _ {D : Type 0} {g : Ghosts D} (image : Image) where
   -- so it remembers what the files held
-  pub remembers : (store : Store (FileStore D g)) (archive : Archive) → WasTakenOver image store → HoldsRows image archive → Remembers over_files store archive
-  remembers store archive was held returned =
+  pub opened_store_holds_archive : (store : Store (FileStore D g)) (archive : Archive) → IsOpenedFromImage image store → ImageHoldsArchive image archive → StoreHoldsArchive over_files store archive
+  opened_store_holds_archive store archive was held returned =
       let it = was.connection in
       let clean = was.adopted.returned returned in
       let opens = was.opened clean in
@@ -55,23 +55,23 @@ module _ {D : Type 0} {g : Ghosts D} (image : Image) where
       ap (λ (db : Database). db.trees) opens.0.clean ∙ (was.found clean).holds held.trees held.database in
       let lists = (opens.1 opens.0.is_open).0.lists in
       let schema = lists_once _ _ _ (subst (λ (db : Trees). Lists (db catalog_tree) (file_state it).now.schema) trees lists) held.schema in
-      let is : IsHeldAs (form_of held.number) None (file_state it) = record {
+      let is : IsOpenArchiveInFormat (format_of_version held.number) None (file_state it) = record {
         is_open = opens.0.is_open;
         autocommit = opens.0.autocommit;
         settled = sym opens.0.clean;
         schema = schema;
-        tables = subst (AreTablesOf held.number) (sym trees) held.tables;
+        tables = subst (AreTablesOfVersion held.number) (sym trees) held.tables;
         whole = tt;
       } in
       let brought = was.adopted.brought returned held.number held.known is in
-      (brought.0, brought.1 ∙ ap (archive_by held.number) trees ∙ held.stand_for)
+      (brought.0, brought.1 ∙ ap (archive_of_version held.number) trees ∙ held.rows_stand_for_archive)
 
-  pub was_held : {A : Type 0} (start : Option A) (archive : Archive) (store : Store (FileStore D g)) → Until start (HoldsRows image archive)
-      → (start ≡ None → ⊥) → WasTakenOver image store → Remembers over_files store archive
-  was_held None archive store held some was = absurd (some refl)
-  was_held (Some s) archive store held some was = remembers store archive was held
+  pub opened_store_holds_if_some : {A : Type 0} (start : Option A) (archive : Archive) (store : Store (FileStore D g)) → HoldsIfSome start (ImageHoldsArchive image archive)
+      → (start ≡ None → ⊥) → IsOpenedFromImage image store → StoreHoldsArchive over_files store archive
+  opened_store_holds_if_some None archive store held some was = absurd (some refl)
+  opened_store_holds_if_some (Some s) archive store held some was = opened_store_holds_archive store archive was held
 
 -- once it is used up, nothing is said
-pub still_said : {A : Type 0} (now before : Option A) (Says : Type 0) → now ≡ before → before ≡ None → Until now Says
-still_said None before Says same used = tt
-still_said (Some s) before Says same used = cc
+pub holds_if_some_of_none : {A : Type 0} (now before : Option A) (Says : Type 0) → now ≡ before → before ≡ None → HoldsIfSome now Says
+holds_if_some_of_none None before Says same used = tt
+holds_if_some_of_none (Some s) before Says same used = cc

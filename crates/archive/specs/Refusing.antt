@@ -16,57 +16,57 @@ use Rattle.sqlite.specs.Start.{FindsIn}
 use Rattle.sqlite.specs.State.{HasCleanDisk}
 use Rattle.sqlite.specs.declared.error.Error.{Error}
 use Rattle.sqlite.specs.declared.file.Leftover.{Leftover}
-use Rattle.archive_store.specs.Adopting.{IsLeft}
-use Rattle.archive_store.specs.Replies.{fault_of}
+use Rattle.archive_store.specs.Adopting.{IsNotAdopted}
+use Rattle.archive_store.specs.Replies.{store_fault_of_error}
 use Rattle.archive_store.specs.declared.adopting.AdoptStop.{AdoptStop}
 use Rattle.archive_port.specs.declared.faults.StoreFault.{StoreFault}
 use Rattle.archive_port.specs.declared.faults.StoreFault.TheVariants.{Memory, Store}
 
 -- the names that stand for a database in memory, or for a URI
-abbrev pub is_in_memory : List ℕ → Bool
-is_in_memory name = bytes_eq name (codes ":memory:") || starts_with nat_eq name (codes "file:")
+abbrev pub is_memory_or_uri_name : List ℕ → Bool
+is_memory_or_uri_name name = bytes_eq name (codes ":memory:") || starts_with nat_eq name (codes "file:")
 
 -- E14 exactly if a system's fault is want of memory, else E15
-abbrev pub kind_fault : ErrorKind → StoreFault
-kind_fault OutOfMemory = Memory
-kind_fault _ = Store
+abbrev pub store_fault_of_kind : ErrorKind → StoreFault
+store_fault_of_kind OutOfMemory = Memory
+store_fault_of_kind _ = Store
 
 -- E14 exactly if files were not opened for want of memory, else E15: they are in use, or another program has to play a journal back
-abbrev pub open_fault : OpenError → StoreFault
-open_fault opening.OutOfMemory = Memory
-open_fault (opening.Io cause) = kind_fault (error_kind cause)
-open_fault opening.Busy = Store
-open_fault opening.HotJournal = Store
+abbrev pub store_fault_of_open_error : OpenError → StoreFault
+store_fault_of_open_error opening.OutOfMemory = Memory
+store_fault_of_open_error (opening.Io cause) = store_fault_of_kind (error_kind cause)
+store_fault_of_open_error opening.Busy = Store
+store_fault_of_open_error opening.HotJournal = Store
 
 -- what a system gave, and the name of a database whose files held this
 module _ {R D : Type 0} (g : Ghosts D) (seeds : R → Bool → Type 0) (opens : R → List ℕ → Option OpenError → Type 0) (system : R) (name : List ℕ)
     (image : Image) where
   -- The files were opened, and no connection came of them, by what the database says of files that it does not open.
-  pub record IsUnread (fault : StoreFault) : Type 0 where
+  pub record FailsToReadFiles (fault : StoreFault) : Type 0 where
     pub named : opens system name None
     pub files : Files D
     pub held : image_of g files ≡ image
     pub left : Leftover D g
     pub error : Error
     pub cause : IsCleanLeft left → FailsToOpenFiles files left error
-    pub told : fault ≡ fault_of error
+    pub told : fault ≡ store_fault_of_error error
 
   -- No connection: E15 if the name stands for no file, or the system gave no random bytes; or the files were not opened, or not read.
-  abbrev pub IsUnconnected : StoreFault → Type 0
-  IsUnconnected fault =
-      (IsTrue (is_in_memory name) × (fault ≡ Store))
-      ⊎ ((seeds system false × (fault ≡ Store)) ⊎ (((error : OpenError) × opens system name (Some error) × (fault ≡ open_fault error)) ⊎ IsUnread fault))
+  abbrev pub FailsToConnect : StoreFault → Type 0
+  FailsToConnect fault =
+      (IsTrue (is_memory_or_uri_name name) × (fault ≡ Store))
+      ⊎ ((seeds system false × (fault ≡ Store)) ⊎ (((error : OpenError) × opens system name (Some error) × (fault ≡ store_fault_of_open_error error)) ⊎ FailsToReadFiles fault))
 
   -- A connection found what the files held, and the store did not take it over, for this fault.
-  pub record IsUntaken (fault : StoreFault) : Type 0 where
+  pub record FailsToAdopt (fault : StoreFault) : Type 0 where
     pub named : opens system name None
     pub connection : Held (FileStore D g)
     pub found : HasCleanDisk (file_state connection) → FindsIn image (file_state connection)
     pub opened : HasCleanDisk (file_state connection) → IsOpened connection
     pub stop : AdoptStop (FileStore D g)
-    pub left : IsLeft over_files connection stop
+    pub left : IsNotAdopted over_files connection stop
     pub told : fault ≡ stop.fault
 
   -- no archive: there is no connection, or the store did not take it over
-  abbrev pub IsUnopened : StoreFault → Type 0
-  IsUnopened fault = IsUnconnected fault ⊎ IsUntaken fault
+  abbrev pub FailsToOpenStore : StoreFault → Type 0
+  FailsToOpenStore fault = FailsToConnect fault ⊎ FailsToAdopt fault

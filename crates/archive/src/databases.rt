@@ -4,12 +4,12 @@ ghost use Rattle.sqlite_wal.specs.Files.{image_at};
 ghost use Rattle.sqlite.specs.Files.{file_state, IsOpened};
 ghost use Rattle.sqlite.specs.Start.{FindsIn};
 ghost use Rattle.sqlite.specs.State.{HasCleanDisk};
-ghost use Rattle.archive_port.specs.Replies.{refusal};
-ghost use Rattle.archive.specs.Opening.{WasTakenOver};
-ghost use Rattle.archive.specs.Closing.{FailedToClose, IsLeftBy};
-ghost use Rattle.archive.specs.Refusing.{is_in_memory, open_fault, IsUnconnected, IsUnopened};
+ghost use Rattle.archive_port.specs.Replies.{refusal_of_fault};
+ghost use Rattle.archive.specs.Opening.{IsOpenedFromImage};
+ghost use Rattle.archive.specs.Closing.{FailedToClose, FilesHoldCommitted};
+ghost use Rattle.archive.specs.Refusing.{is_memory_or_uri_name, store_fault_of_open_error, FailsToConnect, FailsToOpenStore};
 
-use crate::system::HasPairs;
+use crate::system::HasDatabaseFiles;
 use archive_run::Databases;
 use archive_store::{Store, StoreFault, database_fault};
 use sqlite::{Connection, Error, FileFrom, FileStore, Files, Options, Start};
@@ -20,7 +20,7 @@ use std::hash::BuildHasher;
 use std::io::ErrorKind;
 
 /// How the file of this name is read and written. E15: the system gave no random bytes.
-fn options<R: HasPairs>(rt: &R, name: &str) -> Result<Options, StoreFault>
+fn options<R: HasDatabaseFiles>(rt: &R, name: &str) -> Result<Options, StoreFault>
     ensures kept { IfOk result (λ options. R.keeps rt.now name.now options.cache_pages) }
     ensures fault { IfErr result (λ fault. (fault ≡ StoreFault.Store) × R.seeds rt.now false) }
 {
@@ -34,8 +34,8 @@ fn options<R: HasPairs>(rt: &R, name: &str) -> Result<Options, StoreFault>
 
 /// What a file that cannot be opened is called.
 fn fault_of(error: &OpenError) -> StoreFault
-    ensures called { result ≡ open_fault error.now }
-    ensures fault { refusal result ≡ None }
+    ensures called { result ≡ store_fault_of_open_error error.now }
+    ensures fault { refusal_of_fault result ≡ None }
 {
     match error {
         OpenError::OutOfMemory => StoreFault::Memory,
@@ -49,14 +49,14 @@ fn fault_of(error: &OpenError) -> StoreFault
 
 /// Whether a name stands for a database in memory, or for a URI.
 fn stands_for_memory(name: &str) -> bool
-    ensures { result ≡ is_in_memory name.now }
+    ensures { result ≡ is_memory_or_uri_name name.now }
 {
     name == ":memory:" || name.as_bytes().starts_with(b"file:")
 }
 
 /// A connection to the file of this name, which is made where it is not there, and which held what `start` stands for. No name stands
 /// for a database in memory.
-fn connect<R: HasPairs, S: Start>(
+fn connect<R: HasDatabaseFiles, S: Start>(
     alloc: Global,
     rt: &R,
     name: &str,
@@ -65,8 +65,8 @@ fn connect<R: HasPairs, S: Start>(
     ensures opened { IfOk result (λ c. HasCleanDisk (file_state c) → IsOpened c) }
     ensures found { IfOk result (λ c. HasCleanDisk (file_state c) → FindsIn (image_at S.Start) (file_state c)) }
     ensures named { IfOk result (λ _. R.opens rt.now name.now None) }
-    ensures fault { IfErr result (λ fault. refusal fault ≡ None) }
-    ensures cause { IfErr result (IsUnconnected ⟦<FileFrom<S> as Disk>⟧ R.seeds R.opens rt.now name.now (image_at S.Start)) }
+    ensures fault { IfErr result (λ fault. refusal_of_fault fault ≡ None) }
+    ensures cause { IfErr result (FailsToConnect ⟦<FileFrom<S> as Disk>⟧ R.seeds R.opens rt.now name.now (image_at S.Start)) }
 {
     if stands_for_memory(name) {
         return Err(StoreFault::Store);
@@ -86,16 +86,16 @@ fn connect<R: HasPairs, S: Start>(
 }
 
 /// The archive in the file of this name, which held what `start` stands for.
-fn take_over<R: HasPairs, S: Start>(
+fn take_over<R: HasDatabaseFiles, S: Start>(
     alloc: Global,
     rt: &R,
     name: &str,
     start: S,
 ) -> Result<Store<FileStore<FileFrom<S>>>, StoreFault>
-    ensures opened { IfOk result (λ store. WasTakenOver (image_at S.Start) store) }
+    ensures opened { IfOk result (λ store. IsOpenedFromImage (image_at S.Start) store) }
     ensures named { IfOk result (λ _. R.opens rt.now name.now None) }
-    ensures fault { IfErr result (λ fault. refusal fault ≡ None) }
-    ensures cause { IfErr result (IsUnopened ⟦<FileFrom<S> as Disk>⟧ R.seeds R.opens rt.now name.now (image_at S.Start)) }
+    ensures fault { IfErr result (λ fault. refusal_of_fault fault ≡ None) }
+    ensures cause { IfErr result (FailsToOpenStore ⟦<FileFrom<S> as Disk>⟧ R.seeds R.opens rt.now name.now (image_at S.Start)) }
 {
     let connection = match connect(alloc, rt, name, start) {
         Ok(connection) => connection,
@@ -114,7 +114,7 @@ fn take_over<R: HasPairs, S: Start>(
 /// Closes a store, and hands its files back: what is committed is in the database file. Where it cannot be copied there now, it stays in
 /// the log, and the error is handed back.
 fn close_store<D: Disk + Drop>(store: Store<FileStore<D>>) -> Result<Files<D>, Error>
-    ensures { MatchResult result (λ files. IsLeftBy store files) (λ error. FailedToClose store error) }
+    ensures { MatchResult result (λ files. FilesHoldCommitted store files) (λ error. FailedToClose store error) }
 {
     let connection = store.into_connection();
     // It says that an open connection is to a database.
@@ -137,26 +137,26 @@ pub struct SystemDatabases<'a, R, S: Start> {
     pub left: Option<Result<Files<FileFrom<S>>, Error>>,
 }
 
-impl<'a, R: HasPairs, S: Start> Databases<Store<FileStore<FileFrom<S>>>>
+impl<'a, R: HasDatabaseFiles, S: Start> Databases<Store<FileStore<FileFrom<S>>>>
     for SystemDatabases<'a, R, S> {
     ghost use Rattle.std.specs.Prelude.{◌≡◌, ◌⊎◌, None, IfErr, IfOk};
     ghost use Rattle.sqlite_wal.specs.Files.{image_at};
     ghost use Rattle.archive_port.specs.declared.faults.StoreFault.TheVariants.{Store as NoStore};
-    ghost use Rattle.archive.specs.Opening.{HoldsRows, Until, WasTakenOver};
-    ghost use Rattle.archive.specs.Closing.{IsClosedAs, StillHolds};
-    ghost use Rattle.archive.specs.Refusing.{IsUnopened};
+    ghost use Rattle.archive.specs.Opening.{ImageHoldsArchive, HoldsIfSome, IsOpenedFromImage};
+    ghost use Rattle.archive.specs.Closing.{IsCloseResultOf, CloseResultHoldsArchive};
+    ghost use Rattle.archive.specs.Refusing.{FailsToOpenStore};
 
     // What the file holds before it is opened, and once it was closed. While it is open, and behind a close that failed, nothing is said.
-    ghost holds = { λ it name archive. Until it.start (HoldsRows (image_at S.Start) archive) × StillHolds ⟦<FileFrom<S> as Disk>⟧ it.left archive };
+    ghost holds = { λ it name archive. HoldsIfSome it.start (ImageHoldsArchive (image_at S.Start) archive) × CloseResultHoldsArchive ⟦<FileFrom<S> as Disk>⟧ it.left archive };
 
     // It was not opened before, the system opened the files of this name, and the store comes of a connection that found what they held. Or
     // it is said why there is none.
     ghost opens = { λ old new name result. (old.start ≡ None → IfOk result (λ _. ⊥)) × (new.start ≡ None)
-        × IfOk result (λ store. WasTakenOver (image_at S.Start) store)
+        × IfOk result (λ store. IsOpenedFromImage (image_at S.Start) store)
         × IfOk result (λ _. R.opens old.rt.now name None)
-        × IfErr result (λ fault. ((old.start ≡ None) × (fault ≡ NoStore)) ⊎ IsUnopened ⟦<FileFrom<S> as Disk>⟧ R.seeds R.opens old.rt.now name (image_at S.Start) fault) };
+        × IfErr result (λ fault. ((old.start ≡ None) × (fault ≡ NoStore)) ⊎ FailsToOpenStore ⟦<FileFrom<S> as Disk>⟧ R.seeds R.opens old.rt.now name (image_at S.Start) fault) };
 
-    ghost closes = { λ old new store. (new.start ≡ old.start) × IsClosedAs new.left store };
+    ghost closes = { λ old new store. (new.start ≡ old.start) × IsCloseResultOf new.left store };
 
     fn open(
         &mut self,

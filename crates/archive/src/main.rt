@@ -3,8 +3,8 @@
 
 ghost use Rattle.std.specs.Prelude.{map, string_bytes};
 ghost use Rattle.std.specs.Process.{exit_status};
-ghost use Rattle.archive_run.specs.World.{devices};
-ghost use Rattle.archive.specs.Program.{IsProgram, RunsWhole};
+ghost use Rattle.archive_run.specs.Environments.{devices};
+ghost use Rattle.archive.specs.Program.{RunsArchiveProgram, RunsArchiveOnArgs};
 
 mod databases;
 mod machine;
@@ -12,25 +12,25 @@ mod pages;
 mod system;
 mod threaders;
 
-use archive_listen::{Gathered, Outgoing};
-use archive_run::{System, World, run};
-use archive_words::OrderStop;
-use machine::make_world;
+use archive_args::OrderStop;
+use archive_listen::{BufferedSink, WriteBuffer};
+use archive_run::{Environment, Platform, run};
+use machine::make_environment;
 use mbox_core::device::Counted;
-use sift_run::{HasWords, OUTPUT_ROOM, borrowed, command_words, say_stop};
+use sift_run::{HasArguments, OUTPUT_ROOM, borrowed, command_words, report_parse_error};
 use sqlite::{Start, Unknown};
 use std::alloc::{AllocGlobal, Global};
 use std::io;
 use std::process::ExitCode;
 
 /// Carries out what these words order. What an order that is refused left in the output is passed on here.
-fn run_words<Y: System>(alloc: Global, world: &mut World<Y>, words: &[String]) -> u8
-    ensures { RunsWhole (devices Y.Storage.Store Y.Files.ReadFiles Y.Files.OpenFiles Y.Files.Input.Source Y.Databases.Databases Y.Clock.DayClock
-        Y.Ports.listens Y.Ports.Listener.accepts Y.Ports.Listener.closes Y.Ports.Listener.over Y.Ports.went Y.Threaders.makes Y.Input.Source Y.Output.Sink Y.Output.Outgoing.own Y.Faults.Sink)
+fn run_words<Y: Platform>(alloc: Global, world: &mut Environment<Y>, words: &[String]) -> u8
+    ensures { RunsArchiveOnArgs (devices Y.Storage.Store Y.Files.ReadFiles Y.Files.StreamedFiles Y.Files.Input.Source Y.Databases.Databases Y.Clock.DayClock
+        Y.Ports.listens Y.Ports.Listener.accepts Y.Ports.Listener.closes Y.Ports.Listener.over Y.Ports.went Y.Threaders.makes Y.Input.Source Y.Output.Sink Y.Output.BufferedSink.own Y.Faults.Sink)
         world.old (map string_bytes words.now) world.new result }
 {
     let Ok(words) = borrowed(alloc, words) else {
-        return say_stop(&mut world.output, &mut world.faults, &OrderStop::Memory);
+        return report_parse_error(&mut world.output, &mut world.faults, &OrderStop::Memory);
     };
     let status = run(alloc, world, words.as_slice());
     let _ = world.output.flush();
@@ -38,21 +38,24 @@ fn run_words<Y: System>(alloc: Global, world: &mut World<Y>, words: &[String]) -
 }
 
 /// Carries out what the command line orders.
-fn run_line<R: HasWords + AllocGlobal, Y: System>(rt: &R, world: &mut World<Y>) -> u8
-    ensures { IsProgram (devices Y.Storage.Store Y.Files.ReadFiles Y.Files.OpenFiles Y.Files.Input.Source Y.Databases.Databases Y.Clock.DayClock
-        Y.Ports.listens Y.Ports.Listener.accepts Y.Ports.Listener.closes Y.Ports.Listener.over Y.Ports.went Y.Threaders.makes Y.Input.Source Y.Output.Sink Y.Output.Outgoing.own Y.Faults.Sink)
+fn run_line<R: HasArguments + AllocGlobal, Y: Platform>(rt: &R, world: &mut Environment<Y>) -> u8
+    ensures { RunsArchiveProgram (devices Y.Storage.Store Y.Files.ReadFiles Y.Files.StreamedFiles Y.Files.Input.Source Y.Databases.Databases Y.Clock.DayClock
+        Y.Ports.listens Y.Ports.Listener.accepts Y.Ports.Listener.closes Y.Ports.Listener.over Y.Ports.went Y.Threaders.makes Y.Input.Source Y.Output.Sink Y.Output.BufferedSink.own Y.Faults.Sink)
         world.old R.gave rt.now world.new result }
 {
     match command_words(rt) {
         Ok(words) => run_words(rt.alloc(), world, words.as_slice()),
-        Err(stop) => say_stop(&mut world.output, &mut world.faults, &stop),
+        Err(stop) => report_parse_error(&mut world.output, &mut world.faults, &stop),
     }
 }
 
 /// Carries out what the command line orders, over these devices, and ends with its status.
-fn carry_out<R: HasWords + AllocGlobal, Y: System>(rt: &R, world: &mut World<Y>) -> ExitCode
-    ensures { IsProgram (devices Y.Storage.Store Y.Files.ReadFiles Y.Files.OpenFiles Y.Files.Input.Source Y.Databases.Databases Y.Clock.DayClock
-        Y.Ports.listens Y.Ports.Listener.accepts Y.Ports.Listener.closes Y.Ports.Listener.over Y.Ports.went Y.Threaders.makes Y.Input.Source Y.Output.Sink Y.Output.Outgoing.own Y.Faults.Sink)
+fn carry_out<R: HasArguments + AllocGlobal, Y: Platform>(
+    rt: &R,
+    world: &mut Environment<Y>,
+) -> ExitCode
+    ensures { RunsArchiveProgram (devices Y.Storage.Store Y.Files.ReadFiles Y.Files.StreamedFiles Y.Files.Input.Source Y.Databases.Databases Y.Clock.DayClock
+        Y.Ports.listens Y.Ports.Listener.accepts Y.Ports.Listener.closes Y.Ports.Listener.over Y.Ports.went Y.Threaders.makes Y.Input.Source Y.Output.Sink Y.Output.BufferedSink.own Y.Faults.Sink)
         world.old R.gave rt.now world.new (exit_status result) }
 {
     ExitCode::from(run_line(rt, world))
@@ -60,9 +63,9 @@ fn carry_out<R: HasWords + AllocGlobal, Y: System>(rt: &R, world: &mut World<Y>)
 
 /// Makes the devices of the system, over the standard streams. `start` stands for what the file of the database holds before it is opened.
 fn run_from<S: Start>(rt: &HostRuntime, start: S) -> ExitCode {
-    let output: Gathered<_, OUTPUT_ROOM> = Gathered::new(Counted::new(io::writer(rt)));
+    let output: WriteBuffer<_, OUTPUT_ROOM> = WriteBuffer::new(Counted::new(io::writer(rt)));
     let faults = Counted::new(rt.stderr());
-    let mut world = make_world(rt, start, Counted::new(rt.reader()), output, faults);
+    let mut world = make_environment(rt, start, Counted::new(rt.reader()), output, faults);
     carry_out(rt, &mut world)
 }
 

@@ -18,7 +18,7 @@ pub trait HasRandom {
 }
 
 /// A system that has files of databases.
-pub trait HasPairs: HasRandom {
+pub trait HasDatabaseFiles: HasRandom {
     ghost use Rattle.std.specs.Prelude.{ℕ, true, false, List, Option, Some, None, IsTrue, IfOk, MatchResult, ⊤};
     ghost use Rattle.sqlite_std_file.specs.File.{file_is_usable, IsFresh};
     ghost use Rattle.sqlite_std_file.specs.declared.pair.OpenError.{OpenError};
@@ -47,7 +47,7 @@ impl HasRandom for HostRuntime {
     }
 }
 
-impl HasPairs for HostRuntime {
+impl HasDatabaseFiles for HostRuntime {
     fn pages_for(&self, name: &str) -> usize {
         pages_to_keep(self, name)
     }

@@ -5,36 +5,38 @@ use Rattle.sqlite_disk.specs.Disk.{MoreFaults}
 use Rattle.sqlite.specs.declared.error.Error.{Error}
 use Rattle.sqlite.specs.Effect.{Database}
 use Rattle.sqlite.specs.State.{State}
-use Rattle.archive_tables.specs.Calls.{Lasts, IsCaused}
-use Rattle.archive_database.specs.Faults.{fault_of, FailsByDiskOr}
-use Rattle.archive_database.specs.declared.faults.Fault.{Fault}
-use Rattle.archive_database.specs.declared.faults.Fault.TheVariants as faults
+use Rattle.archive_tables.specs.Calls.{KeepsConnectionUnlessDiskFails, IsMemoryOrDiskError}
+use Rattle.archive_database.specs.Faults.{database_error_of, FailsByDiskOr}
+use Rattle.archive_database.specs.declared.faults.DatabaseError.{DatabaseError}
+use Rattle.archive_database.specs.declared.faults.DatabaseError.TheVariants as faults
 
 -- ---- between other calls
 
-more_between : (a b c d : State) → Lasts a b → Lasts c d → MoreFaults b.faults c.faults → MoreFaults a.faults d.faults
+more_between : (a b c d : State) → KeepsConnectionUnlessDiskFails a b → KeepsConnectionUnlessDiskFails c d → MoreFaults b.faults c.faults → MoreFaults a.faults d.faults
 more_between a b c d before after more = omega (arith, more, before.shut.faults, after.shut.faults)
 
-pub caused_since : (a b c : State) (e : Error) → Lasts a b → IsCaused b c e → IsCaused a c e
+pub caused_since : (a b c : State) (e : Error) → KeepsConnectionUnlessDiskFails a b → IsMemoryOrDiskError b c e → IsMemoryOrDiskError a c e
 caused_since a b c e before (inl none) = inl none
 caused_since a b c e before (inr more) = inr (omega (arith, more, before.shut.faults))
 
-pub caused_between : (a b c d : State) (e : Error) → Lasts a b → Lasts c d → IsCaused b c e → IsCaused a d e
+pub caused_between : (a b c d : State) (e : Error) → KeepsConnectionUnlessDiskFails a b → KeepsConnectionUnlessDiskFails c d → IsMemoryOrDiskError b c e → IsMemoryOrDiskError a d e
 caused_between a b c d e before after (inl none) = inl none
 caused_between a b c d e before after (inr more) = inr (more_between a b c d before after more)
 
 -- ---- what is answered
 
-pub by_cause : (old new : State) (e : Error) (f : Fault) (Refused : Type 0) → f ≡ fault_of e → IsCaused old new e ⊎ Refused → f ≡ faults.Database → MoreFaults old.faults new.faults ⊎ Refused
-by_cause old new e f R is (inl (inl none)) it = absurd (let bad : faults.Memory ≡ faults.Database = sym (ap fault_of none) ∙ sym is ∙ it in cc)
+pub by_cause : (old new : State) (e : Error) (f : DatabaseError) (Refused : Type 0) → f ≡ database_error_of e → IsMemoryOrDiskError old new e ⊎ Refused → f ≡ faults.Database
+    → MoreFaults old.faults new.faults ⊎ Refused
+by_cause old new e f R is (inl (inl none)) it = absurd (let bad : faults.Memory ≡ faults.Database = sym (ap database_error_of none) ∙ sym is ∙ it in cc)
 by_cause old new e f R is (inl (inr more)) it = inl more
 by_cause old new e f R is (inr refused) it = inr refused
 
-pub fails_by : {A : Type 0} (old new : State) (r : Result A Fault) (e : Error) (Refused : Type 0) → IsErrAnd r (λ f. f ≡ fault_of e) → IsCaused old new e ⊎ Refused → FailsByDiskOr old new r Refused
+pub fails_by : {A : Type 0} (old new : State) (r : Result A DatabaseError) (e : Error) (Refused : Type 0) → IsErrAnd r (λ f. f ≡ database_error_of e) → IsMemoryOrDiskError old new e
+    ⊎ Refused → FailsByDiskOr old new r Refused
 fails_by old new (Ok a) e R is why = tt
 fails_by old new (Err f) e R is why = by_cause old new e f R is why
 
-pub fails_for_want : {A : Type 0} (old new : State) (r : Result A Fault) (Refused : Type 0) → IsErrAnd r (λ f. f ≡ faults.Memory) → FailsByDiskOr old new r Refused
+pub fails_for_want : {A : Type 0} (old new : State) (r : Result A DatabaseError) (Refused : Type 0) → IsErrAnd r (λ f. f ≡ faults.Memory) → FailsByDiskOr old new r Refused
 fails_for_want old new (Ok a) R is = tt
 fails_for_want old new (Err f) R is = λ it. absurd (let bad : faults.Memory ≡ faults.Database = sym is ∙ it in cc)
 

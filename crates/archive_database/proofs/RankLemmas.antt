@@ -3,11 +3,11 @@ use Rattle.std.proofs.Common.{◌≡◌, ℕ, zero, suc, ◌≤◌, ◌-◌, len
 use Rattle.std.specs.Prelude.{IfOk, IfErr, int_le, map}
 use Rattle.std.specs.Int.{int_max}
 use Rattle.sqlite.specs.Order.{Row}
-use Rattle.archive_machine.specs.Records.{Grant}
-use Rattle.archive_machine.specs.Questions.{holds_on}
-use Rattle.archive_tables.specs.Rows.{grant_shown, grant_in}
+use Rattle.archive_model.specs.Records.{Grant}
+use Rattle.archive_model.specs.Questions.{grant_holds_on}
+use Rattle.archive_tables.specs.Rows.{grant_result_row, grant_from_result_row}
 use Rattle.archive_tables.specs.declared.rows.GrantRow.{GrantRow}
-use Rattle.archive_database.specs.Ranks.{rank_on, higher_on}
+use Rattle.archive_database.specs.Ranks.{highest_rank_on, highest_rank_with_grant}
 
 none_is : (row : Row) (rest : List Row) → row ∷ rest ≡ [] → ⊥
 none_is row rest e = cc
@@ -19,32 +19,32 @@ tail_is : (r s : Row) (rs ss : List Row) → r ∷ rs ≡ s ∷ ss → rs ≡ ss
 tail_is r s rs ss e = cc
 
 -- what was read of a grant
-pub read_days : (day : ℤ) (r : GrantRow) (g : Grant) → grant_in g.person g.list r ≡ g → (int_le r.from_day day && int_le day r.until_day) ≡ holds_on day g
-read_days day r g e = ap (holds_on day) e
+pub read_days : (day : ℤ) (r : GrantRow) (g : Grant) → grant_from_result_row g.person g.list r ≡ g → (int_le r.from_day day && int_le day r.until_day) ≡ grant_holds_on day g
+read_days day r g e = ap (grant_holds_on day) e
 
-pub when_it_holds : (day above : ℤ) (r : GrantRow) (g : Grant) → grant_in g.person g.list r ≡ g
-    → true ≡ (int_le r.from_day day && int_le day r.until_day) → int_max r.rank above ≡ higher_on day g above
+pub when_it_holds : (day above : ℤ) (r : GrantRow) (g : Grant) → grant_from_result_row g.person g.list r ≡ g
+    → true ≡ (int_le r.from_day day && int_le day r.until_day) → int_max r.rank above ≡ highest_rank_with_grant day g above
 when_it_holds day above r g e holds = ap (λ n. int_max n above) (ap (λ g. g.rank) e) ∙ rw (sym (read_days day r g e), sym holds) refl
 
-pub when_it_does_not : (day above : ℤ) (r : GrantRow) (g : Grant) → grant_in g.person g.list r ≡ g
-    → false ≡ (int_le r.from_day day && int_le day r.until_day) → above ≡ higher_on day g above
+pub when_it_does_not : (day above : ℤ) (r : GrantRow) (g : Grant) → grant_from_result_row g.person g.list r ≡ g
+    → false ≡ (int_le r.from_day day && int_le day r.until_day) → above ≡ highest_rank_with_grant day g above
 when_it_does_not day above r g e holds = rw (sym (read_days day r g e), sym holds) refl
 
-with_first : (b : Bool) (day : ℤ) (g : Grant) (gs : List Grant) → holds_on day g ≡ b → rank_on day (g ∷ gs) ≡ higher_on day g (rank_on day gs)
+with_first : (b : Bool) (day : ℤ) (g : Grant) (gs : List Grant) → grant_holds_on day g ≡ b → highest_rank_on day (g ∷ gs) ≡ highest_rank_with_grant day g (highest_rank_on day gs)
 with_first true day g gs e = rw e refl
 with_first false day g gs e = rw e refl
 
 -- a row more
 pub one_more : (day above rank : ℤ) (rows : List Row) (row : Row) (rest : List Row) → rows ≡ row ∷ rest
-    → ((gs : List Grant) → rest ≡ map grant_shown gs → above ≡ rank_on day gs)
-    → ((g : Grant) → row ≡ grant_shown g → rank ≡ higher_on day g above)
-    → (shown : List Grant) → rows ≡ map grant_shown shown → rank ≡ rank_on day shown
+    → ((gs : List Grant) → rest ≡ map grant_result_row gs → above ≡ highest_rank_on day gs)
+    → ((g : Grant) → row ≡ grant_result_row g → rank ≡ highest_rank_with_grant day g above)
+    → (shown : List Grant) → rows ≡ map grant_result_row shown → rank ≡ highest_rank_on day shown
 one_more day above rank rows row rest e later first [] is = absurd (none_is row rest (sym e ∙ is))
 one_more day above rank rows row rest e later first (g ∷ gs) is =
-    let both : row ∷ rest ≡ grant_shown g ∷ map grant_shown gs = sym e ∙ is in
-    first g (head_is row (grant_shown g) rest (map grant_shown gs) both)
-    ∙ ap (higher_on day g) (later gs (tail_is row (grant_shown g) rest (map grant_shown gs) both))
-    ∙ sym (with_first (holds_on day g) day g gs refl)
+    let both : row ∷ rest ≡ grant_result_row g ∷ map grant_result_row gs = sym e ∙ is in
+    first g (head_is row (grant_result_row g) rest (map grant_result_row gs) both)
+    ∙ ap (highest_rank_with_grant day g) (later gs (tail_is row (grant_result_row g) rest (map grant_result_row gs) both))
+    ∙ sym (with_first (grant_holds_on day g) day g gs refl)
 
 take_all : (xs : List Row) (n : ℕ) → n ≡ length xs → take n xs ≡ xs
 take_all [] n e = rw e refl
@@ -67,12 +67,12 @@ if_err (Ok a) P Q f p = tt
 if_err (Err e) P Q f p = f e p
 
 -- what is so of the first row that shows a grant, or of the others
-pub fault_first : {X : Type 0} (rows : List Row) (row : Row) (rest : List Row) → rows ≡ row ∷ rest → ((g : Grant) → row ≡ grant_shown g → X)
-    → (shown : List Grant) → rows ≡ map grant_shown shown → X
+pub fault_first : {X : Type 0} (rows : List Row) (row : Row) (rest : List Row) → rows ≡ row ∷ rest → ((g : Grant) → row ≡ grant_result_row g → X)
+    → (shown : List Grant) → rows ≡ map grant_result_row shown → X
 fault_first rows row rest e first [] is = absurd (none_is row rest (sym e ∙ is))
-fault_first rows row rest e first (g ∷ gs) is = first g (head_is row (grant_shown g) rest (map grant_shown gs) (sym e ∙ is))
+fault_first rows row rest e first (g ∷ gs) is = first g (head_is row (grant_result_row g) rest (map grant_result_row gs) (sym e ∙ is))
 
-pub fault_later : {X : Type 0} (rows : List Row) (row : Row) (rest : List Row) → rows ≡ row ∷ rest → ((gs : List Grant) → rest ≡ map grant_shown gs → X)
-    → (shown : List Grant) → rows ≡ map grant_shown shown → X
+pub fault_later : {X : Type 0} (rows : List Row) (row : Row) (rest : List Row) → rows ≡ row ∷ rest → ((gs : List Grant) → rest ≡ map grant_result_row gs → X)
+    → (shown : List Grant) → rows ≡ map grant_result_row shown → X
 fault_later rows row rest e later [] is = absurd (none_is row rest (sym e ∙ is))
-fault_later rows row rest e later (g ∷ gs) is = later gs (tail_is row (grant_shown g) rest (map grant_shown gs) (sym e ∙ is))
+fault_later rows row rest e later (g ∷ gs) is = later gs (tail_is row (grant_result_row g) rest (map grant_result_row gs) (sym e ∙ is))

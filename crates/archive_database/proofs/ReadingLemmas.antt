@@ -6,10 +6,10 @@ use Rattle.std.proofs.lemmas.List.{drop_more, drop_all}
 use Rattle.std.proofs.lemmas.List.Elements.{All-nil, All-cons, All-head, All-tail}
 use Rattle.sqlite.specs.Order.{Row}
 use Rattle.sqlite.specs.declared.error.Error.{Error}
-use Rattle.archive_tables.specs.Rows.{no_memory, IsTextFault}
-use Rattle.archive_database.specs.Faults.{fault_of}
-use Rattle.archive_database.specs.declared.faults.Fault.{Fault}
-use Rattle.archive_database.specs.declared.faults.Fault.TheVariants as fault
+use Rattle.archive_tables.specs.Rows.{out_of_memory_error, IsTextReadError}
+use Rattle.archive_database.specs.Faults.{database_error_of}
+use Rattle.archive_database.specs.declared.faults.DatabaseError.{DatabaseError}
+use Rattle.archive_database.specs.declared.faults.DatabaseError.TheVariants as fault
 
 -- These records were read and these rows are left, and together they are all records that the rows show. P holds of each
 -- that is left.
@@ -80,15 +80,17 @@ shown_at shows P (x ∷ xs) (r ∷ rows) (suc i) d is within =
 
 -- ---- the exit of a `?`
 
-pub unread_by : {A : Type 0} (r : Result A Fault) (e : Error) (X : Type 0) → IsErrAnd r (λ f. f ≡ fault_of e) → (fault_of e ≡ fault.Database → X) → IfErr r (λ f. f ≡ fault.Database → X)
+pub unread_by : {A : Type 0} (r : Result A DatabaseError) (e : Error) (X : Type 0) → IsErrAnd r (λ f. f ≡ database_error_of e) → (database_error_of e ≡ fault.Database → X)
+    → IfErr r (λ f. f ≡ fault.Database → X)
 unread_by (Ok a) e X is why = tt
 unread_by (Err f) e X is why = λ it. why (sym is ∙ it)
 
-pub wanted : {A P : Type 0} (r : Result A Fault) (e : Error) (X : P → Type 0) → IsErrAnd r (λ f. f ≡ fault_of e) → ((p : P) → X p → e ≡ no_memory) → IfErr r (λ f. (p : P) → X p → f ≡ fault.Memory)
+pub wanted : {A P : Type 0} (r : Result A DatabaseError) (e : Error) (X : P → Type 0) → IsErrAnd r (λ f. f ≡ database_error_of e) → ((p : P) → X p → e ≡ out_of_memory_error)
+    → IfErr r (λ f. (p : P) → X p → f ≡ fault.Memory)
 wanted (Ok a) e X is why = tt
-wanted (Err f) e X is why = λ p x. is ∙ ap fault_of (why p x)
+wanted (Err f) e X is why = λ p x. is ∙ ap database_error_of (why p x)
 
 -- a text that is UTF-8 is read
-pub no_good_text : (text : List ℕ) (e : Error) → IsUtf8 text → IsTextFault text e → fault_of e ≡ fault.Database → ⊥
-no_good_text text e good (inl none) it = absurd (let bad : fault.Memory ≡ fault.Database = sym (ap fault_of none) ∙ it in cc)
+pub no_good_text : (text : List ℕ) (e : Error) → IsUtf8 text → IsTextReadError text e → database_error_of e ≡ fault.Database → ⊥
+no_good_text text e good (inl none) it = absurd (let bad : fault.Memory ≡ fault.Database = sym (ap database_error_of none) ∙ it in cc)
 no_good_text text e good (inr bad) it = bad.0 good

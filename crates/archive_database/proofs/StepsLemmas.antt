@@ -11,15 +11,15 @@ use Rattle.sqlite.specs.Schema.{Schema}
 use Rattle.sqlite.specs.Store.{Ghosts}
 use Rattle.sqlite.specs.Held.{Held, state}
 use Rattle.sqlite.specs.State.{State, HasCleanDisk}
-use Rattle.archive_tables.specs.Calls.{Lasts, IsCaused}
-use Rattle.archive_tables.specs.Statements.{Statement, IsRefusedInTurn, AreCarriedOut, option_statements}
+use Rattle.archive_tables.specs.Calls.{KeepsConnectionUnlessDiskFails, IsMemoryOrDiskError}
+use Rattle.archive_tables.specs.Statements.{Statement, IsAnyStatementRefused, StatementsExecuteTo, option_migration_statements}
 use Rattle.archive_tables.specs.Making.{EndsStep, EndsSteps, EndsCommit}
 use Rattle.archive_tables.proofs.CauseLemmas.{carried, answers_none}
 use Rattle.archive_tables.proofs.LastLemmas.{lasts_then, lasts_same}
 use Rattle.archive_tables.proofs.TurnLemmas.{carried_then, turn_first, turn_then, in_turn, one_carried}
-use Rattle.archive_database.specs.Faults.{fault_of, FailsByDiskOr}
-use Rattle.archive_database.specs.declared.faults.Fault.{Fault}
-use Rattle.archive_database.specs.declared.faults.Fault.TheVariants as faults
+use Rattle.archive_database.specs.Faults.{database_error_of, FailsByDiskOr}
+use Rattle.archive_database.specs.declared.faults.DatabaseError.{DatabaseError}
+use Rattle.archive_database.specs.declared.faults.DatabaseError.TheVariants as faults
 
 -- ---- a result that is passed on
 
@@ -89,7 +89,7 @@ module _ {S : Type 0} {g : Ghosts S} where
 
 -- ---- the tables of version 2 stay as they are
 
-pub no_option : (number : ℕ) → ¬ (number ≡ 1) → option_statements number ≡ []
+pub no_option : (number : ℕ) → ¬ (number ≡ 1) → option_migration_statements number ≡ []
 no_option number other = elim (eqb_tells number 1) [ inl it ↦ absurd (other it.1) | inr it ↦ rw it.0 refl ]
 
 pub same_ends : {S A : Type 0} (g : Ghosts S) (old : Held S) (a : A) (Holds : State → Tables → Type 0) (statements : List Statement) → statements ≡ []
@@ -97,29 +97,32 @@ pub same_ends : {S A : Type 0} (g : Ghosts S) (old : Held S) (a : A) (Holds : St
 same_ends g old a Holds statements none = record {
   lasts = lasts_same (state g old);
   caused = λ clean before held free. tt;
-  carried = λ clean before held free. subst (λ l. AreCarriedOut l (state g old).now (state g old).now) (sym none) refl;
+  carried = λ clean before held free. subst (λ l. StatementsExecuteTo l (state g old).now (state g old).now) (sym none) refl;
 }
 
 -- ---- as a fault of the database
 
 -- where the rows refuse what comes in between
-pub blames : {A : Type 0} (old mid1 mid2 new : State) (r : Result A Fault) (e : Error) (Earlier Later : Type 0) → IsErrAnd r (λ f. f ≡ fault_of e) → Lasts old mid1 → Lasts mid2 new
-    → (Earlier → Later) → IsCaused mid1 mid2 e ⊎ Earlier → FailsByDiskOr old new r Later
+pub blames : {A : Type 0} (old mid1 mid2 new : State) (r : Result A DatabaseError) (e : Error) (Earlier Later : Type 0) → IsErrAnd r (λ f. f ≡ database_error_of e)
+    → KeepsConnectionUnlessDiskFails old mid1 → KeepsConnectionUnlessDiskFails mid2 new
+    → (Earlier → Later) → IsMemoryOrDiskError mid1 mid2 e ⊎ Earlier → FailsByDiskOr old new r Later
 blames old mid1 mid2 new (Ok a) e Earlier Later is before after on why = tt
-blames old mid1 mid2 new (Err f) e Earlier Later is before after on (inl (inl none)) = λ it. absurd (let bad : faults.Memory ≡ faults.Database = sym (ap fault_of none) ∙ sym is ∙ it in cc)
+blames old mid1 mid2 new (Err f) e Earlier Later is before after on (inl (inl none)) = λ it. absurd (let bad : faults.Memory ≡ faults.Database = sym (ap database_error_of none) ∙ sym is ∙ it in cc)
 blames old mid1 mid2 new (Err f) e Earlier Later is before after on (inl (inr more)) = λ it. inl (omega (arith, more, before.shut.faults, after.shut.faults))
 blames old mid1 mid2 new (Err f) e Earlier Later is before after on (inr refused) = λ it. inr (on refused)
 
-abbrev failed : Fault → Result (Unit {0}) Fault
+abbrev failed : DatabaseError → Result (Unit {0}) DatabaseError
 failed f = Err f
 
 -- the same of the fault itself
-pub blames_it : (old mid1 mid2 new : State) (e : Error) (Earlier Later : Type 0) → Lasts old mid1 → Lasts mid2 new → (Earlier → Later) → IsCaused mid1 mid2 e ⊎ Earlier → (f : Fault) → f ≡ fault_of e
+pub blames_it : (old mid1 mid2 new : State) (e : Error) (Earlier Later : Type 0) → KeepsConnectionUnlessDiskFails old mid1 → KeepsConnectionUnlessDiskFails mid2 new → (Earlier → Later)
+    → IsMemoryOrDiskError mid1 mid2 e ⊎ Earlier → (f : DatabaseError) → f ≡ database_error_of e
     → f ≡ faults.Database → MoreFaults old.faults new.faults ⊎ Later
 blames_it old mid1 mid2 new e Earlier Later before after on why f is = blames old mid1 mid2 new (failed f) e Earlier Later is before after on why
 
 -- a fault that is passed on
-pub passes : {A : Type 0} (old mid1 mid2 new : State) (r : Result A Fault) (f : Fault) (Earlier Later : Type 0) → IsErrAnd r (λ g. g ≡ f) → Lasts old mid1 → Lasts mid2 new
+pub passes : {A : Type 0} (old mid1 mid2 new : State) (r : Result A DatabaseError) (f : DatabaseError) (Earlier Later : Type 0) → IsErrAnd r (λ g. g ≡ f)
+    → KeepsConnectionUnlessDiskFails old mid1 → KeepsConnectionUnlessDiskFails mid2 new
     → (Earlier → Later) → (f ≡ faults.Database → MoreFaults mid1.faults mid2.faults ⊎ Earlier) → FailsByDiskOr old new r Later
 passes old mid1 mid2 new (Ok a) f Earlier Later is before after on why = tt
 passes old mid1 mid2 new (Err g) f Earlier Later is before after on why = λ it. elim (why (sym is ∙ it)) [
@@ -128,7 +131,7 @@ passes old mid1 mid2 new (Err g) f Earlier Later is before after on why = λ it.
 ]
 
 -- a row that is not read
-pub unread : {A : Type 0} (old new : State) (r : Result A Fault) (e : Error) (Later : Type 0) → IsErrAnd r (λ f. f ≡ fault_of e) → (e ≢ SqliteFailure OutOfMemory → Later)
+pub unread : {A : Type 0} (old new : State) (r : Result A DatabaseError) (e : Error) (Later : Type 0) → IsErrAnd r (λ f. f ≡ database_error_of e) → (e ≢ SqliteFailure OutOfMemory → Later)
     → FailsByDiskOr old new r Later
 unread old new (Ok a) e Later is why = tt
-unread old new (Err f) e Later is why = λ it. inr (why (λ none. absurd (let bad : faults.Memory ≡ faults.Database = sym (ap fault_of none) ∙ sym is ∙ it in cc)))
+unread old new (Err f) e Later is why = λ it. inr (why (λ none. absurd (let bad : faults.Memory ≡ faults.Database = sym (ap database_error_of none) ∙ sym is ∙ it in cc)))

@@ -1,7 +1,7 @@
 -- What is filed, as the code has it.
-use Rattle.archive_machine.specs.Records.{Filing as Filed}
-use Rattle.archive_database.specs.declared.filing.Filing.{Filing}
+use Rattle.archive_model.specs.Records.{IndexColumns as Filed}
+use Rattle.archive_database.specs.declared.filing.IndexColumns.{IndexColumns}
 
 -- what is filed of a message, of the code
-abbrev pub filing_in : Filing → Filed
-filing_in f = record { sent = f.sent; month = f.month; author = f.author.items }
+abbrev pub model_index_columns : IndexColumns → Filed
+model_index_columns f = record { sent = f.sent; month = f.month; author = f.author.items }

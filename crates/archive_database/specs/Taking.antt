@@ -6,39 +6,39 @@ use Rattle.sqlite.specs.Store.{Ghosts}
 use Rattle.sqlite.specs.Held.{Held, state}
 use Rattle.sqlite.specs.State.{HasCleanDisk}
 use Rattle.mbox_items.specs.Division.{Item}
-use Rattle.archive_machine.specs.Questions.{is_message}
-use Rattle.archive_machine.specs.Filing.{item_filing}
-use Rattle.archive_machine.specs.Machine.{with_keyed, keyed_message}
-use Rattle.archive_tables.specs.Tables.{IsHeld, archive_of}
-use Rattle.archive_tables.specs.Statements.{Statement, adding_message, IsRefused, IsCarriedOut}
-use Rattle.archive_tables.specs.Crashes.{CrashesOver}
-use Rattle.archive_tables.specs.Calls.{ChangesOver, RestsOver}
+use Rattle.archive_model.specs.Questions.{is_message_at_key}
+use Rattle.archive_model.specs.Filing.{item_index_columns}
+use Rattle.archive_model.specs.Machine.{with_message_under_key, keyed_message}
+use Rattle.archive_tables.specs.Tables.{IsOpenArchive, archive_of}
+use Rattle.archive_tables.specs.Statements.{Statement, insert_message_statement, IsStatementRefused, StatementExecutesTo}
+use Rattle.archive_tables.specs.Crashes.{CrashLeavesOldOrChanged}
+use Rattle.archive_tables.specs.Calls.{ChangesArchive, FaultKeepsRowsOrRollsBack}
 use Rattle.archive_database.specs.Faults.{FailsByDiskOr}
-use Rattle.archive_database.specs.declared.faults.Fault.{Fault}
+use Rattle.archive_database.specs.declared.faults.DatabaseError.{DatabaseError}
 
 -- outside a transaction or within one
-abbrev pub TakesIn : {S : Type 0} → Ghosts S → Held S → Held S → Result (Unit {0}) Fault → List ℕ → List ℕ → Item → Type 0
-TakesIn g old new result list key item = HasCleanDisk (state g new) → (behind : Option Database) → IsHeld behind (state g old)
+abbrev pub InsertsMessage : {S : Type 0} → Ghosts S → Held S → Held S → Result (Unit {0}) DatabaseError → List ℕ → List ℕ → Item → Type 0
+InsertsMessage g old new result list key item = HasCleanDisk (state g new) → (behind : Option Database) → IsOpenArchive behind (state g old)
     → MatchResult result
-    (λ _. list_any (is_message list key) (archive_of (state g old)).messages ≡ false
-    → ChangesOver behind (state g old) (state g new) (λ a. with_keyed a list key item))
-    (λ _. RestsOver behind (state g old) (state g new))
+    (λ _. list_any (is_message_at_key list key) (archive_of (state g old)).messages ≡ false
+    → ChangesArchive behind (state g old) (state g new) (λ a. with_message_under_key a list key item))
+    (λ _. FaultKeepsRowsOrRollsBack behind (state g old) (state g new))
 
 -- the statement that writes it down, filed by what its text says
-abbrev pub taking_in : List ℕ → List ℕ → Item → Statement
-taking_in list key item = adding_message (keyed_message list key item) (item_filing item)
+abbrev pub insert_item_statement : List ℕ → List ℕ → Item → Statement
+insert_item_statement list key item = insert_message_statement (keyed_message list key item) (item_index_columns item)
 
 -- why it is not taken in, where no limit is set on the steps of a query
-abbrev pub FailsToTake : {S : Type 0} → Ghosts S → Held S → Held S → Result (Unit {0}) Fault → List ℕ → List ℕ → Item → Type 0
-FailsToTake g old new result list key item = HasCleanDisk (state g new) → (behind : Option Database) → IsHeld behind (state g old) → (state g old).step_limit ≡ None
-    → FailsByDiskOr (state g old) (state g new) result (IsRefused (taking_in list key item) (state g old).now)
+abbrev pub FailsToInsertMessage : {S : Type 0} → Ghosts S → Held S → Held S → Result (Unit {0}) DatabaseError → List ℕ → List ℕ → Item → Type 0
+FailsToInsertMessage g old new result list key item = HasCleanDisk (state g new) → (behind : Option Database) → IsOpenArchive behind (state g old) → (state g old).step_limit ≡ None
+    → FailsByDiskOr (state g old) (state g new) result (IsStatementRefused (insert_item_statement list key item) (state g old).now)
 
 -- and what the rows are once it is
-abbrev pub WritesDown : {S : Type 0} → Ghosts S → Held S → Held S → Result (Unit {0}) Fault → List ℕ → List ℕ → Item → Type 0
-WritesDown g old new result list key item = HasCleanDisk (state g new) → (behind : Option Database) → IsHeld behind (state g old) → (state g old).step_limit ≡ None
-    → OnOk result (IsCarriedOut (taking_in list key item) (state g old).now (state g new).now)
+abbrev pub ExecutesMessageInsert : {S : Type 0} → Ghosts S → Held S → Held S → Result (Unit {0}) DatabaseError → List ℕ → List ℕ → Item → Type 0
+ExecutesMessageInsert g old new result list key item = HasCleanDisk (state g new) → (behind : Option Database) → IsOpenArchive behind (state g old) → (state g old).step_limit ≡ None
+    → OnOk result (StatementExecutesTo (insert_item_statement list key item) (state g old).now (state g new).now)
 
 -- what a stop of the machine may leave of it
-abbrev pub TakesWhole : {S : Type 0} → Ghosts S → Held S → Held S → List ℕ → List ℕ → Item → Type 0
-TakesWhole g old new list key item =
-    CrashesOver g old new (λ a. list_any (is_message list key) a.messages ≡ false) (λ a. with_keyed a list key item)
+abbrev pub CrashLeavesWholeMessage : {S : Type 0} → Ghosts S → Held S → Held S → List ℕ → List ℕ → Item → Type 0
+CrashLeavesWholeMessage g old new list key item =
+    CrashLeavesOldOrChanged g old new (λ a. list_any (is_message_at_key list key) a.messages ≡ false) (λ a. with_message_under_key a list key item)

@@ -11,4 +11,4 @@ pub mod ranks;
 pub mod reading;
 pub mod taking;
 
-pub use faults::Fault;
+pub use faults::DatabaseError;

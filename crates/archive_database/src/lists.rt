@@ -2,36 +2,36 @@
 ghost use Rattle.std.specs.Prelude.{◌≡◌, ◌⊎◌, Some, None, MatchResult, IfErr};
 ghost use Rattle.sqlite.specs.Held.{state};
 ghost use Rattle.sqlite.specs.State.{HasCleanDisk};
-ghost use Rattle.archive_tables.specs.Tables.{IsHeld, IsKept, archive_of};
-ghost use Rattle.archive_tables.specs.Calls.{Changes, Rests, IsHeldOrBack, Lasts, AnswersOpen, IsCaused};
-ghost use Rattle.archive_tables.specs.Crashes.{AddsOnly, IsStored};
+ghost use Rattle.archive_tables.specs.Tables.{IsOpenArchive, IsArchiveAtRest, archive_of};
+ghost use Rattle.archive_tables.specs.Calls.{CommitsChange, FaultKeepsRows, IsOpenArchiveOrRolledBack, KeepsConnectionUnlessDiskFails, AnswersOnlyIfOpen, IsMemoryOrDiskError};
+ghost use Rattle.archive_tables.specs.Crashes.{CrashAddsOnly, IsArchiveStored};
 ghost use Rattle.archive_database.specs.Faults.{FailsByDiskOr};
-ghost use Rattle.archive_database.specs.Lists.{with_list, IsListRefused};
+ghost use Rattle.archive_database.specs.Lists.{archive_with_list, IsListRefused};
 
-use crate::faults::Fault;
+use crate::faults::DatabaseError;
 use archive_tables::texts;
 use sqlite::{Alter, Connection, Error};
 
 /// Adds a list after the others, and says with it that its threads are gathered by subject: both, or nothing.
-pub fn add_list<S: Alter>(conn: &mut Connection<S>, name: &str) -> Result<(), Fault>
-    ensures added { HasCleanDisk (state S.Store conn.new) → IsKept (state S.Store conn.old)
+pub fn add_list<S: Alter>(conn: &mut Connection<S>, name: &str) -> Result<(), DatabaseError>
+    ensures added { HasCleanDisk (state S.Store conn.new) → IsArchiveAtRest (state S.Store conn.old)
         → MatchResult result
-        (λ _. Changes (state S.Store conn.old) (state S.Store conn.new) (λ a. with_list a name.now))
-        (λ _. Rests (state S.Store conn.old) (state S.Store conn.new)) }
-    ensures caused { HasCleanDisk (state S.Store conn.new) → IsKept (state S.Store conn.old)
+        (λ _. CommitsChange (state S.Store conn.old) (state S.Store conn.new) (λ a. archive_with_list a name.now))
+        (λ _. FaultKeepsRows (state S.Store conn.old) (state S.Store conn.new)) }
+    ensures caused { HasCleanDisk (state S.Store conn.new) → IsArchiveAtRest (state S.Store conn.old)
         → (state S.Store conn.old).step_limit ≡ None
         → FailsByDiskOr (state S.Store conn.old) (state S.Store conn.new) result
         (IsListRefused name.now (state S.Store conn.old).now) }
-    ensures crash { IsKept (state S.Store conn.old)
-        → AddsOnly S.Store conn.old conn.new (IsStored
-        (with_list (archive_of (state S.Store conn.old)) name.now)) }
-    ensures lasts { Lasts (state S.Store conn.old) (state S.Store conn.new) }
-    ensures was_open { AnswersOpen S.Store conn.old conn.new result }
+    ensures crash { IsArchiveAtRest (state S.Store conn.old)
+        → CrashAddsOnly S.Store conn.old conn.new (IsArchiveStored
+        (archive_with_list (archive_of (state S.Store conn.old)) name.now)) }
+    ensures lasts { KeepsConnectionUnlessDiskFails (state S.Store conn.old) (state S.Store conn.new) }
+    ensures was_open { AnswersOnlyIfOpen S.Store conn.old conn.new result }
 {
     texts::schema::begin(conn)?;
     if let Err(error) = write_list(conn, name) {
         let _undone = texts::schema::rollback(conn);
-        return Err(Fault::from(error));
+        return Err(DatabaseError::from(error));
     }
     Ok(())
 }
@@ -39,17 +39,17 @@ pub fn add_list<S: Alter>(conn: &mut Connection<S>, name: &str) -> Result<(), Fa
 /// Writes both in a transaction, and commits it.
 fn write_list<S: Alter>(conn: &mut Connection<S>, name: &str) -> Result<(), Error>
     ensures written { HasCleanDisk (state S.Store conn.new) → (db : _)
-        → IsHeld (Some db) (state S.Store conn.old) → MatchResult result
-        (λ _. Changes (state S.Store conn.old) (state S.Store conn.new) (λ a. with_list a name.now))
-        (λ _. IsHeldOrBack db (state S.Store conn.new)) }
+        → IsOpenArchive (Some db) (state S.Store conn.old) → MatchResult result
+        (λ _. CommitsChange (state S.Store conn.old) (state S.Store conn.new) (λ a. archive_with_list a name.now))
+        (λ _. IsOpenArchiveOrRolledBack db (state S.Store conn.new)) }
     ensures caused { HasCleanDisk (state S.Store conn.new) → (db : _)
-        → IsHeld (Some db) (state S.Store conn.old) → (state S.Store conn.old).step_limit ≡ None
-        → IfErr result (λ e. IsCaused (state S.Store conn.old) (state S.Store conn.new) e
+        → IsOpenArchive (Some db) (state S.Store conn.old) → (state S.Store conn.old).step_limit ≡ None
+        → IfErr result (λ e. IsMemoryOrDiskError (state S.Store conn.old) (state S.Store conn.new) e
         ⊎ IsListRefused name.now (state S.Store conn.old).now) }
-    ensures crash { (db : _) → IsHeld (Some db) (state S.Store conn.old)
-        → AddsOnly S.Store conn.old conn.new (IsStored
-        (with_list (archive_of (state S.Store conn.old)) name.now)) }
-    ensures lasts { Lasts (state S.Store conn.old) (state S.Store conn.new) }
+    ensures crash { (db : _) → IsOpenArchive (Some db) (state S.Store conn.old)
+        → CrashAddsOnly S.Store conn.old conn.new (IsArchiveStored
+        (archive_with_list (archive_of (state S.Store conn.old)) name.now)) }
+    ensures lasts { KeepsConnectionUnlessDiskFails (state S.Store conn.old) (state S.Store conn.new) }
 {
     texts::lists::add_list(conn, name)?;
     texts::options::add_option(conn, name, true)?;

@@ -2,13 +2,13 @@
 ghost use Rattle.std.specs.Prelude.{◌≡◌, ◌≢◌, ℕ, ℤ, List, map, string_bytes, IsUtf8, None, false, IfOk, IfErr, IfSome, IfNone};
 ghost use Rattle.std.specs.List.{All};
 ghost use Rattle.civil_time.specs.Calendar.{is_day};
-ghost use Rattle.archive_machine.specs.Messages.{remembered, number_of};
-ghost use Rattle.archive_machine.specs.Records.{Message as Remembered};
-ghost use Rattle.archive_tables.specs.Rows.{name_shown, place_shown, message_in, dated_marks_of};
-ghost use Rattle.archive_port.specs.Messages.{AreMarksOf, IsReadable};
+ghost use Rattle.archive_model.specs.Messages.{archived_message, withdrawal_number};
+ghost use Rattle.archive_model.specs.Records.{Message as Remembered};
+ghost use Rattle.archive_tables.specs.Rows.{name_result_row, rowid_result_row, message_from_result_row, decoded_dated_marks};
+ghost use Rattle.archive_port.specs.Messages.{AreDatedMarksOf, IsReadable};
 
-use crate::faults::Fault;
-use archive_machine::{Key, Message};
+use crate::faults::DatabaseError;
+use archive_model::{Key, Message};
 use archive_port::DatedMarks;
 use archive_tables::rows::{DatedMarksRow, MessageRow, read_name, read_place};
 use civil_time::{Day, Instant};
@@ -18,11 +18,11 @@ use sqlite::Row;
 use std::alloc::Global;
 
 /// The names that rows show.
-pub fn read_names(alloc: Global, rows: &[Row]) -> Result<Vec<String>, Fault>
-    ensures read { IfOk result (λ found. (names : List (List ℕ)) → rows.now ≡ map name_shown names
+pub fn read_names(alloc: Global, rows: &[Row]) -> Result<Vec<String>, DatabaseError>
+    ensures read { IfOk result (λ found. (names : List (List ℕ)) → rows.now ≡ map name_result_row names
         → map string_bytes found.items ≡ names) }
-    ensures unread { IfErr result (λ fault. fault ≡ Fault.Database → (names : List (List ℕ))
-        → rows.now ≡ map name_shown names → ¬ All IsUtf8 names) }
+    ensures unread { IfErr result (λ fault. fault ≡ DatabaseError.Database → (names : List (List ℕ))
+        → rows.now ≡ map name_result_row names → ¬ All IsUtf8 names) }
 {
     let mut found = Vec::with_capacity(alloc, rows.len())?;
     for row in rows.iter() {
@@ -33,11 +33,11 @@ pub fn read_names(alloc: Global, rows: &[Row]) -> Result<Vec<String>, Fault>
 }
 
 /// The numbers that rows show.
-pub fn read_places(alloc: Global, rows: &[Row]) -> Result<Vec<i64>, Fault>
-    ensures read { IfOk result (λ found. (places : List ℤ) → rows.now ≡ map place_shown places
+pub fn read_numbers(alloc: Global, rows: &[Row]) -> Result<Vec<i64>, DatabaseError>
+    ensures read { IfOk result (λ found. (places : List ℤ) → rows.now ≡ map rowid_result_row places
         → found.items ≡ places) }
-    ensures unread { IfErr result (λ fault. (places : List ℤ) → rows.now ≡ map place_shown places
-        → fault ≡ Fault.Memory) }
+    ensures unread { IfErr result (λ fault. (places : List ℤ) → rows.now ≡ map rowid_result_row places
+        → fault ≡ DatabaseError.Memory) }
 {
     let mut found = Vec::with_capacity(alloc, rows.len())?;
     for row in rows.iter() {
@@ -48,23 +48,23 @@ pub fn read_places(alloc: Global, rows: &[Row]) -> Result<Vec<i64>, Fault>
 }
 
 /// The message of a row. It refuses a row that is of none.
-pub fn read_or_fail(row: MessageRow) -> Result<Message, Fault>
+pub fn checked_message(row: MessageRow) -> Result<Message, DatabaseError>
     ensures read { IfOk result (λ message. (list : List ℕ)
-        → remembered list message ≡ message_in list row) }
-    ensures unread { IfErr result (λ fault. (fault ≡ Fault.Database)
-        × ((list : List ℕ) → ¬ IsReadable (message_in list row))) }
+        → archived_message list message ≡ message_from_result_row list row) }
+    ensures unread { IfErr result (λ fault. (fault ≡ DatabaseError.Database)
+        × ((list : List ℕ) → ¬ IsReadable (message_from_result_row list row))) }
 {
     match read(row) {
         Some(message) => Ok(message),
-        None => Err(Fault::Database),
+        None => Err(DatabaseError::Database),
     }
 }
 
 /// The same. `None` where the row is of none.
 fn read(row: MessageRow) -> Option<Message>
     ensures some { IfSome result (λ message. (list : List ℕ)
-        → remembered list message ≡ message_in list row) }
-    ensures none { IfNone result ((list : List ℕ) → ¬ IsReadable (message_in list row)) }
+        → archived_message list message ≡ message_from_result_row list row) }
+    ensures none { IfNone result ((list : List ℕ) → ¬ IsReadable (message_from_result_row list row)) }
 {
     let key = Key::read(&row.key)?;
     let arrival = Instant::new(row.arrival)?;
@@ -83,23 +83,23 @@ fn read(row: MessageRow) -> Option<Message>
 }
 
 /// The arrival and the marks of a row. It refuses those that no message has.
-pub fn marks_or_fail(row: DatedMarksRow) -> Result<DatedMarks, Fault>
-    ensures read { IfOk result (λ marks. (m : Remembered) → row ≡ dated_marks_of m
-        → AreMarksOf marks m) }
-    ensures unread { IfErr result (λ fault. (fault ≡ Fault.Database)
-        × ((m : Remembered) → row ≡ dated_marks_of m → ¬ IsReadable m)) }
+pub fn checked_dated_marks(row: DatedMarksRow) -> Result<DatedMarks, DatabaseError>
+    ensures read { IfOk result (λ marks. (m : Remembered) → row ≡ decoded_dated_marks m
+        → AreDatedMarksOf marks m) }
+    ensures unread { IfErr result (λ fault. (fault ≡ DatabaseError.Database)
+        × ((m : Remembered) → row ≡ decoded_dated_marks m → ¬ IsReadable m)) }
 {
     match read_marks(row) {
         Some(marks) => Ok(marks),
-        None => Err(Fault::Database),
+        None => Err(DatabaseError::Database),
     }
 }
 
 /// The same. `None` where no message has them.
 fn read_marks(row: DatedMarksRow) -> Option<DatedMarks>
-    ensures some { IfSome result (λ marks. (m : Remembered) → row ≡ dated_marks_of m
-        → AreMarksOf marks m) }
-    ensures none { IfNone result ((m : Remembered) → row ≡ dated_marks_of m → ¬ IsReadable m) }
+    ensures some { IfSome result (λ marks. (m : Remembered) → row ≡ decoded_dated_marks m
+        → AreDatedMarksOf marks m) }
+    ensures none { IfNone result ((m : Remembered) → row ≡ decoded_dated_marks m → ¬ IsReadable m) }
 {
     let arrival = Instant::new(row.arrival)?;
     let withdrawn = withdrawn_by(row.withdrawn)?;
@@ -116,8 +116,8 @@ fn read_marks(row: DatedMarksRow) -> Option<DatedMarks>
 
 /// Who withdrew a message, by number.
 fn withdrawn_by(number: i64) -> Option<Withdrawn>
-    ensures some { IfSome result (λ by. number_of by ≡ number) }
-    ensures none { result ≡ None → (by : Withdrawn) → number_of by ≢ number }
+    ensures some { IfSome result (λ by. withdrawal_number by ≡ number) }
+    ensures none { result ≡ None → (by : Withdrawn) → withdrawal_number by ≢ number }
 {
     match number {
         0 => Some(Withdrawn::No),

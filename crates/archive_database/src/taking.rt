@@ -1,14 +1,14 @@
 //! A message that is taken in.
 ghost use Rattle.std.specs.Prelude.{◌≡◌, ◌<◌, false, nat_lt, nat_le, length, IfOk, MatchOption};
 ghost use Rattle.mbox_items.specs.Division.{whole};
-ghost use Rattle.archive_machine.specs.Machine.{longest_text};
-ghost use Rattle.archive_machine.specs.Questions.{messages_in};
-ghost use Rattle.archive_tables.specs.Calls.{Asks, Ends};
-ghost use Rattle.archive_database.specs.Taking.{TakesIn, FailsToTake, WritesDown, TakesWhole};
+ghost use Rattle.archive_model.specs.Machine.{longest_text};
+ghost use Rattle.archive_model.specs.Questions.{messages_in};
+ghost use Rattle.archive_tables.specs.Calls.{AnswersFromDatabase, EndsConnectionCall};
+ghost use Rattle.archive_database.specs.Taking.{InsertsMessage, FailsToInsertMessage, ExecutesMessageInsert, CrashLeavesWholeMessage};
 
-use crate::faults::Fault;
+use crate::faults::DatabaseError;
 use crate::filing::file;
-use archive_machine::Key;
+use archive_model::Key;
 use archive_tables::texts;
 use mbox_items::{Item, written_sender};
 use sqlite::{Alter, Connection, Error};
@@ -31,7 +31,7 @@ pub fn is_too_large(item: &Item<'_>) -> bool
 /// Whether a list holds as many messages as the limit. Its messages are counted only where some message's number
 /// reaches the limit.
 pub fn is_full<S: Alter>(conn: &mut Connection<S>, list: &str, limit: u32) -> Result<bool, Error>
-    ensures { Asks S.Store conn.old conn.new result
+    ensures { AnswersFromDatabase S.Store conn.old conn.new result
         (λ a full. full ≡ nat_le limit (length (messages_in a list.now))) ⊥ }
 {
     if !may_be_full(conn, limit)? {
@@ -43,7 +43,7 @@ pub fn is_full<S: Alter>(conn: &mut Connection<S>, list: &str, limit: u32) -> Re
 
 /// Whether a list may hold as many messages as the limit. It takes the same time however many messages there are.
 fn may_be_full<S: Alter>(conn: &mut Connection<S>, limit: u32) -> Result<bool, Error>
-    ensures { Asks S.Store conn.old conn.new result
+    ensures { AnswersFromDatabase S.Store conn.old conn.new result
         (λ a may_be. may_be ≡ false → length a.messages < limit) ⊥ }
 {
     let reached = texts::messages::reaches(conn, limit)?;
@@ -51,18 +51,18 @@ fn may_be_full<S: Alter>(conn: &mut Connection<S>, limit: u32) -> Result<bool, E
 }
 
 /// Writes a message down after the others.
-pub fn take_in<S: Alter>(
+pub fn insert_message<S: Alter>(
     conn: &mut Connection<S>,
     alloc: Global,
     list: &str,
     key: &Key,
     item: &Item<'_>,
-) -> Result<(), Fault>
-    ensures taken { TakesIn S.Store conn.old conn.new result list.now key.now item.now }
-    ensures caused { FailsToTake S.Store conn.old conn.new result list.now key.now item.now }
-    ensures made { WritesDown S.Store conn.old conn.new result list.now key.now item.now }
-    ensures crash { TakesWhole S.Store conn.old conn.new list.now key.now item.now }
-    ensures ends { Ends S.Store conn.old conn.new result }
+) -> Result<(), DatabaseError>
+    ensures taken { InsertsMessage S.Store conn.old conn.new result list.now key.now item.now }
+    ensures caused { FailsToInsertMessage S.Store conn.old conn.new result list.now key.now item.now }
+    ensures made { ExecutesMessageInsert S.Store conn.old conn.new result list.now key.now item.now }
+    ensures crash { CrashLeavesWholeMessage S.Store conn.old conn.new list.now key.now item.now }
+    ensures ends { EndsConnectionCall S.Store conn.old conn.new result }
 {
     if let Some(text) = with_line_end(alloc, item)? {
         return write_down(conn, alloc, list, key, item, &text);
@@ -78,16 +78,16 @@ fn write_down<S: Alter>(
     key: &Key,
     item: &Item<'_>,
     text: &[u8],
-) -> Result<(), Fault>
+) -> Result<(), DatabaseError>
     ensures taken { text.now ≡ whole item.now.text
-        → TakesIn S.Store conn.old conn.new result list.now key.now item.now }
+        → InsertsMessage S.Store conn.old conn.new result list.now key.now item.now }
     ensures caused { text.now ≡ whole item.now.text
-        → FailsToTake S.Store conn.old conn.new result list.now key.now item.now }
+        → FailsToInsertMessage S.Store conn.old conn.new result list.now key.now item.now }
     ensures made { text.now ≡ whole item.now.text
-        → WritesDown S.Store conn.old conn.new result list.now key.now item.now }
+        → ExecutesMessageInsert S.Store conn.old conn.new result list.now key.now item.now }
     ensures crash { text.now ≡ whole item.now.text
-        → TakesWhole S.Store conn.old conn.new list.now key.now item.now }
-    ensures ends { Ends S.Store conn.old conn.new result }
+        → CrashLeavesWholeMessage S.Store conn.old conn.new list.now key.now item.now }
+    ensures ends { EndsConnectionCall S.Store conn.old conn.new result }
 {
     let sender = sender_of(alloc, item)?;
     let filing = file(alloc, text, item.envelope.arrival)?;

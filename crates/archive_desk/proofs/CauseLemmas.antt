@@ -2,24 +2,25 @@
 use Rattle.std.proofs.Common.{◌≡◌, inl, inr, refl, sym, ◌∙◌, subst, List, [], Result, Ok, Err, IfErr}
 use Rattle.sqlite.specs.Store.{Ghosts}
 use Rattle.sqlite.specs.Held.{state}
-use Rattle.archive_machine.specs.Records.{Archive, Message as Remembered}
+use Rattle.archive_model.specs.Records.{Archive, Message as Remembered}
 use Rattle.archive_tables.proofs.LastLemmas.{lasts_then}
-use Rattle.archive_store.specs.Held.{held_of}
-use Rattle.archive_store.specs.Told.{Caused as StoreCaused, CausedOr as StoreCausedOr, GoesIn, HasFailed, HasReturned, HoldsTables, Lasts, archive_in}
-use Rattle.archive_store.specs.Walking.{BeginsOver, StopsNext, Walk, WalksOver}
+use Rattle.archive_store.specs.Held.{store_connection}
+use Rattle.archive_store.specs.Told.{E15MeansDiskFailed as StoreCaused, E15MeansDiskFailedOr as StoreCausedOr, RelatesArchivesUnder, DiskHasFailed}
+use Rattle.archive_store.specs.Told.{StoreHasCleanDisk, HoldsTables, StaysOpenUnlessDiskFails, archive_in}
+use Rattle.archive_store.specs.Walking.{BeginsOver, E15MeansNextUnreadable, Walk, WalksOver}
 use Rattle.archive_store.specs.declared.store.Store.{Store}
 use Rattle.archive_port.specs.declared.faults.StoreFault.{StoreFault}
 use Rattle.archive_port.specs.declared.faults.StoreFault.TheVariants as faults
 use Rattle.archive_store.proofs.CauseLemmas.{more_since, stops_later}
 use Rattle.archive_results.specs.Access.{Ask}
-use Rattle.archive_desk.specs.Causes.{AreUnreadable, HasCause, HasDiskCause, IsBroken}
-use Rattle.archive_desk.specs.Faults.{desk_fault}
-use Rattle.archive_desk.specs.Walking.{HasWalkCause, StopsPassing}
+use Rattle.archive_desk.specs.Causes.{HasUnreadableMessage, HasCause, HasDiskCause, IsDeskDatabaseFault}
+use Rattle.archive_desk.specs.Faults.{desk_error_of}
+use Rattle.archive_desk.specs.Walking.{HasWalkCause, E15MeansWalkUnreadable}
 
 -- ---- which faults are the database's
 
 -- of those of the store E15 alone
-broken_by : (fault : StoreFault) → IsBroken (desk_fault fault) → fault ≡ faults.Store
+broken_by : (fault : StoreFault) → IsDeskDatabaseFault (desk_error_of fault) → fault ≡ faults.Store
 broken_by faults.BadName it = absurd (cc)
 broken_by faults.BadText it = absurd (cc)
 broken_by faults.ListExists it = absurd (cc)
@@ -45,10 +46,10 @@ module _ {S : Type 0} (g : Ghosts S) (old new : Store S) where
   -- ---- a question of the store
 
   pub store_cause : (fault : StoreFault) (Unread : Archive → Type 0) → StoreCausedOr g old new {A = Unit {0}} (Err fault) Unread
-      → IsBroken (desk_fault fault) → HasCause g old new Unread
+      → IsDeskDatabaseFault (desk_error_of fault) → HasCause g old new Unread
   store_cause fault Unread why it = λ returned held free. why returned held free (broken_by fault it)
 
-  pub store_disk : (fault : StoreFault) → StoreCaused g old new {A = Unit {0}} (Err fault) → IsBroken (desk_fault fault) → HasDiskCause g old new
+  pub store_disk : (fault : StoreFault) → StoreCaused g old new {A = Unit {0}} (Err fault) → IsDeskDatabaseFault (desk_error_of fault) → HasDiskCause g old new
   store_disk fault why it = λ returned held free. why returned held free (broken_by fault it)
 
   -- ---- a cause among others
@@ -59,13 +60,13 @@ module _ {S : Type 0} (g : Ghosts S) (old new : Store S) where
   pub cause_among : (Unread Unread' : Archive → Type 0) → ((a : Archive) → Unread a → Unread' a) → HasCause g old new Unread → HasCause g old new Unread'
   cause_among Unread Unread' implies why = λ returned held free. elim (why returned held free) [ inl more ↦ inl more | inr bad ↦ inr (implies _ bad) ]
 
-module _ {S : Type 0} (g : Ghosts S) (old mid new : Store S) (first : GoesIn g (HoldsTables g) old mid (λ a b. b ≡ a)) (last : Lasts g mid new) where
+module _ {S : Type 0} (g : Ghosts S) (old mid new : Store S) (first : RelatesArchivesUnder g (HoldsTables g) old mid (λ a b. b ≡ a)) (last : StaysOpenUnlessDiskFails g mid new) where
   -- behind calls that left the archive: the faults of the disk never get fewer, and no limit was set
   pub cause_after : (Unread : Archive → Type 0) → HasCause g mid new Unread → HasCause g old new Unread
   cause_after Unread why = λ returned held free.
       let there = first.1 (last.returned returned) held in
       elim (why returned there.0 (first.0.limit ∙ free)) [
-        | inl more ↦ inl (more_since (state g (held_of old)) (state g (held_of mid)) (state g (held_of new)) first.0 more)
+        | inl more ↦ inl (more_since (state g (store_connection old)) (state g (store_connection mid)) (state g (store_connection new)) first.0 more)
         | inr bad ↦ inr (subst Unread there.1 bad)
       ]
 
@@ -73,38 +74,38 @@ module _ {S : Type 0} (g : Ghosts S) (old mid new : Store S) (first : GoesIn g (
 
 module _ {S : Type 0} (g : Ghosts S) (ask : Ask) (old mid new : Walk S) where
   -- the next message cannot be read, or the disk failed
-  pub next_cause : (HasReturned g mid.store → (all : List Remembered) (a : Archive) → WalksOver g ask.list all a [] old
+  pub next_cause : (StoreHasCleanDisk g mid.store → (all : List Remembered) (a : Archive) → WalksOver g ask.list all a [] old
       → (given : List Remembered) × WalksOver g ask.list all a given mid)
-      → Lasts g old.store mid.store → Lasts g mid.store new.store → (fault : StoreFault) → StopsNext g {A = Unit {0}} mid new (Err fault)
-      → IsBroken (desk_fault fault) → HasWalkCause g old new ask
+      → StaysOpenUnlessDiskFails g old.store mid.store → StaysOpenUnlessDiskFails g mid.store new.store → (fault : StoreFault) → E15MeansNextUnreadable g {A = Unit {0}} mid new (Err fault)
+      → IsDeskDatabaseFault (desk_error_of fault) → HasWalkCause g old new ask
   next_cause so_far before last fault stops it = λ returned free all a w.
       let here = so_far (last.returned returned) all a w in
-      stops_later (state g (held_of old.store)) (state g (held_of mid.store)) (state g (held_of new.store)) here.0 all before
+      stops_later (state g (store_connection old.store)) (state g (store_connection mid.store)) (state g (store_connection new.store)) here.0 all before
       (stops returned ask.list all a here.0 here.1 (before.limit ∙ free) (broken_by fault it))
 
   -- the same behind the marks of messages that are passed by
-  pub pass_cause : (HasReturned g mid.store → (all : List Remembered) (a : Archive) → WalksOver g ask.list all a [] old
+  pub pass_cause : (StoreHasCleanDisk g mid.store → (all : List Remembered) (a : Archive) → WalksOver g ask.list all a [] old
       → (given : List Remembered) × WalksOver g ask.list all a given mid)
-      → Lasts g old.store mid.store → Lasts g mid.store new.store → (fault : StoreFault) → StopsPassing g {A = Unit {0}} mid new ask (Err fault)
-      → IsBroken (desk_fault fault) → HasWalkCause g old new ask
+      → StaysOpenUnlessDiskFails g old.store mid.store → StaysOpenUnlessDiskFails g mid.store new.store → (fault : StoreFault) → E15MeansWalkUnreadable g {A = Unit {0}} mid new ask (Err fault)
+      → IsDeskDatabaseFault (desk_error_of fault) → HasWalkCause g old new ask
   pass_cause so_far before last fault stops it = λ returned free all a w.
       let here = so_far (last.returned returned) all a w in
       elim (stops returned all a here.0 here.1 (before.limit ∙ free) (broken_by fault it)) [
-        | inl more ↦ inl (more_since (state g (held_of old.store)) (state g (held_of mid.store)) (state g (held_of new.store)) before more)
+        | inl more ↦ inl (more_since (state g (store_connection old.store)) (state g (store_connection mid.store)) (state g (store_connection new.store)) before more)
         | inr bad ↦ inr bad
       ]
 
 module _ {S : Type 0} (g : Ghosts S) (ask : Ask) (which : Archive → List Remembered) (old mid last : Store S) (walk new : Walk S) (is : last ≡ new.store)
-    (first : GoesIn g (HoldsTables g) old mid (λ a b. b ≡ a)) (begun : BeginsOver g mid ask.list which walk) (lasts : Lasts g walk.store new.store) where
+    (first : RelatesArchivesUnder g (HoldsTables g) old mid (λ a b. b ≡ a)) (begun : BeginsOver g mid ask.list which walk) (lasts : StaysOpenUnlessDiskFails g walk.store new.store) where
   -- behind calls that left the archive
-  pub walk_cause : HasWalkCause g walk new ask → HasCause g old last (λ a. AreUnreadable (which a))
+  pub walk_cause : HasWalkCause g walk new ask → HasCause g old last (λ a. HasUnreadableMessage (which a))
   walk_cause why = λ returned held free.
-      let returned' = subst (HasReturned g) is returned in
+      let returned' = subst (StoreHasCleanDisk g) is returned in
       let there = first.1 (begun.lasts.returned (lasts.returned returned')) held in
       let walks = begun.over (lasts.returned returned') there.0 in
       elim (why returned' (begun.lasts.limit ∙ first.0.limit ∙ free) (which (archive_in g mid)) (archive_in g mid) walks.1) [
         | inl more ↦
-            inl (subst (HasFailed g old) (sym is) (more_since (state g (held_of old)) (state g (held_of walk.store)) (state g (held_of new.store))
+            inl (subst (DiskHasFailed g old) (sym is) (more_since (state g (store_connection old)) (state g (store_connection walk.store)) (state g (store_connection new.store))
             (lasts_then _ _ _ first.0 begun.lasts) more))
-        | inr bad ↦ inr (subst (λ a. AreUnreadable (which a)) there.1 bad)
+        | inr bad ↦ inr (subst (λ a. HasUnreadableMessage (which a)) there.1 bad)
       ]

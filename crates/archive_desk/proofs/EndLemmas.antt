@@ -1,28 +1,28 @@
 -- How calls of the desk end that follow one another.
 use Rattle.std.proofs.Common.{◌≡◌, ◌≤◌, ◌+◌, arith, ap, inl, refl, sym, subst, List, [], ◌∷◌, ℕ, Some, Result, Err, IfErr}
 use Rattle.sqlite.specs.Store.{Ghosts}
-use Rattle.archive_machine.specs.Records.{Archive, Message as Remembered}
-use Rattle.archive_machine.specs.Commands.{no_list}
-use Rattle.archive_machine.specs.Questions.{list_refusal, messages_in}
+use Rattle.archive_model.specs.Records.{Archive, Message as Remembered}
+use Rattle.archive_model.specs.Commands.{no_list}
+use Rattle.archive_model.specs.Questions.{list_refusal, messages_in}
 use Rattle.archive_tables.proofs.LastLemmas.{lasts_then}
-use Rattle.archive_store.specs.Held.{wants_of}
-use Rattle.archive_port.specs.Replies.{RefusedFor, refusal}
-use Rattle.archive_store.specs.Told.{Counts, EndsAsk as StoreEndsAsk, GoesIn, HasReturned, HoldsTables, IsOpen, Lasts, WasOpen}
-use Rattle.archive_store.specs.Walking.{BeginsOver, DoesNotBegin, Walk}
+use Rattle.archive_store.specs.Held.{memory_refusal_count}
+use Rattle.archive_port.specs.Replies.{IsRefusedOnlyFor, refusal_of_fault}
+use Rattle.archive_store.specs.Told.{CountsRefusals, EndsQuestion as StoreEndsAsk, RelatesArchivesUnder, StoreHasCleanDisk, HoldsTables, IsOpen, StaysOpenUnlessDiskFails, WasOpen}
+use Rattle.archive_store.specs.Walking.{BeginsOver, WalkFailsToBegin, Walk}
 use Rattle.archive_desk.proofs.Counted.{CountsOne}
-use Rattle.archive_port.specs.Wanting.{IsWant, Raises}
+use Rattle.archive_port.specs.Wanting.{IsMemoryRefusal, RaisesRefusalCount}
 use Rattle.archive_store.specs.declared.store.Store.{Store}
 use Rattle.archive_port.specs.declared.faults.StoreFault.{StoreFault}
 use Rattle.archive_port.proofs.WantLemmas.{raises_after}
 use Rattle.archive_results.specs.Access.{Ask}
-use Rattle.archive_desk.specs.Causes.{AreUnreadable, HasCause, IsBroken, IsUnreadable, IsWanting}
-use Rattle.archive_desk.specs.Ending.{Ends, EndsAsk, EndsExport, EndsWalk}
-use Rattle.archive_desk.specs.Exporting.{stop_reason}
-use Rattle.archive_desk.specs.Faults.{IsAskFault, Reason, desk_fault, reason, reason_by}
-use Rattle.archive_desk.specs.Walking.{HasWalkCause, IsUnlisted}
+use Rattle.archive_desk.specs.Causes.{HasUnreadableMessage, HasCause, IsDeskDatabaseFault, IsQuestionUnreadable, IsDeskMemoryRefusal}
+use Rattle.archive_desk.specs.Ending.{EndsDeskCall, EndsDeskQuestion, EndsExport, EndsWalk}
+use Rattle.archive_desk.specs.Exporting.{export_stop_reason}
+use Rattle.archive_desk.specs.Faults.{IsAskFault, RefusalReason, desk_error_of, refusal_reason, reason_of_refusal}
+use Rattle.archive_desk.specs.Walking.{HasWalkCause, IsMemoryOrDatabaseFault}
 use Rattle.archive_desk.specs.declared.exporting.ExportStop.{ExportStop}
-use Rattle.archive_desk.specs.declared.faults.DeskFault.{DeskFault}
-use Rattle.archive_desk.specs.declared.faults.DeskFault.TheVariants.{NoList, NoPerson, NotInView, Store as Stored, Memory, Write}
+use Rattle.archive_desk.specs.declared.faults.DeskError.{DeskError}
+use Rattle.archive_desk.specs.declared.faults.DeskError.TheVariants.{NoList, NoPerson, NotInView, Store as Stored, Memory, Write}
 use Rattle.archive_desk.proofs.AskLemmas.{is_list_fault, reasoned}
 use Rattle.archive_desk.proofs.CallLemmas.{open_still, unbegun_lasts, was_open_as, was_open_by}
 use Rattle.archive_desk.proofs.CauseLemmas.{cause_after, cause_among, disk_cause, each_fault, store_disk, walk_cause}
@@ -30,17 +30,17 @@ use Rattle.archive_desk.proofs.WantLemmas.{wants_of_store}
 
 -- ---- a question that is not answered
 
-module _ {S : Type 0} (g : Ghosts S) (old new : Store S) (IsFault : DeskFault → Type 0) (A B : Type 0) (fault : DeskFault) (Unread Unread' : Archive → Type 0)
+module _ {S : Type 0} (g : Ghosts S) (old new : Store S) (IsFault : DeskError → Type 0) (A B : Type 0) (fault : DeskError) (Unread Unread' : Archive → Type 0)
     (implies : (a : Archive) → Unread a → Unread' a) where
   -- within another, which has more causes
-  pub stops_as : Ends g old new IsFault {A = A} (Err fault) Unread → Ends g old new IsFault {A = B} (Err fault) Unread'
+  pub stops_as : EndsDeskCall g old new IsFault {A = A} (Err fault) Unread → EndsDeskCall g old new IsFault {A = B} (Err fault) Unread'
   stops_as it = record {
     fault = it.fault;
     caused = λ bad. cause_among g old new Unread Unread' implies (it.caused bad);
     counted = it.counted;
   }
 
-  pub ask_stops_as : EndsAsk g old new IsFault {A = A} (Err fault) Unread → EndsAsk g old new IsFault {A = B} (Err fault) Unread'
+  pub ask_stops_as : EndsDeskQuestion g old new IsFault {A = A} (Err fault) Unread → EndsDeskQuestion g old new IsFault {A = B} (Err fault) Unread'
   ask_stops_as it = record {
     was_open = it.was_open;
     fault = it.fault;
@@ -50,59 +50,59 @@ module _ {S : Type 0} (g : Ghosts S) (old new : Store S) (IsFault : DeskFault �
 
 -- the list is not found
 pub list_ends : {S : Type 0} (g : Ghosts S) (old new : Store S) (B : Type 0) (fault : StoreFault) (Unread : Archive → Type 0)
-    → WasOpen g old new {A = Unit {0}} refusal (Err fault) → StoreEndsAsk g old new {A = Unit {0}} (Err fault) (no_list ∷ [])
-    → EndsAsk g old new IsAskFault {A = B} (Err (desk_fault fault)) Unread
+    → WasOpen g old new {A = Unit {0}} refusal_of_fault (Err fault) → StoreEndsAsk g old new {A = Unit {0}} (Err fault) (no_list ∷ [])
+    → EndsDeskQuestion g old new IsAskFault {A = B} (Err (desk_error_of fault)) Unread
 list_ends g old new B fault Unread up it = record {
-  was_open = was_open_as g old new (Unit {0}) B refusal reason reason_by fault (desk_fault fault) (reasoned fault) up;
+  was_open = was_open_as g old new (Unit {0}) B refusal_of_fault refusal_reason reason_of_refusal fault (desk_error_of fault) (reasoned fault) up;
   fault = is_list_fault fault it.kind;
   caused = λ bad. disk_cause g old new Unread (store_disk g old new fault it.caused bad);
-  counted = wants_of_store (Unit {0}) B (wants_of old) (wants_of new) fault it.counted;
+  counted = wants_of_store (Unit {0}) B (memory_refusal_count old) (memory_refusal_count new) fault it.counted;
 }
 
 -- ---- behind calls that left the archive
 
-module _ {S : Type 0} (g : Ghosts S) (old mid new : Store S) (first : GoesIn g (HoldsTables g) old mid (λ a b. b ≡ a)) (last : Lasts g mid new)
-    (grows : wants_of old ≤ wants_of mid) (IsFault : DeskFault → Type 0) where
-  module _ {A : Type 0} (result : Result A DeskFault) (Unread Unread' : Archive → Type 0) (implies : (a : Archive) → Unread a → Unread' a)
-      (it : Ends g mid new IsFault result Unread) where
-    caused_after : IfErr result (λ fault. IsBroken fault → HasCause g old new Unread')
-    caused_after = each_fault (λ fault. IsBroken fault → HasCause g mid new Unread) (λ fault. IsBroken fault → HasCause g old new Unread')
+module _ {S : Type 0} (g : Ghosts S) (old mid new : Store S) (first : RelatesArchivesUnder g (HoldsTables g) old mid (λ a b. b ≡ a)) (last : StaysOpenUnlessDiskFails g mid new)
+    (grows : memory_refusal_count old ≤ memory_refusal_count mid) (IsFault : DeskError → Type 0) where
+  module _ {A : Type 0} (result : Result A DeskError) (Unread Unread' : Archive → Type 0) (implies : (a : Archive) → Unread a → Unread' a)
+      (it : EndsDeskCall g mid new IsFault result Unread) where
+    caused_after : IfErr result (λ fault. IsDeskDatabaseFault fault → HasCause g old new Unread')
+    caused_after = each_fault (λ fault. IsDeskDatabaseFault fault → HasCause g mid new Unread) (λ fault. IsDeskDatabaseFault fault → HasCause g old new Unread')
         (λ fault why bad. cause_after g old mid new first last Unread' (cause_among g mid new Unread Unread' implies (why bad))) result it.caused
 
-    pub ends_after : Ends g old new IsFault result Unread'
+    pub ends_after : EndsDeskCall g old new IsFault result Unread'
     ends_after = record {
       fault = it.fault;
       caused = caused_after;
-      counted = raises_after IsWanting (wants_of old) (wants_of mid) (wants_of new) result grows it.counted;
+      counted = raises_after IsDeskMemoryRefusal (memory_refusal_count old) (memory_refusal_count mid) (memory_refusal_count new) result grows it.counted;
     }
 
     -- the first of them was answered by an open store
-    pub ask_after : (HasReturned g mid → IsOpen g old) → EndsAsk g old new IsFault result Unread'
+    pub ask_after : (StoreHasCleanDisk g mid → IsOpen g old) → EndsDeskQuestion g old new IsFault result Unread'
     ask_after up = record {
-      was_open = was_open_by g old new reason result (open_still g old mid new up last);
+      was_open = was_open_by g old new refusal_reason result (open_still g old mid new up last);
       fault = it.fault;
       caused = caused_after;
-      counted = raises_after IsWanting (wants_of old) (wants_of mid) (wants_of new) result grows it.counted;
+      counted = raises_after IsDeskMemoryRefusal (memory_refusal_count old) (memory_refusal_count mid) (memory_refusal_count new) result grows it.counted;
     }
 
 -- ---- a walk that does not begin
 
-module _ {S : Type 0} (g : Ghosts S) (old mid last : Store S) (first : GoesIn g (HoldsTables g) old mid (λ a b. b ≡ a)) (grows : wants_of old ≤ wants_of mid)
-    (up : HasReturned g mid → IsOpen g old) where
-  pub unbegun_ends : (B : Type 0) (list : List ℕ) (fault : StoreFault) (Unread : Archive → Type 0) → DoesNotBegin g {A = Unit {0}} mid list (Err fault) last
-      → RefusedFor {A = Unit {0}} (Err fault) (no_list ∷ []) → EndsAsk g old last IsAskFault {A = B} (Err (desk_fault fault)) Unread
+module _ {S : Type 0} (g : Ghosts S) (old mid last : Store S) (first : RelatesArchivesUnder g (HoldsTables g) old mid (λ a b. b ≡ a)) (grows : memory_refusal_count old ≤ memory_refusal_count mid)
+    (up : StoreHasCleanDisk g mid → IsOpen g old) where
+  pub unbegun_ends : (B : Type 0) (list : List ℕ) (fault : StoreFault) (Unread : Archive → Type 0) → WalkFailsToBegin g {A = Unit {0}} mid list (Err fault) last
+      → IsRefusedOnlyFor {A = Unit {0}} (Err fault) (no_list ∷ []) → EndsDeskQuestion g old last IsAskFault {A = B} (Err (desk_error_of fault)) Unread
   unbegun_ends B list fault Unread stops kind =
-      let lasts : Lasts g mid last = unbegun_lasts g mid last fault (λ a why. list_refusal a list ≡ Some why) stops.0 in record {
-        was_open = was_open_by g old last {A = B} reason (Err (desk_fault fault)) (open_still g old mid last up lasts);
+      let lasts : StaysOpenUnlessDiskFails g mid last = unbegun_lasts g mid last fault (λ a why. list_refusal a list ≡ Some why) stops.0 in record {
+        was_open = was_open_by g old last {A = B} refusal_reason (Err (desk_error_of fault)) (open_still g old mid last up lasts);
         fault = is_list_fault fault kind;
         caused = λ bad. cause_after g old mid last first lasts Unread (disk_cause g mid last Unread (store_disk g mid last fault stops.1 bad));
-        counted = raises_after {A = B} IsWanting (wants_of old) (wants_of mid) (wants_of last) (Err (desk_fault fault)) grows
-            (wants_of_store (Unit {0}) B (wants_of mid) (wants_of last) fault stops.2);
+        counted = raises_after {A = B} IsDeskMemoryRefusal (memory_refusal_count old) (memory_refusal_count mid) (memory_refusal_count last) (Err (desk_error_of fault)) grows
+            (wants_of_store (Unit {0}) B (memory_refusal_count mid) (memory_refusal_count last) fault stops.2);
       }
 
 -- ---- a walk
 
-unlisted_asked : (fault : DeskFault) → IsUnlisted fault → IsAskFault fault
+unlisted_asked : (fault : DeskError) → IsMemoryOrDatabaseFault fault → IsAskFault fault
 unlisted_asked NoList it = absurd it
 unlisted_asked NoPerson it = absurd it
 unlisted_asked NotInView it = absurd it
@@ -111,78 +111,80 @@ unlisted_asked Memory it = it
 unlisted_asked Write it = absurd it
 
 module _ {S : Type 0} (g : Ghosts S) (ask : Ask) (which : Archive → List Remembered) (old mid last : Store S) (walk new : Walk S) (is : last ≡ new.store)
-    (first : GoesIn g (HoldsTables g) old mid (λ a b. b ≡ a)) (begun : BeginsOver g mid ask.list which walk) (grows : wants_of old ≤ wants_of mid)
-    (up : HasReturned g mid → IsOpen g old) {A F : Type 0} (carried : F → DeskFault) (result : Result A F) (it : EndsWalk g walk new ask carried result) where
-  was_up : HasReturned g last → IsOpen g old
-  was_up returned = up (begun.lasts.returned (it.lasts.returned (subst (HasReturned g) is returned)))
+    (first : RelatesArchivesUnder g (HoldsTables g) old mid (λ a b. b ≡ a)) (begun : BeginsOver g mid ask.list which walk) (grows : memory_refusal_count old ≤ memory_refusal_count mid)
+    (up : StoreHasCleanDisk g mid → IsOpen g old) {A F : Type 0} (carried : F → DeskError) (result : Result A F) (it : EndsWalk g walk new ask carried result) where
+  was_up : StoreHasCleanDisk g last → IsOpen g old
+  was_up returned = up (begun.lasts.returned (it.lasts.returned (subst (StoreHasCleanDisk g) is returned)))
 
-  pub walk_caused : IfErr result (λ fault. IsBroken (carried fault) → HasCause g old last (λ a. IsUnreadable a ask (which a)))
-  walk_caused = each_fault (λ fault. IsBroken (carried fault) → HasWalkCause g walk new ask)
-      (λ fault. IsBroken (carried fault) → HasCause g old last (λ a. IsUnreadable a ask (which a)))
-      (λ fault why bad. cause_among g old last (λ a. AreUnreadable (which a)) (λ a. IsUnreadable a ask (which a)) (λ a bad. inl bad)
+  pub walk_caused : IfErr result (λ fault. IsDeskDatabaseFault (carried fault) → HasCause g old last (λ a. IsQuestionUnreadable a ask (which a)))
+  walk_caused = each_fault (λ fault. IsDeskDatabaseFault (carried fault) → HasWalkCause g walk new ask)
+      (λ fault. IsDeskDatabaseFault (carried fault) → HasCause g old last (λ a. IsQuestionUnreadable a ask (which a)))
+      (λ fault why bad. cause_among g old last (λ a. HasUnreadableMessage (which a)) (λ a. IsQuestionUnreadable a ask (which a)) (λ a bad. inl bad)
       (walk_cause g ask which old mid last walk new is first begun it.lasts (why bad))) result it.caused
 
-  pub walk_counted : Counts (λ fault. IsWanting (carried fault)) old last result
-  walk_counted = subst (λ s. Counts (λ fault. IsWanting (carried fault)) old s result) (sym is)
-      (raises_after (λ fault. IsWanting (carried fault)) (wants_of old) (wants_of walk.store) (wants_of new.store) result (omega (arith, grows, begun.counted)) it.counted)
+  pub walk_counted : CountsRefusals (λ fault. IsDeskMemoryRefusal (carried fault)) old last result
+  walk_counted = subst (λ s. CountsRefusals (λ fault. IsDeskMemoryRefusal (carried fault)) old s result) (sym is)
+      (raises_after (λ fault. IsDeskMemoryRefusal (carried fault)) (memory_refusal_count old) (memory_refusal_count walk.store) (memory_refusal_count new.store) result
+      (omega (arith, grows, begun.counted)) it.counted)
 
 module _ {S : Type 0} (g : Ghosts S) (ask : Ask) (which : Archive → List Remembered) (old mid last : Store S) (walk new : Walk S) (is : last ≡ new.store)
-    (first : GoesIn g (HoldsTables g) old mid (λ a b. b ≡ a)) (begun : BeginsOver g mid ask.list which walk) (grows : wants_of old ≤ wants_of mid)
-    (up : HasReturned g mid → IsOpen g old) where
+    (first : RelatesArchivesUnder g (HoldsTables g) old mid (λ a b. b ≡ a)) (begun : BeginsOver g mid ask.list which walk) (grows : memory_refusal_count old ≤ memory_refusal_count mid)
+    (up : StoreHasCleanDisk g mid → IsOpen g old) where
   -- of a question
-  pub walk_ends : {A : Type 0} (result : Result A DeskFault) → IfErr result (λ fault. IsUnlisted fault) → EndsWalk g walk new ask (λ fault. fault) result
-      → EndsAsk g old last IsAskFault result (λ a. IsUnreadable a ask (which a))
+  pub walk_ends : {A : Type 0} (result : Result A DeskError) → IfErr result (λ fault. IsMemoryOrDatabaseFault fault) → EndsWalk g walk new ask (λ fault. fault) result
+      → EndsDeskQuestion g old last IsAskFault result (λ a. IsQuestionUnreadable a ask (which a))
   walk_ends result unlisted it = record {
-    was_open = was_open_by g old last reason result (was_up g ask which old mid last walk new is first begun grows up (λ fault. fault) result it);
-    fault = each_fault IsUnlisted IsAskFault unlisted_asked result unlisted;
+    was_open = was_open_by g old last refusal_reason result (was_up g ask which old mid last walk new is first begun grows up (λ fault. fault) result it);
+    fault = each_fault IsMemoryOrDatabaseFault IsAskFault unlisted_asked result unlisted;
     caused = walk_caused g ask which old mid last walk new is first begun grows up (λ fault. fault) result it;
     counted = walk_counted g ask which old mid last walk new is first begun grows up (λ fault. fault) result it;
   }
 
 -- of an export
 module _ {S : Type 0} (g : Ghosts S) (ask : Ask) (old mid last : Store S) where
-  pub export_ends : (walk new : Walk S) → last ≡ new.store → GoesIn g (HoldsTables g) old mid (λ a b. b ≡ a)
-      → BeginsOver g mid ask.list (λ a. messages_in a ask.list) walk → wants_of old ≤ wants_of mid → (HasReturned g mid → IsOpen g old)
+  pub export_ends : (walk new : Walk S) → last ≡ new.store → RelatesArchivesUnder g (HoldsTables g) old mid (λ a b. b ≡ a)
+      → BeginsOver g mid ask.list (λ a. messages_in a ask.list) walk → memory_refusal_count old ≤ memory_refusal_count mid → (StoreHasCleanDisk g mid → IsOpen g old)
       → (result : Result ℕ ExportStop) → EndsWalk g walk new ask (λ stop. stop.fault) result → EndsExport g old last ask result
   export_ends walk new is first begun grows up result it =
       let which : Archive → List Remembered = λ a. messages_in a ask.list in record {
-        was_open = was_open_by g old last stop_reason result (was_up g ask which old mid last walk new is first begun grows up (λ stop. stop.fault) result it);
+        was_open = was_open_by g old last export_stop_reason result (was_up g ask which old mid last walk new is first begun grows up (λ stop. stop.fault) result it);
         caused = walk_caused g ask which old mid last walk new is first begun grows up (λ stop. stop.fault) result it;
         counted = walk_counted g ask which old mid last walk new is first begun grows up (λ stop. stop.fault) result it;
       }
 
   -- before its first byte
-  pub export_stops : (A : Type 0) (fault : DeskFault) (Unread : Archive → Type 0) → ((a : Archive) → Unread a → IsUnreadable a ask (messages_in a ask.list))
-      → EndsAsk g old last IsAskFault {A = A} (Err fault) Unread → EndsExport g old last ask (Err (record { written = 0; fault = fault }))
+  pub export_stops : (A : Type 0) (fault : DeskError) (Unread : Archive → Type 0) → ((a : Archive) → Unread a → IsQuestionUnreadable a ask (messages_in a ask.list))
+      → EndsDeskQuestion g old last IsAskFault {A = A} (Err fault) Unread → EndsExport g old last ask (Err (record { written = 0; fault = fault }))
   export_stops A fault Unread implies it =
       let stop : ExportStop = record { written = 0; fault = fault } in
-      let say : Reason → ℕ × Reason = λ why. (0, why) in record {
-        was_open = was_open_as g old last A ℕ reason stop_reason say fault stop refl it.was_open;
-        caused = λ bad. cause_among g old last Unread (λ a. IsUnreadable a ask (messages_in a ask.list)) implies (it.caused bad);
+      let say : RefusalReason → ℕ × RefusalReason = λ why. (0, why) in record {
+        was_open = was_open_as g old last A ℕ refusal_reason export_stop_reason say fault stop refl it.was_open;
+        caused = λ bad. cause_among g old last Unread (λ a. IsQuestionUnreadable a ask (messages_in a ask.list)) implies (it.caused bad);
         counted = it.counted;
       }
 
 -- ---- a walk that stops
 
-module _ {S : Type 0} (g : Ghosts S) (ask : Ask) (A : Type 0) (old mid new : Walk S) (before : Lasts g old.store mid.store) (last : Lasts g mid.store new.store)
-    (grows : wants_of old.store ≤ wants_of mid.store) where
+module _ {S : Type 0} (g : Ghosts S) (ask : Ask) (A : Type 0) (old mid new : Walk S) (before : StaysOpenUnlessDiskFails g old.store mid.store) (last : StaysOpenUnlessDiskFails g mid.store new.store)
+    (grows : memory_refusal_count old.store ≤ memory_refusal_count mid.store) where
   -- by a fault of the store
-  pub walk_stops : (fault : StoreFault) → (IsBroken (desk_fault fault) → HasWalkCause g old new ask)
-      → Raises {A = Unit {0}} IsWant (wants_of mid.store) (wants_of new.store) (Err fault) → EndsWalk g old new ask {A = A} (λ fault. fault) (Err (desk_fault fault))
+  pub walk_stops : (fault : StoreFault) → (IsDeskDatabaseFault (desk_error_of fault) → HasWalkCause g old new ask)
+      → RaisesRefusalCount {A = Unit {0}} IsMemoryRefusal (memory_refusal_count mid.store) (memory_refusal_count new.store) (Err fault)
+      → EndsWalk g old new ask {A = A} (λ fault. fault) (Err (desk_error_of fault))
   walk_stops fault why counted = record {
     lasts = lasts_then _ _ _ before last;
     caused = why;
-    counted = raises_after {A = A} IsWanting (wants_of old.store) (wants_of mid.store) (wants_of new.store) (Err (desk_fault fault)) grows
-        (wants_of_store (Unit {0}) A (wants_of mid.store) (wants_of new.store) fault counted);
+    counted = raises_after {A = A} IsDeskMemoryRefusal (memory_refusal_count old.store) (memory_refusal_count mid.store) (memory_refusal_count new.store) (Err (desk_error_of fault)) grows
+        (wants_of_store (Unit {0}) A (memory_refusal_count mid.store) (memory_refusal_count new.store) fault counted);
   }
 
   -- for want of memory, which is counted
-  pub walk_unheld : (counted : Walk S) → CountsOne new counted → wants_of mid.store ≤ wants_of new.store
+  pub walk_unheld : (counted : Walk S) → CountsOne new counted → memory_refusal_count mid.store ≤ memory_refusal_count new.store
       → EndsWalk g old counted ask {A = A} (λ fault. fault) (Err Memory)
   walk_unheld counted one more = record {
-    lasts = subst (Lasts g old.store) (sym one.store) (lasts_then _ _ _ before last);
+    lasts = subst (StaysOpenUnlessDiskFails g old.store) (sym one.store) (lasts_then _ _ _ before last);
     caused = λ bad. absurd (cc);
     counted =
-        let raised : wants_of counted.store ≡ wants_of new.store + 1 = ap (λ (s : Store S). wants_of s) one.store in
+        let raised : memory_refusal_count counted.store ≡ memory_refusal_count new.store + 1 = ap (λ (s : Store S). memory_refusal_count s) one.store in
         (omega (arith, raised, grows, more), (λ it. omega (arith, raised, grows, more)));
   }

@@ -3,55 +3,55 @@ use Rattle.std.proofs.Common.{◌≡◌, ◌≤◌, ◌⊎◌, ◌∙◌, inl, i
 use Rattle.sqlite.specs.Effect.{Database}
 use Rattle.sqlite.specs.Store.{Ghosts}
 use Rattle.sqlite.specs.Held.{state}
-use Rattle.archive_machine.specs.Records.{Archive}
-use Rattle.archive_machine.specs.Commands.{Refusal}
-use Rattle.archive_store.specs.Held.{held_of, wants_of}
-use Rattle.archive_store.specs.Told.{Counts, EndsBy, GoesIn, HasFailed, HoldsTables, Lasts}
-use Rattle.archive_port.specs.Wanting.{IsWant}
+use Rattle.archive_model.specs.Records.{Archive}
+use Rattle.archive_model.specs.Commands.{Refusal}
+use Rattle.archive_store.specs.Held.{store_connection, memory_refusal_count}
+use Rattle.archive_store.specs.Told.{CountsRefusals, EndsWithCause, RelatesArchivesUnder, DiskHasFailed, HoldsTables, StaysOpenUnlessDiskFails}
+use Rattle.archive_port.specs.Wanting.{IsMemoryRefusal}
 use Rattle.archive_store.specs.declared.store.Store.{Store}
 use Rattle.archive_port.specs.declared.faults.StoreFault.{StoreFault}
 use Rattle.archive_port.specs.declared.faults.StoreFault.TheVariants as faults
 use Rattle.archive_store.proofs.CauseLemmas.{more_since}
 use Rattle.archive_port.proofs.WantLemmas.{raises_after}
-use Rattle.archive_desk.specs.Causes.{HasCauseBehind}
+use Rattle.archive_desk.specs.Causes.{HasPartialCallCause}
 use Rattle.archive_desk.specs.Ending.{EndsImport}
-use Rattle.archive_desk.specs.Importing.{IsImportBroken, IsImportWant}
-use Rattle.archive_desk.specs.declared.importing.ImportFault.{ImportFault}
-use Rattle.archive_desk.specs.declared.importing.ImportFault.TheVariants.{Store as Stored}
+use Rattle.archive_desk.specs.Importing.{IsImportDatabaseFault, IsImportStoreMemoryRefusal}
+use Rattle.archive_desk.specs.declared.importing.ImportError.{ImportError}
+use Rattle.archive_desk.specs.declared.importing.ImportError.TheVariants.{Store as Stored}
 use Rattle.archive_desk.specs.declared.importing.ImportStop.{ImportStop}
 use Rattle.archive_desk.proofs.CauseLemmas.{each_fault}
 
 -- of the faults of the store E14 alone
-pub wanted_by : (fault : StoreFault) → IsImportWant (Stored fault) → IsWant fault
+pub wanted_by : (fault : StoreFault) → IsImportStoreMemoryRefusal (Stored fault) → IsMemoryRefusal fault
 wanted_by fault it = cc
 
-module _ {S : Type 0} (g : Ghosts S) (Premise : Store S → Type 0) (IsStopWant : ImportFault → Type 0) where
+module _ {S : Type 0} (g : Ghosts S) (Premise : Store S → Type 0) (IsStopWant : ImportError → Type 0) where
   -- ---- behind other calls: the faults of the disk never get fewer, and no limit was set
 
-  module _ (old mid new : Store S) (Before : Archive → Archive → Type 0) (before : GoesIn g Premise old mid Before) (last : Lasts g mid new)
-      (grows : wants_of old ≤ wants_of mid) (Stops Stops' : Archive → ℕ → Database → Type 0)
+  module _ (old mid new : Store S) (Before : Archive → Archive → Type 0) (before : RelatesArchivesUnder g Premise old mid Before) (last : StaysOpenUnlessDiskFails g mid new)
+      (grows : memory_refusal_count old ≤ memory_refusal_count mid) (Stops Stops' : Archive → ℕ → Database → Type 0)
       (implies : (a b : Archive) (done : ℕ) (db : Database) → Before a b → Stops b done db → Stops' a done db) where
-    cause_after : (done : ℕ) → HasCauseBehind g mid new Premise (λ a db. Stops a done db) → HasCauseBehind g old new Premise (λ a db. Stops' a done db)
+    cause_after : (done : ℕ) → HasPartialCallCause g mid new Premise (λ a db. Stops a done db) → HasPartialCallCause g old new Premise (λ a db. Stops' a done db)
     cause_after done why = λ returned held free.
         let there = before.1 (last.returned returned) held in
         elim (why returned there.0 (before.0.limit ∙ free)) [
-          | inl more ↦ inl (more_since (state g (held_of old)) (state g (held_of mid)) (state g (held_of new)) before.0 more)
+          | inl more ↦ inl (more_since (state g (store_connection old)) (state g (store_connection mid)) (state g (store_connection new)) before.0 more)
           | inr stops ↦ inr (implies _ _ done _ there.1 stops)
         ]
 
     pub import_ends_after : {A : Type 0} (result : Result A ImportStop) → EndsImport g mid new Premise IsStopWant result Stops → EndsImport g old new Premise IsStopWant result Stops'
     import_ends_after result it = record {
-      caused = each_fault (λ (stop : ImportStop). IsImportBroken stop.fault → HasCauseBehind g mid new Premise (λ a db. Stops a stop.done db))
-          (λ (stop : ImportStop). IsImportBroken stop.fault → HasCauseBehind g old new Premise (λ a db. Stops' a stop.done db))
+      caused = each_fault (λ (stop : ImportStop). IsImportDatabaseFault stop.fault → HasPartialCallCause g mid new Premise (λ a db. Stops a stop.done db))
+          (λ (stop : ImportStop). IsImportDatabaseFault stop.fault → HasPartialCallCause g old new Premise (λ a db. Stops' a stop.done db))
           (λ stop why bad. cause_after stop.done (why bad)) result it.caused;
-      counted = raises_after (λ (stop : ImportStop). IsStopWant stop.fault) (wants_of old) (wants_of mid) (wants_of new) result grows it.counted;
+      counted = raises_after (λ (stop : ImportStop). IsStopWant stop.fault) (memory_refusal_count old) (memory_refusal_count mid) (memory_refusal_count new) result grows it.counted;
     }
 
   module _ (old new : Store S) (A B : Type 0) (Stops : Archive → ℕ → Database → Type 0) where
     -- ---- a stop that is not E15
 
-    pub import_unbroken : (done : ℕ) (fault : ImportFault) (stop : ImportStop) → (IsImportBroken fault → ⊥) → stop ≡ record { done = done; fault = fault }
-        → Counts {A = A} (λ (s : ImportStop). IsStopWant s.fault) old new (Err stop) → EndsImport g old new Premise IsStopWant {A = A} (Err stop) Stops
+    pub import_unbroken : (done : ℕ) (fault : ImportError) (stop : ImportStop) → (IsImportDatabaseFault fault → ⊥) → stop ≡ record { done = done; fault = fault }
+        → CountsRefusals {A = A} (λ (s : ImportStop). IsStopWant s.fault) old new (Err stop) → EndsImport g old new Premise IsStopWant {A = A} (Err stop) Stops
     import_unbroken done fault stop off is counted =
         record { caused = λ bad. absurd (off (sym (ap (λ (s : ImportStop). s.fault) is) ∙ bad)); counted = counted }
 
@@ -66,9 +66,9 @@ module _ {S : Type 0} (g : Ghosts S) (Premise : Store S → Type 0) (IsStopWant 
 
     -- ---- a call of the store failed
 
-    module _ (holds : (store : Store S) → Premise store → HoldsTables g store) (wants : (fault : StoreFault) → IsStopWant (Stored fault) → IsWant fault) where
+    module _ (holds : (store : Store S) → Premise store → HoldsTables g store) (wants : (fault : StoreFault) → IsStopWant (Stored fault) → IsMemoryRefusal fault) where
       pub import_stopped : (Cause : Type 0) (fault : StoreFault) (reasons : List Refusal) (done : ℕ) (stop : ImportStop) → stop ≡ record { done = done; fault = Stored fault }
-          → (Cause → HasFailed g old new ⊎ ((a : Archive) → Stops a done (state g (held_of new)).now)) → EndsBy g old new Cause {A = A} (Err fault) reasons
+          → (Cause → DiskHasFailed g old new ⊎ ((a : Archive) → Stops a done (state g (store_connection new)).now)) → EndsWithCause g old new Cause {A = A} (Err fault) reasons
           → EndsImport g old new Premise IsStopWant {A = B} (Err stop) Stops
       import_stopped Cause fault reasons done stop is why it = subst (λ s. EndsImport g old new Premise IsStopWant {A = B} (Err s) Stops) (sym is) (record {
         caused = λ bad returned ready free.

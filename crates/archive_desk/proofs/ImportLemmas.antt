@@ -2,38 +2,39 @@
 use Rattle.std.proofs.Common.{◌≡◌, ◌≤◌, refl, sym, ◌∙◌, subst, inl, inr, ℕ, Bool, true, false, not, cond, List, length, take, Option, Some, None, Result, Ok, Err}
 use Rattle.std.specs.Prelude.{MatchOption, option_map}
 use Rattle.sqlite.specs.Store.{Ghosts}
-use Rattle.mbox_core.specs.Division.{Item, Divides}
+use Rattle.mbox_core.specs.Division.{Item, DividesIntoItems}
 use Rattle.mbox_core.specs.Faults.{IsCutFault}
 use Rattle.mbox_core.specs.declared.faults.MboxFault.{MboxFault}
 use Rattle.mbox_core.specs.declared.faults.MboxFault.TheVariants.{Preamble, Read, Memory, Failed}
-use Rattle.archive_machine.specs.Records.{Archive}
-use Rattle.archive_machine.specs.Commands.{Refusal, no_list, bad_name, bad_text, list_exists, person_exists, no_person, token_taken}
-use Rattle.archive_machine.specs.Commands.{no_message, already_withdrawn, not_withdrawn, bad_days, list_full, too_large}
-use Rattle.archive_machine.specs.Questions.{has_list, list_refusal}
+use Rattle.archive_model.specs.Records.{Archive}
+use Rattle.archive_model.specs.Commands.{Refusal, no_list, bad_name, bad_text, list_exists, person_exists, no_person, token_taken}
+use Rattle.archive_model.specs.Commands.{no_message, already_withdrawn, not_withdrawn, bad_days, list_full, too_large}
+use Rattle.archive_model.specs.Questions.{has_list, list_refusal}
 use Rattle.sqlite.specs.Held.{state}
 use Rattle.sqlite.specs.State.{HasCleanDisk}
-use Rattle.archive_machine.specs.Runs.{taken}
-use Rattle.archive_machine.specs.Sound.{IsFiledRight}
-use Rattle.archive_tables.specs.Tables.{IsKept, archive_of}
-use Rattle.archive_store.specs.Batches.{AddsAll, IsAfter}
-use Rattle.archive_port.specs.Adding.{IsRefusedAt, tally_of as store_tally}
-use Rattle.archive_store.specs.Held.{held_of}
-use Rattle.archive_port.specs.Replies.{refusal}
-use Rattle.archive_port.specs.declared.reports.AddStop.{AddStop}
+use Rattle.archive_model.specs.Runs.{taken}
+use Rattle.archive_model.specs.Sound.{IsIndexedCorrectly}
+use Rattle.archive_tables.specs.Tables.{IsArchiveAtRest, archive_of}
+use Rattle.archive_store.specs.Batches.{AddsAllMessages, HoldsAddedItemsIfOpen}
+use Rattle.archive_port.specs.Adding.{IsRefusedAt, tally_of_report as store_tally}
+use Rattle.archive_store.specs.Held.{store_connection}
+use Rattle.archive_port.specs.Replies.{refusal_of_fault}
+use Rattle.archive_port.specs.declared.reports.AddError.{AddError}
 use Rattle.archive_port.specs.declared.reports.AddReport.{AddReport}
-use Rattle.archive_store.specs.Told.{Lasts, HoldsTables, archive_in, GoesIn, GoesInIfOpen, Calls}
+use Rattle.archive_store.specs.Told.{StaysOpenUnlessDiskFails, HoldsTables, archive_in, RelatesArchivesUnder, RelatesArchivesUnderIfOpen, CallsReadyStore}
 use Rattle.archive_store.specs.declared.store.Store.{Store}
 use Rattle.archive_port.specs.declared.faults.StoreFault.{StoreFault}
 use Rattle.archive_port.specs.declared.faults.StoreFault.TheVariants.{Memory as NoMemory}
 use Rattle.archive_store.proofs.Joins.{goes_in_as, goes_in_as_if_open}
 use Rattle.archive_store.proofs.RightLemmas.{taken_right}
 use Rattle.archive_desk.proofs.CallLemmas.{calls_after, calls_right}
-use Rattle.archive_desk.specs.Holding.{GoesHeld, GoesHeldIfOpen, CallsHeld}
-use Rattle.archive_desk.specs.Importing.{Cause, no_mbox, not_taken, stop_reason, tally_of, HasAdded, HasImportedFirst, IsImported, IsRefusedAdd, IsRefusedImport, IsBrokenAdd, IsBrokenImport}
+use Rattle.archive_desk.specs.Holding.{RelatesTableArchives, RelatesTableArchivesIfOpen, CallsStoreWithTables}
+use Rattle.archive_desk.specs.Importing.{ImportStopCause, no_mbox, not_taken, import_stop_reason, import_tally_of, HasAddedAllItems}
+use Rattle.archive_desk.specs.Importing.{HasImportedFirst, IsImported, IsRefusedAdd, IsRefusedImport, IsBrokenAdd, IsBrokenImport}
 use Rattle.archive_desk.specs.declared.importing.Report.{Report}
 use Rattle.archive_desk.specs.declared.importing.ImportStop.{ImportStop}
-use Rattle.archive_desk.specs.declared.importing.ImportFault.{ImportFault}
-use Rattle.archive_desk.specs.declared.importing.ImportFault.TheVariants.{Mbox, Store as Stored}
+use Rattle.archive_desk.specs.declared.importing.ImportError.{ImportError}
+use Rattle.archive_desk.specs.declared.importing.ImportError.TheVariants.{Mbox, Store as Stored}
 
 -- ---- the list is not there
 
@@ -54,21 +55,24 @@ module _ {S : Type 0} (g : Ghosts S) (old new : Store S) (list text : List ℕ) 
   abbrev Says : Archive → Archive → Report → Type 0
   Says a b report = IsImported list text a b report
 
-  abbrev Refuses : Archive → Archive → ℕ × Cause → Type 0
+  abbrev Refuses : Archive → Archive → ℕ × ImportStopCause → Type 0
   Refuses a b why = IsRefusedImport list text a b why.0 why.1
 
   abbrev Stops : Archive → Archive → ImportStop → Type 0
   Stops a b stop = IsBrokenImport list text a b stop.done stop.fault
 
   pub list_not_found : (fault : StoreFault)
-      → MatchOption (refusal fault) (GoesInIfOpen g (HoldsTables g) old new (λ a b. b ≡ a)) (λ why. GoesIn g (HoldsTables g) old new (λ a b. (b ≡ a) × (list_refusal a list ≡ Some why)))
-      → CallsHeld g old new {A = Report} stop_reason (Err (record { done = 0; fault = Stored fault })) Says Refuses Stops
-  list_not_found fault asked = by_reason (refusal fault) asked
+      → MatchOption (refusal_of_fault fault) (RelatesArchivesUnderIfOpen g (HoldsTables g) old new (λ a b. b ≡ a))
+      (λ why. RelatesArchivesUnder g (HoldsTables g) old new (λ a b. (b ≡ a) × (list_refusal a list ≡ Some why)))
+      → CallsStoreWithTables g old new {A = Report} import_stop_reason (Err (record { done = 0; fault = Stored fault })) Says Refuses Stops
+  list_not_found fault asked = by_reason (refusal_of_fault fault) asked
     where
       by_reason : (r : Option Refusal)
-          → MatchOption r (GoesInIfOpen g (HoldsTables g) old new (λ a b. b ≡ a)) (λ why. GoesIn g (HoldsTables g) old new (λ a b. (b ≡ a) × (list_refusal a list ≡ Some why)))
-          → MatchOption (option_map (λ (cause : Cause). (0, cause)) (option_map not_taken r)) (GoesHeldIfOpen g old new (λ a b. Stops a b (record { done = 0; fault = Stored fault })))
-          (λ why. GoesHeld g old new (λ a b. Refuses a b why))
+          → MatchOption r (RelatesArchivesUnderIfOpen g (HoldsTables g) old new (λ a b. b ≡ a))
+          (λ why. RelatesArchivesUnder g (HoldsTables g) old new (λ a b. (b ≡ a) × (list_refusal a list ≡ Some why)))
+          → MatchOption (option_map (λ (cause : ImportStopCause). (0, cause)) (option_map not_taken r))
+          (RelatesTableArchivesIfOpen g old new (λ a b. Stops a b (record { done = 0; fault = Stored fault })))
+          (λ why. RelatesTableArchives g old new (λ a b. Refuses a b why))
       by_reason None it =
           goes_in_as_if_open g (HoldsTables g) old new (λ a b. b ≡ a) (λ a b. Stops a b (record { done = 0; fault = Stored fault })) (λ a b same. inl (refl, same)) it
       by_reason (Some why) it =
@@ -78,8 +82,8 @@ module _ {S : Type 0} (g : Ghosts S) (old new : Store S) (list text : List ℕ) 
   -- ---- the file is not cut
 
   pub not_mbox : (fault : MboxFault) → IsCutFault text fault
-      → GoesIn g (HoldsTables g) old new (λ a b. (b ≡ a) × (list_refusal a list ≡ None) × (has_list a list ≡ true))
-      → CallsHeld g old new {A = Report} stop_reason (Err (record { done = 0; fault = Mbox fault })) Says Refuses Stops
+      → RelatesArchivesUnder g (HoldsTables g) old new (λ a b. (b ≡ a) × (list_refusal a list ≡ None) × (has_list a list ≡ true))
+      → CallsStoreWithTables g old new {A = Report} import_stop_reason (Err (record { done = 0; fault = Mbox fault })) Says Refuses Stops
   not_mbox (Preamble offset) why before =
       goes_in_as g (HoldsTables g) old new (λ a b. (b ≡ a) × (list_refusal a list ≡ None) × (has_list a list ≡ true)) (λ a b. Refuses a b (0, no_mbox offset))
       (λ a b h. (refl, h.0, h.2, why)) before
@@ -87,16 +91,16 @@ module _ {S : Type 0} (g : Ghosts S) (old new : Store S) (list text : List ℕ) 
   not_mbox Memory why before = absurd why
   not_mbox Failed why before = absurd why
 
-  pub no_room_to_cut : GoesIn g (HoldsTables g) old new (λ a b. (b ≡ a) × (list_refusal a list ≡ None) × (has_list a list ≡ true))
-      → CallsHeld g old new {A = Report} stop_reason (Err (record { done = 0; fault = Stored NoMemory })) Says Refuses Stops
+  pub no_room_to_cut : RelatesArchivesUnder g (HoldsTables g) old new (λ a b. (b ≡ a) × (list_refusal a list ≡ None) × (has_list a list ≡ true))
+      → CallsStoreWithTables g old new {A = Report} import_stop_reason (Err (record { done = 0; fault = Stored NoMemory })) Says Refuses Stops
   no_room_to_cut before = (before.0, (λ returned held up. let it = before.1 returned held in (it.0, inl (refl, it.1.0))))
 
 -- ---- its messages are added, one after the other
 
-module _ {S : Type 0} (g : Ghosts S) (old new : Store S) (list : List ℕ) (items : List Item) (lasts : Lasts g old new) where
+module _ {S : Type 0} (g : Ghosts S) (old new : Store S) (list : List ℕ) (items : List Item) (lasts : StaysOpenUnlessDiskFails g old new) where
   -- all of them
-  pub added_all : (counts : AddReport) (report : Report) → tally_of report ≡ store_tally counts → AddsAll g (held_of old) (held_of new) (Ok counts) list items
-      → GoesHeld g old new (λ a b. HasAdded list items a b report)
+  pub added_all : (counts : AddReport) (report : Report) → import_tally_of report ≡ store_tally counts → AddsAllMessages g (store_connection old) (store_connection new) (Ok counts) list items
+      → RelatesTableArchives g old new (λ a b. HasAddedAllItems list items a b report)
   added_all counts report same adds = (
     lasts,
     λ returned held.
@@ -105,22 +109,23 @@ module _ {S : Type 0} (g : Ghosts S) (old new : Store S) (list : List ℕ) (item
   )
 
   -- the first of them
-  module _ (stop : AddStop) (bound : stop.done ≤ length items) where
+  module _ (stop : AddError) (bound : stop.done ≤ length items) where
     abbrev first : List Item
     first = take stop.done items
 
-    pub added_first : AddsAll g (held_of old) (held_of new) (Err stop) list items
-        → CallsHeld g old new {A = Report} stop_reason (Err (record { done = stop.done; fault = Stored stop.fault })) (λ a b report. HasAdded list items a b report)
+    pub added_first : AddsAllMessages g (store_connection old) (store_connection new) (Err stop) list items
+        → CallsStoreWithTables g old new {A = Report} import_stop_reason (Err (record { done = stop.done; fault = Stored stop.fault })) (λ a b report. HasAddedAllItems list items a b report)
         (λ a b why. IsRefusedAdd list items a b why.0 why.1) (λ a b stop. IsBrokenAdd list items a b stop.done stop.fault)
-    added_first adds = by_reason (refusal stop.fault) adds
+    added_first adds = by_reason (refusal_of_fault stop.fault) adds
       where
         by_reason : (r : Option Refusal)
-            → (HasCleanDisk (state g (held_of new)) → IsKept (state g (held_of old)) → MatchOption r (IsAfter (state g (held_of new)) (archive_in g old) list first)
-            (λ why. IsKept (state g (held_of new)) × (archive_of (state g (held_of new)) ≡ (taken (archive_in g old) list first).archive)
+            → (HasCleanDisk (state g (store_connection new)) → IsArchiveAtRest (state g (store_connection old))
+            → MatchOption r (HoldsAddedItemsIfOpen (state g (store_connection new)) (archive_in g old) list first)
+            (λ why. IsArchiveAtRest (state g (store_connection new)) × (archive_of (state g (store_connection new)) ≡ (taken (archive_in g old) list first).archive)
             × IsRefusedAt (archive_in g old) list items stop.done why))
-            → MatchOption {T = ℕ × Cause} (option_map (λ (cause : Cause). (stop.done, cause)) (option_map not_taken r))
-            (GoesHeldIfOpen g old new (λ a b. IsBrokenAdd list items a b stop.done (Stored stop.fault)))
-            (λ why. GoesHeld g old new (λ a b. IsRefusedAdd list items a b why.0 why.1))
+            → MatchOption {T = ℕ × ImportStopCause} (option_map (λ (cause : ImportStopCause). (stop.done, cause)) (option_map not_taken r))
+            (RelatesTableArchivesIfOpen g old new (λ a b. IsBrokenAdd list items a b stop.done (Stored stop.fault)))
+            (λ why. RelatesTableArchives g old new (λ a b. IsRefusedAdd list items a b why.0 why.1))
         by_reason None it = (
           lasts,
           λ returned held up.
@@ -136,12 +141,12 @@ module _ {S : Type 0} (g : Ghosts S) (old new : Store S) (list : List ℕ) (item
 
 -- ---- the messages of a file
 
-pub refused_add : (list text : List ℕ) (items : List Item) (a b c : Archive) (done : ℕ) (cause : Cause) → Divides text items
+pub refused_add : (list text : List ℕ) (items : List Item) (a b c : Archive) (done : ℕ) (cause : ImportStopCause) → DividesIntoItems text items
     → (b ≡ a) × (list_refusal a list ≡ None) × (has_list a list ≡ true) → IsRefusedAdd list items b c done cause → IsRefusedImport list text a c done cause
 refused_add list text items a b c done cause divides before refused =
     by_cause cause (subst (λ x. IsRefusedAdd list items x c done cause) before.0 refused)
   where
-    by_cause : (cause : Cause) → IsRefusedAdd list items a c done cause → IsRefusedImport list text a c done cause
+    by_cause : (cause : ImportStopCause) → IsRefusedAdd list items a c done cause → IsRefusedImport list text a c done cause
     by_cause (no_mbox offset) it = absurd it
     by_cause (not_taken no_list) it = absurd (let never : true ≡ false = sym before.2 ∙ it.1.1 in cc)
     by_cause (not_taken list_full) it = (items, divides, it.0, it.1)
@@ -157,27 +162,27 @@ refused_add list text items a b c done cause divides before refused =
     by_cause (not_taken bad_days) it = absurd it.1
     by_cause (not_taken too_large) it = absurd it.1
 
-pub broken_add : (list text : List ℕ) (items : List Item) (a b c : Archive) (done : ℕ) (fault : ImportFault) → Divides text items
+pub broken_add : (list text : List ℕ) (items : List Item) (a b c : Archive) (done : ℕ) (fault : ImportError) → DividesIntoItems text items
     → b ≡ a → IsBrokenAdd list items b c done fault → IsBrokenImport list text a c done fault
 broken_add list text items a b c done (Mbox fault) divides same broken = absurd broken
 broken_add list text items a b c done (Stored fault) divides same broken =
     inr (items, divides, subst (λ x. IsBrokenAdd list items x c done (Stored fault)) same broken)
 
-pub completed : (list text : List ℕ) (items : List Item) (a b c : Archive) (report : Report) → Divides text items
-    → (b ≡ a) × (list_refusal a list ≡ None) × (has_list a list ≡ true) → HasAdded list items b c report → IsImported list text a c report
+pub completed : (list text : List ℕ) (items : List Item) (a b c : Archive) (report : Report) → DividesIntoItems text items
+    → (b ≡ a) × (list_refusal a list ≡ None) × (has_list a list ≡ true) → HasAddedAllItems list items b c report → IsImported list text a c report
 completed list text items a b c report divides before added =
-    record { is_there = before.2; items = items; divided = divides; added = subst (λ x. HasAdded list items x c report) before.0 added }
+    record { is_there = before.2; items = items; divided = divides; added = subst (λ x. HasAddedAllItems list items x c report) before.0 added }
 
-module _ {S : Type 0} (g : Ghosts S) (old mid new : Store S) (list text : List ℕ) (items : List Item) (divides : Divides text items) where
+module _ {S : Type 0} (g : Ghosts S) (old mid new : Store S) (list text : List ℕ) (items : List Item) (divides : DividesIntoItems text items) where
   -- the list is there, the file is cut, and its messages are added
-  pub import_after : (result : Result Report ImportStop) → GoesIn g (HoldsTables g) old mid (λ a b. (b ≡ a) × (list_refusal a list ≡ None) × (has_list a list ≡ true))
-      → CallsHeld g mid new stop_reason result (λ a b report. HasAdded list items a b report) (λ a b why. IsRefusedAdd list items a b why.0 why.1)
+  pub import_after : (result : Result Report ImportStop) → RelatesArchivesUnder g (HoldsTables g) old mid (λ a b. (b ≡ a) × (list_refusal a list ≡ None) × (has_list a list ≡ true))
+      → CallsStoreWithTables g mid new import_stop_reason result (λ a b report. HasAddedAllItems list items a b report) (λ a b why. IsRefusedAdd list items a b why.0 why.1)
       (λ a b stop. IsBrokenAdd list items a b stop.done stop.fault)
-      → CallsHeld g old new stop_reason result (λ a b report. IsImported list text a b report) (λ a b why. IsRefusedImport list text a b why.0 why.1)
+      → CallsStoreWithTables g old new import_stop_reason result (λ a b report. IsImported list text a b report) (λ a b why. IsRefusedImport list text a b why.0 why.1)
       (λ a b stop. IsBrokenImport list text a b stop.done stop.fault)
   import_after result before call =
-      calls_after g (HoldsTables g) old mid new stop_reason (λ a b. (b ≡ a) × (list_refusal a list ≡ None) × (has_list a list ≡ true))
-      (λ a b report. HasAdded list items a b report) (λ a b report. IsImported list text a b report)
+      calls_after g (HoldsTables g) old mid new import_stop_reason (λ a b. (b ≡ a) × (list_refusal a list ≡ None) × (has_list a list ≡ true))
+      (λ a b report. HasAddedAllItems list items a b report) (λ a b report. IsImported list text a b report)
       (λ a b why. IsRefusedAdd list items a b why.0 why.1) (λ a b why. IsRefusedImport list text a b why.0 why.1)
       (λ a b stop. IsBrokenAdd list items a b stop.done stop.fault) (λ a b stop. IsBrokenImport list text a b stop.done stop.fault)
       (λ a b c report first it. completed list text items a b c report divides first it)
@@ -187,16 +192,16 @@ module _ {S : Type 0} (g : Ghosts S) (old mid new : Store S) (list text : List �
 -- ---- what is filed
 
 -- what was added is filed right
-module _ (list text : List ℕ) (a b : Archive) (right : IsFiledRight a) where
-  imported_right : (report : Report) → IsImported list text a b report → IsFiledRight b
-  imported_right report it = subst IsFiledRight (sym it.added.archive_is) (taken_right a list it.items right)
+module _ (list text : List ℕ) (a b : Archive) (right : IsIndexedCorrectly a) where
+  imported_right : (report : Report) → IsImported list text a b report → IsIndexedCorrectly b
+  imported_right report it = subst IsIndexedCorrectly (sym it.added.archive_is) (taken_right a list it.items right)
 
-  first_right : (done : ℕ) → HasImportedFirst list text done a b → IsFiledRight b
-  first_right done it = subst IsFiledRight (sym it.2.1) (taken_right a list (take done it.0) right)
+  first_right : (done : ℕ) → HasImportedFirst list text done a b → IsIndexedCorrectly b
+  first_right done it = subst IsIndexedCorrectly (sym it.2.1) (taken_right a list (take done it.0) right)
 
-  refused_right : (done : ℕ) (cause : Cause) → IsRefusedImport list text a b done cause → IsFiledRight b
-  refused_right done (no_mbox offset) it = subst IsFiledRight (sym it.1) right
-  refused_right done (not_taken no_list) it = subst IsFiledRight (sym it.1) right
+  refused_right : (done : ℕ) (cause : ImportStopCause) → IsRefusedImport list text a b done cause → IsIndexedCorrectly b
+  refused_right done (no_mbox offset) it = subst IsIndexedCorrectly (sym it.1) right
+  refused_right done (not_taken no_list) it = subst IsIndexedCorrectly (sym it.1) right
   refused_right done (not_taken list_full) it = first_right done (it.0, it.1, it.2)
   refused_right done (not_taken bad_name) it = absurd it
   refused_right done (not_taken bad_text) it = absurd it
@@ -210,17 +215,17 @@ module _ (list text : List ℕ) (a b : Archive) (right : IsFiledRight a) where
   refused_right done (not_taken bad_days) it = absurd it
   refused_right done (not_taken too_large) it = absurd it
 
-  broken_right : (done : ℕ) (fault : ImportFault) → IsBrokenImport list text a b done fault → IsFiledRight b
+  broken_right : (done : ℕ) (fault : ImportError) → IsBrokenImport list text a b done fault → IsIndexedCorrectly b
   broken_right done (Mbox fault) it = absurd it
-  broken_right done (Stored fault) it = elim it [ inl none ↦ subst IsFiledRight (sym none.1) right | inr first ↦ first_right done first ]
+  broken_right done (Stored fault) it = elim it [ inl none ↦ subst IsIndexedCorrectly (sym none.1) right | inr first ↦ first_right done first ]
 
 -- an import into a store that is ready leaves it ready
 pub import_right : {S : Type 0} (g : Ghosts S) (old new : Store S) (list text : List ℕ) (result : Result Report ImportStop)
-    → CallsHeld g old new stop_reason result (λ a b report. IsImported list text a b report) (λ a b why. IsRefusedImport list text a b why.0 why.1)
+    → CallsStoreWithTables g old new import_stop_reason result (λ a b report. IsImported list text a b report) (λ a b why. IsRefusedImport list text a b why.0 why.1)
     (λ a b stop. IsBrokenImport list text a b stop.done stop.fault)
-    → Calls g old new stop_reason result (λ a b report. IsImported list text a b report) (λ a b why. IsRefusedImport list text a b why.0 why.1)
+    → CallsReadyStore g old new import_stop_reason result (λ a b report. IsImported list text a b report) (λ a b why. IsRefusedImport list text a b why.0 why.1)
     (λ a b stop. IsBrokenImport list text a b stop.done stop.fault)
 import_right g old new list text result call =
-    calls_right g old new stop_reason (λ a b report. IsImported list text a b report) (λ a b why. IsRefusedImport list text a b why.0 why.1)
+    calls_right g old new import_stop_reason (λ a b report. IsImported list text a b report) (λ a b why. IsRefusedImport list text a b why.0 why.1)
     (λ a b stop. IsBrokenImport list text a b stop.done stop.fault) (λ a b report it right. imported_right list text a b right report it)
     (λ a b why it right. refused_right list text a b right why.0 why.1 it) (λ a b stop it right. broken_right list text a b right stop.done stop.fault it) result call

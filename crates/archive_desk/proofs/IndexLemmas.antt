@@ -6,21 +6,21 @@ use Rattle.std.proofs.lemmas.List.{append-nil, map-append}
 use Rattle.std.proofs.lemmas.List.Elements.{filter-append}
 use Rattle.sqlite.specs.Store.{Ghosts}
 use Rattle.archive_tables.proofs.LastLemmas.{lasts_then}
-use Rattle.archive_machine.specs.Records.{Archive, Message as Remembered}
-use Rattle.archive_machine.specs.Messages.{remembered}
-use Rattle.archive_machine.specs.Questions.{list_refusal}
-use Rattle.archive_machine.specs.declared.messages.Message.{Message}
-use Rattle.archive_port.specs.Replies.{refusal}
-use Rattle.archive_store.specs.Told.{AsksIn, GoesIn, GoesInIfOpen, Lasts, HasReturned, HoldsTables, IsOpen, archive_in}
+use Rattle.archive_model.specs.Records.{Archive, Message as Remembered}
+use Rattle.archive_model.specs.Messages.{archived_message}
+use Rattle.archive_model.specs.Questions.{list_refusal}
+use Rattle.archive_model.specs.declared.messages.Message.{Message}
+use Rattle.archive_port.specs.Replies.{refusal_of_fault}
+use Rattle.archive_store.specs.Told.{AnswersFromStoreUnder, RelatesArchivesUnder, RelatesArchivesUnderIfOpen, StaysOpenUnlessDiskFails, StoreHasCleanDisk, HoldsTables, IsOpen, archive_in}
 use Rattle.archive_store.specs.Walking.{BeginsOver, Walk, WalksOver}
 use Rattle.archive_desk.proofs.Counted.{CountsOne}
 use Rattle.archive_store.specs.declared.store.Store.{Store}
-use Rattle.archive_results.specs.Access.{Ask, ReaderMarks, is_shown, reader_marks}
-use Rattle.archive_desk.specs.Asking.{IsEnough}
-use Rattle.archive_desk.specs.Faults.{ask_reason, declined, desk_fault, reason}
-use Rattle.archive_desk.specs.Walking.{IsUnlisted, ListsRows, PassesWithheld}
-use Rattle.archive_desk.specs.declared.faults.DeskFault.{DeskFault}
-use Rattle.archive_desk.specs.declared.faults.DeskFault.TheVariants.{NoList, NoPerson, NotInView, Store as Stored, Memory, Write}
+use Rattle.archive_results.specs.Access.{Ask, ReaderFacts, is_shown, reader_facts}
+use Rattle.archive_desk.specs.Asking.{DeterminesVerdicts}
+use Rattle.archive_desk.specs.Faults.{ask_reason, declined, desk_error_of, refusal_reason}
+use Rattle.archive_desk.specs.Walking.{IsMemoryOrDatabaseFault, ListsRows, SkipsWithheldMessages}
+use Rattle.archive_desk.specs.declared.faults.DeskError.{DeskError}
+use Rattle.archive_desk.specs.declared.faults.DeskError.TheVariants.{NoList, NoPerson, NotInView, Store as Stored, Memory, Write}
 use Rattle.archive_port.specs.declared.faults.StoreFault.{StoreFault}
 use Rattle.archive_desk.proofs.AskLemmas.{list_declined}
 use Rattle.archive_desk.proofs.CallLemmas.{calls_after}
@@ -35,7 +35,7 @@ IsMadeApart made = (xs ys : List Remembered) → made (xs ++ ys) ≡ made xs ++ 
 pub each_apart : {X : Type 0} (of : Remembered → X) → IsMadeApart (map of)
 each_apart of xs ys = map-append of xs ys
 
-module _ {X : Type 0} (made : List Remembered → List X) (apart : IsMadeApart made) (ask : Ask) (reader : ReaderMarks) where
+module _ {X : Type 0} (made : List Remembered → List X) (apart : IsMadeApart made) (ask : Ask) (reader : ReaderFacts) where
   -- of those of these messages that the policy shows
   abbrev pub made_of_shown : List Remembered → List X
   made_of_shown messages = made (filter (is_shown ask reader) messages)
@@ -62,25 +62,25 @@ module _ {X : Type 0} (made : List Remembered → List X) (apart : IsMadeApart m
   module _ {S : Type 0} (g : Ghosts S) where
     -- this was made of the messages that a walk gave, as far as the policy shows them
     abbrev pub ListedSoFar : (old now : Walk S) → List X → Type 0
-    ListedSoFar old now found = HasReturned g now.store → (all : List Remembered) (a : Archive) → WalksOver g ask.list all a [] old
+    ListedSoFar old now found = StoreHasCleanDisk g now.store → (all : List Remembered) (a : Archive) → WalksOver g ask.list all a [] old
         → (given : List Remembered) × WalksOver g ask.list all a given now × (found ≡ made_of_shown given)
 
     module _ (old mid new : Walk S) (so_many : List X) (so_far : ListedSoFar old mid so_many)
-        (was : HasReturned g new.store → HasReturned g mid.store) where
+        (was : StoreHasCleanDisk g new.store → StoreHasCleanDisk g mid.store) where
       -- one message more
       pub listed_more : (m : Message) (more : List X)
-          → (HasReturned g new.store → (all : List Remembered) (a : Archive) (given : List Remembered) → WalksOver g ask.list all a given mid
-          → WalksOver g ask.list all a (given ++ remembered ask.list m ∷ []) new)
-          → more ≡ so_many ++ made_of_shown (remembered ask.list m ∷ []) → ListedSoFar old new more
+          → (StoreHasCleanDisk g new.store → (all : List Remembered) (a : Archive) (given : List Remembered) → WalksOver g ask.list all a given mid
+          → WalksOver g ask.list all a (given ++ archived_message ask.list m ∷ []) new)
+          → more ≡ so_many ++ made_of_shown (archived_message ask.list m ∷ []) → ListedSoFar old new more
       listed_more m more gives is = λ returned all a w.
           let it = so_far (was returned) all a w in (
-            it.0 ++ remembered ask.list m ∷ [],
+            it.0 ++ archived_message ask.list m ∷ [],
             gives returned all a it.0 it.1,
-            is ∙ ap (λ xs. xs ++ made_of_shown (remembered ask.list m ∷ [])) it.2 ∙ sym (shown_apart it.0 (remembered ask.list m ∷ [])),
+            is ∙ ap (λ xs. xs ++ made_of_shown (archived_message ask.list m ∷ [])) it.2 ∙ sym (shown_apart it.0 (archived_message ask.list m ∷ [])),
           )
 
       -- messages that the policy does not show were passed by
-      pub listed_past : made [] ≡ [] → PassesWithheld g mid new ask reader {A = Unit {0}} (Ok tt) → ListedSoFar old new so_many
+      pub listed_past : made [] ≡ [] → SkipsWithheldMessages g mid new ask reader {A = Unit {0}} (Ok tt) → ListedSoFar old new so_many
       listed_past empty passes = λ returned all a w.
           let it = so_far (was returned) all a w in
           let past = passes.passed returned all a it.0 it.1 in (
@@ -90,7 +90,7 @@ module _ {X : Type 0} (made : List Remembered → List X) (apart : IsMadeApart m
           )
 
       -- the store fails at their marks
-      pub listed_unpassed : (fault : DeskFault) → reason fault ≡ None → (told : StoreFault) → PassesWithheld g mid new ask reader {A = Unit {0}} (Err told)
+      pub listed_unpassed : (fault : DeskError) → refusal_reason fault ≡ None → (told : StoreFault) → SkipsWithheldMessages g mid new ask reader {A = Unit {0}} (Err told)
           → ListsRows g old new ask reader made (Err fault)
       listed_unpassed fault none told passes = λ returned all a w.
           let it = so_far (was returned) all a w in
@@ -98,7 +98,7 @@ module _ {X : Type 0} (made : List Remembered → List X) (apart : IsMadeApart m
 
       -- none is left
       pub listed_all : (found : Vec X Global) → found.items ≡ so_many
-          → (HasReturned g new.store → (all : List Remembered) (a : Archive) (given : List Remembered) → WalksOver g ask.list all a given mid
+          → (StoreHasCleanDisk g new.store → (all : List Remembered) (a : Archive) (given : List Remembered) → WalksOver g ask.list all a given mid
           → WalksOver g ask.list all a given new × (given ≡ all)) → ListsRows g old new ask reader made (Ok found)
       listed_all found is ends = λ returned all a w.
           let it = so_far (was returned) all a w in
@@ -106,17 +106,17 @@ module _ {X : Type 0} (made : List Remembered → List X) (apart : IsMadeApart m
           ((here.0.held, here.0.archive_is), is ∙ it.2 ∙ ap made_of_shown here.1)
 
       -- memory is wanting at a message
-      pub listed_no_more : (m : Message) (fault : DeskFault) → reason fault ≡ None
-          → (HasReturned g new.store → (all : List Remembered) (a : Archive) (given : List Remembered) → WalksOver g ask.list all a given mid
-          → WalksOver g ask.list all a (given ++ remembered ask.list m ∷ []) new) → ListsRows g old new ask reader made (Err fault)
+      pub listed_no_more : (m : Message) (fault : DeskError) → refusal_reason fault ≡ None
+          → (StoreHasCleanDisk g new.store → (all : List Remembered) (a : Archive) (given : List Remembered) → WalksOver g ask.list all a given mid
+          → WalksOver g ask.list all a (given ++ archived_message ask.list m ∷ []) new) → ListsRows g old new ask reader made (Err fault)
       listed_no_more m fault none gives = λ returned all a w.
           let it = so_far (was returned) all a w in
           let here = gives returned all a it.0 it.1 in
           rw none (λ up. (here.held, here.archive_is))
 
       -- the store fails at the next
-      pub listed_unread : (fault : DeskFault) → reason fault ≡ None
-          → (HasReturned g new.store → (all : List Remembered) (a : Archive) (given : List Remembered) → WalksOver g ask.list all a given mid → IsOpen g new.store
+      pub listed_unread : (fault : DeskError) → refusal_reason fault ≡ None
+          → (StoreHasCleanDisk g new.store → (all : List Remembered) (a : Archive) (given : List Remembered) → WalksOver g ask.list all a given mid → IsOpen g new.store
           → WalksOver g ask.list all a given new)
           → ListsRows g old new ask reader made (Err fault)
       listed_unread fault none rests = λ returned all a w.
@@ -124,53 +124,54 @@ module _ {X : Type 0} (made : List Remembered → List X) (apart : IsMadeApart m
           rw none (λ up. let last = rests returned all a it.0 it.1 up in (last.held, last.archive_is))
 
     -- a want of memory that is counted changes nothing of it
-    pub listed_counted : (old new counted : Walk S) (fault : DeskFault) → CountsOne new counted → ListsRows g old new ask reader made (Err fault)
+    pub listed_counted : (old new counted : Walk S) (fault : DeskError) → CountsOne new counted → ListsRows g old new ask reader made (Err fault)
         → ListsRows g old counted ask reader made (Err fault)
     listed_counted old new counted fault one lists = λ returned all a w.
-        subst (λ s. MatchOption (reason fault) (IsOpen g s → HoldsTables g s × (archive_in g s ≡ a)) (λ _. HoldsTables g s × (archive_in g s ≡ a))) (sym one.store)
-        (lists (subst (HasReturned g) one.store returned) all a w)
+        subst (λ s. MatchOption (refusal_reason fault) (IsOpen g s → HoldsTables g s × (archive_in g s ≡ a)) (λ _. HoldsTables g s × (archive_in g s ≡ a))) (sym one.store)
+        (lists (subst (StoreHasCleanDisk g) one.store returned) all a w)
 
 -- ---- the walk
 
 module _ {X : Type 0} (made : List Remembered → List X) {S : Type 0} (g : Ghosts S) (old mid : Store S) (ask : Ask) (which : Archive → List Remembered) where
   -- this was made of those of some messages of the archive that the policy shows the reader
   abbrev pub Held : Archive → Vec X Global → Type 0
-  Held a found = found.items ≡ made (filter (is_shown ask (reader_marks a ask)) (which a))
+  Held a found = found.items ≡ made (filter (is_shown ask (reader_facts a ask)) (which a))
 
   -- the walk over them does not begin
-  pub not_listed : (First : Archive → Type 0) → GoesIn g (HoldsTables g) old mid (λ a b. (b ≡ a) × (ask_reason a ask ≡ None) × First a)
+  pub not_listed : (First : Archive → Type 0) → RelatesArchivesUnder g (HoldsTables g) old mid (λ a b. (b ≡ a) × (ask_reason a ask ≡ None) × First a)
       → (last : Store S) (fault : StoreFault)
-      → MatchOption (refusal fault) (GoesInIfOpen g (HoldsTables g) mid last (λ a b. b ≡ a)) (λ why. GoesIn g (HoldsTables g) mid last (λ a b. (b ≡ a) × (list_refusal a ask.list ≡ Some why)))
-      → AsksIn g (HoldsTables g) old last reason (Err (desk_fault fault)) (λ a. ask_reason a ask) Held
+      → MatchOption (refusal_of_fault fault) (RelatesArchivesUnderIfOpen g (HoldsTables g) mid last (λ a b. b ≡ a))
+      (λ why. RelatesArchivesUnder g (HoldsTables g) mid last (λ a b. (b ≡ a) × (list_refusal a ask.list ≡ Some why)))
+      → AnswersFromStoreUnder g (HoldsTables g) old last refusal_reason (Err (desk_error_of fault)) (λ a. ask_reason a ask) Held
   not_listed First found last fault it =
       let Nothing : Archive → Vec X Global → Type 0 = λ a n. ⊤ in
-      calls_after g (HoldsTables g) old mid last reason (λ a b. (b ≡ a) × (ask_reason a ask ≡ None) × First a)
+      calls_after g (HoldsTables g) old mid last refusal_reason (λ a b. (b ≡ a) × (ask_reason a ask ≡ None) × First a)
       (λ a b n. (b ≡ a) × (ask_reason a ask ≡ None) × Held a n) (λ a b n. (b ≡ a) × (ask_reason a ask ≡ None) × Held a n)
       (λ a b why. (b ≡ a) × (ask_reason a ask ≡ Some why)) (λ a b why. (b ≡ a) × (ask_reason a ask ≡ Some why)) (λ a b _. b ≡ a) (λ a b _. b ≡ a)
       (λ a b c n first h. (h.0 ∙ first.0, first.1, subst (λ x. Held x n) first.0 h.2))
       (λ a b c why first h. (h.0 ∙ first.0, subst (λ x. ask_reason x ask ≡ Some why) first.0 h.1))
-      (λ a b c f first h. h ∙ first.0) (Err (desk_fault fault)) found (list_declined g ask mid last fault Nothing Held it)
+      (λ a b c f first h. h ∙ first.0) (Err (desk_error_of fault)) found (list_declined g ask mid last fault Nothing Held it)
 
-  module _ (last : Store S) (walk new : Walk S) (reader : ReaderMarks) (is : last ≡ new.store)
-      (found : GoesIn g (HoldsTables g) old mid (λ a b. (b ≡ a) × (ask_reason a ask ≡ None) × IsEnough a ask reader))
-      (begun : BeginsOver g mid ask.list which walk) (lasts : Lasts g walk.store new.store) where
-    through : Lasts g old last
-    through = subst (Lasts g old) (sym is) (lasts_then _ _ _ (lasts_then _ _ _ found.0 begun.lasts) lasts)
+  module _ (last : Store S) (walk new : Walk S) (reader : ReaderFacts) (is : last ≡ new.store)
+      (found : RelatesArchivesUnder g (HoldsTables g) old mid (λ a b. (b ≡ a) × (ask_reason a ask ≡ None) × DeterminesVerdicts a ask reader))
+      (begun : BeginsOver g mid ask.list which walk) (lasts : StaysOpenUnlessDiskFails g walk.store new.store) where
+    through : StaysOpenUnlessDiskFails g old last
+    through = subst (StaysOpenUnlessDiskFails g old) (sym is) (lasts_then _ _ _ (lasts_then _ _ _ found.0 begun.lasts) lasts)
 
-    at_walk : HasReturned g last → HasReturned g walk.store
-    at_walk returned = lasts.returned (subst (HasReturned g) is returned)
+    at_walk : StoreHasCleanDisk g last → StoreHasCleanDisk g walk.store
+    at_walk returned = lasts.returned (subst (StoreHasCleanDisk g) is returned)
 
-    at_start : HasReturned g last → HasReturned g mid
+    at_start : StoreHasCleanDisk g last → StoreHasCleanDisk g mid
     at_start returned = begun.lasts.returned (at_walk returned)
 
     pub walk_listed : (all_found : Vec X Global) → ListsRows g walk new ask reader made (Ok all_found)
-        → AsksIn g (HoldsTables g) old last reason (Ok all_found) (λ a. ask_reason a ask) Held
+        → AnswersFromStoreUnder g (HoldsTables g) old last refusal_reason (Ok all_found) (λ a. ask_reason a ask) Held
     walk_listed all_found lists = (
       through,
       (λ returned held.
           let first = found.1 (at_start returned) held in
           let walks = begun.over (at_walk returned) first.0 in
-          let it = lists (subst (HasReturned g) is returned) (which (archive_in g mid)) (archive_in g mid) walks.1 in (
+          let it = lists (subst (StoreHasCleanDisk g) is returned) (which (archive_in g mid)) (archive_in g mid) walks.1 in (
             subst (HoldsTables g) (sym is) it.0.0,
             (
               ap (archive_in g) is ∙ it.0.1 ∙ first.1.0,
@@ -181,19 +182,19 @@ module _ {X : Type 0} (made : List Remembered → List X) {S : Type 0} (g : Ghos
           )),
     )
 
-    pub walk_unlisted : (fault : DeskFault) → reason fault ≡ None → ListsRows g walk new ask reader made (Err fault)
-        → AsksIn g (HoldsTables g) old last reason (Err fault) (λ a. ask_reason a ask) Held
+    pub walk_unlisted : (fault : DeskError) → refusal_reason fault ≡ None → ListsRows g walk new ask reader made (Err fault)
+        → AnswersFromStoreUnder g (HoldsTables g) old last refusal_reason (Err fault) (λ a. ask_reason a ask) Held
     walk_unlisted fault none lists = rw none (
       through,
       (λ returned held up.
           let first = found.1 (at_start returned) held in
           let walks = begun.over (at_walk returned) first.0 in
-          let it = (rw none at lists) (subst (HasReturned g) is returned) (which (archive_in g mid)) (archive_in g mid) walks.1 in
+          let it = (rw none at lists) (subst (StoreHasCleanDisk g) is returned) (which (archive_in g mid)) (archive_in g mid) walks.1 in
           let there = it (subst (IsOpen g) is up) in
           (subst (HoldsTables g) (sym is) there.0, ap (archive_in g) is ∙ there.1 ∙ first.1.0)),
     )
 
-    unlisted : (fault : DeskFault) → IsUnlisted fault → reason fault ≡ None
+    unlisted : (fault : DeskError) → IsMemoryOrDatabaseFault fault → refusal_reason fault ≡ None
     unlisted NoList is = absurd is
     unlisted NoPerson is = absurd is
     unlisted NotInView is = absurd is
@@ -202,7 +203,7 @@ module _ {X : Type 0} (made : List Remembered → List X) {S : Type 0} (g : Ghos
     unlisted Write is = absurd is
 
     -- however it ends
-    pub walk_ended : (result : Result (Vec X Global) DeskFault) → IfErr result (λ fault. IsUnlisted fault) → ListsRows g walk new ask reader made result
-        → AsksIn g (HoldsTables g) old last reason result (λ a. ask_reason a ask) Held
+    pub walk_ended : (result : Result (Vec X Global) DeskError) → IfErr result (λ fault. IsMemoryOrDatabaseFault fault) → ListsRows g walk new ask reader made result
+        → AnswersFromStoreUnder g (HoldsTables g) old last refusal_reason result (λ a. ask_reason a ask) Held
     walk_ended (Ok all_found) is lists = walk_listed all_found lists
     walk_ended (Err fault) is lists = walk_unlisted fault (unlisted fault is) lists

@@ -9,31 +9,31 @@ use Rattle.policy_core.specs.declared.access.Withdrawn.TheVariants.{No, Author, 
 use Rattle.sqlite_disk.specs.Disk.{MoreFaults}
 use Rattle.sqlite.specs.State.{State}
 use Rattle.sqlite.specs.Store.{Ghosts}
-use Rattle.archive_tables.specs.Calls.{Lasts}
-use Rattle.archive_machine.specs.Records.{Archive, Message as Remembered}
-use Rattle.archive_machine.specs.Messages.{number_of}
-use Rattle.archive_port.specs.Messages.{AreMarksOf, IsReadable}
+use Rattle.archive_tables.specs.Calls.{KeepsConnectionUnlessDiskFails}
+use Rattle.archive_model.specs.Records.{Archive, Message as Remembered}
+use Rattle.archive_model.specs.Messages.{withdrawal_number}
+use Rattle.archive_port.specs.Messages.{AreDatedMarksOf, IsReadable}
 use Rattle.archive_port.specs.declared.marks.DatedMarks.{DatedMarks}
-use Rattle.archive_store.specs.Told.{HasReturned}
-use Rattle.archive_port.specs.Replies.{refusal}
-use Rattle.archive_store.specs.Walking.{ShowsNext, Walk, WalksOver, ahead_of, left_of, over}
-use Rattle.archive_store.specs.declared.walking.EachRow.{EachRow}
+use Rattle.archive_store.specs.Told.{StoreHasCleanDisk}
+use Rattle.archive_port.specs.Replies.{refusal_of_fault}
+use Rattle.archive_store.specs.Walking.{PeeksNextMarks, Walk, WalksOver, remaining_numbers, remaining_count, walk_over_store}
+use Rattle.archive_store.specs.declared.walking.MessageWalk.{MessageWalk}
 use Rattle.archive_store.proofs.WalkingLemmas.{passed_next}
 use Rattle.archive_port.specs.declared.faults.StoreFault.{StoreFault}
 use Rattle.archive_store.proofs.CauseLemmas.{more_since, not_all}
-use Rattle.archive_results.specs.Access.{Ask, ReaderMarks, Marks, asks_author, is_shown, is_withheld, marks_of, withdrawal_numbered}
-use Rattle.archive_desk.specs.Walking.{HasPassed, PassesOne, PassesWithheld}
+use Rattle.archive_results.specs.Access.{Ask, ReaderFacts, MessageFacts, asks_author, is_shown, is_withheld, message_facts, withdrawal_of_number}
+use Rattle.archive_desk.specs.Walking.{HasSkippedWithheld, SkipsAtMostOne, SkipsWithheldMessages}
 
 -- ---- the marks
 
-numbered_back : (by : Withdrawn) → withdrawal_numbered (number_of by) ≡ by
+numbered_back : (by : Withdrawn) → withdrawal_of_number (withdrawal_number by) ≡ by
 numbered_back No = refl
 numbered_back Author = refl
 numbered_back Board = refl
 
-pub weighed_marks : (marks : DatedMarks) (m : Remembered) → AreMarksOf marks m
-    → record { arrival = marks.arrival; withdrawn = marks.withdrawn; embargo_until = marks.embargo_until; own = false } ≡ record (marks_of None m) { own = false }
-unfolding marks_of
+pub weighed_marks : (marks : DatedMarks) (m : Remembered) → AreDatedMarksOf marks m
+    → record { arrival = marks.arrival; withdrawn = marks.withdrawn; embargo_until = marks.embargo_until; own = false } ≡ record (message_facts None m) { own = false }
+unfolding message_facts
 weighed_marks marks m are =
     rw (sym are.arrival, sym are.withdrawn, sym are.embargo, numbered_back marks.withdrawn) refl
 
@@ -45,23 +45,24 @@ denied_by false true is = absurd cc
 denied_by true b is = absurd cc
 
 -- what is withheld is not shown
-pub not_shown : (ask : Ask) (reader : ReaderMarks) (m : Remembered) → is_withheld ask reader m ≡ true → is_shown ask reader m ≡ false
+pub not_shown : (ask : Ask) (reader : ReaderFacts) (m : Remembered) → is_withheld ask reader m ≡ true → is_shown ask reader m ≡ false
 not_shown ask reader m is = denied_by (asks_author ask reader) (is_shown ask reader m) is
 
-module _ {S : Type 0} (g : Ghosts S) (ask : Ask) (reader : ReaderMarks) where
+module _ {S : Type 0} (g : Ghosts S) (ask : Ask) (reader : ReaderFacts) where
   -- so far messages were passed by that the policy does not show
   abbrev pub PassedSoFar : Walk S → Walk S → Type 0
-  PassedSoFar old now = HasReturned g now.store → (all : List Remembered) (a : Archive) (given : List Remembered) → WalksOver g ask.list all a given old
-      → HasPassed g old now ask reader all a given
+  PassedSoFar old now = StoreHasCleanDisk g now.store → (all : List Remembered) (a : Archive) (given : List Remembered) → WalksOver g ask.list all a given old
+      → HasSkippedWithheld g old now ask reader all a given
 
   module _ (all : List Remembered) (a : Archive) (given : List Remembered) where
-    pub passed_none : (old now : Walk S) → WalksOver g ask.list all a given now → HasPassed g old now ask reader all a given
+    pub passed_none : (old now : Walk S) → WalksOver g ask.list all a given now → HasSkippedWithheld g old now ask reader all a given
     passed_none old now w = ([], subst (λ so. WalksOver g ask.list all a so now) (sym (append-nil given)) w, refl)
 
-    pub passed_one : (old now : Walk S) (m : Remembered) → WalksOver g ask.list all a (given ++ m ∷ []) now → is_shown ask reader m ≡ false → HasPassed g old now ask reader all a given
+    pub passed_one : (old now : Walk S) (m : Remembered) → WalksOver g ask.list all a (given ++ m ∷ []) now → is_shown ask reader m ≡ false → HasSkippedWithheld g old now ask reader all a given
     passed_one old now m w is = (m ∷ [], w, ap (λ b. cond b (m ∷ []) []) is)
 
-    pub passed_then : (old mid new : Walk S) (it : HasPassed g old mid ask reader all a given) → HasPassed g mid new ask reader all a (given ++ it.0) → HasPassed g old new ask reader all a given
+    pub passed_then : (old mid new : Walk S) (it : HasSkippedWithheld g old mid ask reader all a given) → HasSkippedWithheld g mid new ask reader all a (given ++ it.0)
+        → HasSkippedWithheld g old new ask reader all a given
     passed_then old mid new it more = (
       it.0 ++ more.0,
       subst (λ so. WalksOver g ask.list all a so new) (append_assoc given it.0 more.0) more.1,
@@ -71,24 +72,25 @@ module _ {S : Type 0} (g : Ghosts S) (ask : Ask) (reader : ReaderMarks) where
   -- ---- one message
 
   -- none was passed by
-  pub none_passed : (old new : Walk S) → (HasReturned g new.store → (all : List Remembered) (a : Archive) (given : List Remembered) → WalksOver g ask.list all a given old
+  pub none_passed : (old new : Walk S) → (StoreHasCleanDisk g new.store → (all : List Remembered) (a : Archive) (given : List Remembered) → WalksOver g ask.list all a given old
       → WalksOver g ask.list all a given new)
-      → left_of new.walk ≤ left_of old.walk → PassesOne g old new ask reader (Ok false)
+      → remaining_count new.walk ≤ remaining_count old.walk → SkipsAtMostOne g old new ask reader (Ok false)
   none_passed old new stays left = record {
     passes = record { passed = λ returned all a given w. passed_none all a given old new (stays returned all a given w); left = left; fault = tt };
     fewer = λ e. absurd (cc);
   }
 
   -- one was, since the policy withholds it
-  pub one_passed : (old mid : Walk S) (new : EachRow) (marks : DatedMarks) (weighs : Marks) → ShowsNext g old mid (Ok (Some marks)) → ahead_of new ≡ drop 1 (ahead_of mid.walk)
-      → left_of new ≡ left_of mid.walk - 1 → ((m : Remembered) → AreMarksOf marks m → weighs ≡ record (marks_of None m) { own = false })
-      → ((m : Remembered) → weighs ≡ record (marks_of None m) { own = false } → true ≡ is_withheld ask reader m) → PassesOne g old (over mid.store new) ask reader (Ok true)
+  pub one_passed : (old mid : Walk S) (new : MessageWalk) (marks : DatedMarks) (weighs : MessageFacts) → PeeksNextMarks g old mid (Ok (Some marks))
+      → remaining_numbers new ≡ drop 1 (remaining_numbers mid.walk)
+      → remaining_count new ≡ remaining_count mid.walk - 1 → ((m : Remembered) → AreDatedMarksOf marks m → weighs ≡ record (message_facts None m) { own = false })
+      → ((m : Remembered) → weighs ≡ record (message_facts None m) { own = false } → true ≡ is_withheld ask reader m) → SkipsAtMostOne g old (walk_over_store mid.store new) ask reader (Ok true)
   one_passed old mid new marks weighs shown passes left weigh withheld = record {
     passes = record {
       passed = λ returned all a given w.
           let seen = shown.given returned ask.list all a given w in
           let next = seen.1 in
-          passed_one all a given old (over mid.store new) next.0 (passed_next g ask.list all a given mid.store mid.walk new next.0 next.1 seen.0 next.2 passes)
+          passed_one all a given old (walk_over_store mid.store new) next.0 (passed_next g ask.list all a given mid.store mid.walk new next.0 next.1 seen.0 next.2 passes)
           (not_shown ask reader next.0 (sym (withheld next.0 (weigh next.0 next.3))));
       left = omega (arith, left, shown.left);
       fault = tt;
@@ -97,40 +99,42 @@ module _ {S : Type 0} (g : Ghosts S) (ask : Ask) (reader : ReaderMarks) where
   }
 
   -- the store fails at its marks
-  pub none_seen : (old new : Walk S) (told : StoreFault) (r : Result Bool StoreFault) → IsErrAnd r (λ f. f ≡ told) → ShowsNext g old new (Err told) → PassesOne g old new ask reader r
+  pub none_seen : (old new : Walk S) (told : StoreFault) (r : Result Bool StoreFault) → IsErrAnd r (λ f. f ≡ told) → PeeksNextMarks g old new (Err told) → SkipsAtMostOne g old new ask reader r
   none_seen old new told (Ok b) is shown = absurd is
   none_seen old new told (Err f) is shown = record {
     passes = record {
       passed = λ returned all a given w up. passed_none all a given old new (shown.given returned ask.list all a given w up);
       left = omega (arith, shown.left);
-      fault = ap refusal is ∙ shown.fault;
+      fault = ap refusal_of_fault is ∙ shown.fault;
     };
     fewer = tt;
   }
 
   -- ---- one after the other
 
-  pub passed_further : {A : Type 0} (old mid new : Walk S) (x : A) → PassedSoFar old mid → (HasReturned g new.store → HasReturned g mid.store) → PassesWithheld g mid new ask reader (Ok x)
+  pub passed_further : {A : Type 0} (old mid new : Walk S) (x : A) → PassedSoFar old mid → (StoreHasCleanDisk g new.store → StoreHasCleanDisk g mid.store)
+      → SkipsWithheldMessages g mid new ask reader (Ok x)
       → PassedSoFar old new
   passed_further old mid new x so_far was passes = λ returned all a given w.
       let it = so_far (was returned) all a given w in
       passed_then all a given old mid new it (passes.passed returned all a (given ++ it.0) it.1)
 
   pub stopped_further : {A B : Type 0} (old mid new : Walk S) (told : StoreFault) (r : Result A StoreFault) → IsErrAnd r (λ f. f ≡ told) → PassedSoFar old mid
-      → (HasReturned g new.store → HasReturned g mid.store) → left_of mid.walk ≤ left_of old.walk → PassesWithheld g mid new ask reader {A = B} (Err told) → PassesWithheld g old new ask reader r
+      → (StoreHasCleanDisk g new.store → StoreHasCleanDisk g mid.store) → remaining_count mid.walk ≤ remaining_count old.walk → SkipsWithheldMessages g mid new ask reader {A = B} (Err told)
+      → SkipsWithheldMessages g old new ask reader r
   stopped_further old mid new told (Ok x) is so_far was left passes = absurd is
   stopped_further old mid new told (Err f) is so_far was left passes = record {
     passed = λ returned all a given w up.
         let it = so_far (was returned) all a given w in
         passed_then all a given old mid new it (passes.passed returned all a (given ++ it.0) it.1 up);
     left = omega (arith, left, passes.left);
-    fault = ap refusal is ∙ passes.fault;
+    fault = ap refusal_of_fault is ∙ passes.fault;
   }
 
 -- ---- why it stops
 
 -- behind calls in which the disk may have failed
-pub failed_since : (old mid new : State) (X : Type 0) → Lasts old mid → MoreFaults mid.faults new.faults ⊎ X → MoreFaults old.faults new.faults ⊎ X
+pub failed_since : (old mid new : State) (X : Type 0) → KeepsConnectionUnlessDiskFails old mid → MoreFaults mid.faults new.faults ⊎ X → MoreFaults old.faults new.faults ⊎ X
 failed_since old mid new X lasts (inl more) = inl (more_since old mid new lasts more)
 failed_since old mid new X lasts (inr bad) = inr bad
 

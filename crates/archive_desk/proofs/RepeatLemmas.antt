@@ -9,13 +9,13 @@ use Rattle.std.proofs.lemmas.Slice.Eq.{bytes_eq-Decides}
 use Rattle.mbox_core.specs.Division.{Item}
 use Rattle.mbox_items.specs.Division.{whole}
 use Rattle.mbox_core.proofs.DivisionLaws.{one_division}
-use Rattle.archive_machine.specs.Records.{Archive, Message}
-use Rattle.archive_machine.specs.Commands.{add, refused, no_list, too_large, already_known, list_full, taken_in}
-use Rattle.archive_machine.specs.Keys.{item_key}
-use Rattle.archive_machine.specs.Questions.{has_list, has_message, is_message, messages_in}
-use Rattle.archive_machine.specs.Machine.{Outcome, keyed_message, longest_text, message_limit, step, with_message}
-use Rattle.archive_machine.specs.Runs.{run, taken}
-use Rattle.archive_machine.proofs.RunLemmas.{archive_of_both}
+use Rattle.archive_model.specs.Records.{Archive, Message}
+use Rattle.archive_model.specs.Commands.{add, refused, no_list, too_large, already_known, list_full, taken_in}
+use Rattle.archive_model.specs.Keys.{item_key}
+use Rattle.archive_model.specs.Questions.{has_list, has_message, is_message_at_key, messages_in}
+use Rattle.archive_model.specs.Machine.{StepOutcome, keyed_message, longest_text, message_limit, step, with_message}
+use Rattle.archive_model.specs.Runs.{run, taken}
+use Rattle.archive_model.proofs.RunLemmas.{archive_of_both}
 use Rattle.archive_port.specs.Adding.{HasAddedAtLeast}
 use Rattle.archive_desk.specs.Crashes.{HasImportedAtLeast}
 use Rattle.archive_desk.specs.Importing.{IsImported}
@@ -27,7 +27,7 @@ use Rattle.archive_desk.specs.declared.importing.Report.{Report}
 abbrev unless_new : Bool → Bool → Bool → Bool → Bool
 unless_new there large known full = not there || (large || (known || full))
 
-abbrev outcome_by : Archive → Archive → Bool → Bool → Bool → Bool → Outcome
+abbrev outcome_by : Archive → Archive → Bool → Bool → Bool → Bool → StepOutcome
 outcome_by a x there large known full =
     if not there then (a, refused no_list) else if large then (a, refused too_large) else if known then (a, already_known) else if full then (a, refused list_full) else (x, taken_in)
 
@@ -90,7 +90,7 @@ full_still n m full = grind (arith, nat_tests, full)
 same_word : (a : List ℕ) → bytes_eq a a ≡ true
 same_word a = (bytes_eq-Decides a a).1 refl
 
-is_itself : (list : List ℕ) (item : Item) → is_message list (item_key item) (keyed_message list (item_key item) item) ≡ true
+is_itself : (list : List ℕ) (item : Item) → is_message_at_key list (item_key item) (keyed_message list (item_key item) item) ≡ true
 is_itself list item = rw (same_word list, same_word (item_key item)) refl
 
 -- ---- messages one after the other
@@ -118,7 +118,7 @@ module _ (list : List ℕ) where
     | inl same ↦ subst (λ x. is_seen x item ≡ true) (sym same.0) same.1
     | inr is ↦
         (let b = with_message a list item in
-        let known : has_message b list (item_key item) ≡ true = found_last (is_message list (item_key item)) a.messages (keyed_message list (item_key item) item) (is_itself list item) in
+        let known : has_message b list (item_key item) ≡ true = found_last (is_message_at_key list (item_key item)) a.messages (keyed_message list (item_key item) item) (is_itself list item) in
         let seen : is_seen b item ≡ true = subst (λ k. unless_new (has_list b list) (nat_lt longest_text (length (whole item.text))) k
         (nat_le message_limit (length (messages_in b list))) ≡ true) (sym known)
         (known_by (has_list b list) (nat_lt longest_text (length (whole item.text))) (nat_le message_limit (length (messages_in b list)))) in
@@ -134,7 +134,7 @@ module _ (list : List ℕ) where
       ap length (filter-append held a.messages (m ∷ [])) ∙ length-append (messages_in a list) (filter held (m ∷ [])) in
       more_by (has_list a list) (nat_lt longest_text (length (whole item.text))) (has_message a list (item_key item)) (nat_le message_limit (length (messages_in a list)))
       (has_message (with_message a list other) list (item_key item)) (nat_le message_limit (length (messages_in (with_message a list other) list)))
-      (found_more (is_message list (item_key item)) a.messages (m ∷ []))
+      (found_more (is_message_at_key list (item_key item)) a.messages (m ∷ []))
       (λ full. subst (λ n. nat_le message_limit n ≡ true) (sym longer) (full_still (length (messages_in a list)) (length (filter held (m ∷ []))) full)) seen
 
   seen_next : (a : Archive) (item other : Item) → is_seen a item ≡ true → is_seen (after a other) item ≡ true

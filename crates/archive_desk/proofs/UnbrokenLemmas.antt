@@ -12,21 +12,23 @@ use Rattle.sqlite_disk.specs.Disk.{MoreFaults}
 use Rattle.sqlite_trees.specs.declared.memory.MemStore.{MemStore}
 use Rattle.policy_core.specs.declared.access.Standing.{Standing}
 use Rattle.policy_core.specs.declared.access.Standing.TheVariants.{Public}
-use Rattle.archive_machine.specs.Records.{Address, Archive, Filing, Grant, Message, Person}
-use Rattle.archive_machine.specs.Filing.{Filed, filed, by_author, by_filed_date, in_month, is_filed_by_author, is_filed_in_month, is_sent_before, with_filed}
-use Rattle.archive_machine.specs.Questions.{address_of, highest, holds_on, is_address_of, is_grant_of, is_message, message_of, messages_in, person_of_token, standing_of}
+use Rattle.archive_model.specs.Records.{Address, Archive, IndexColumns, Grant, Message, Person}
+use Rattle.archive_model.specs.Filing.{IndexedMessage, indexed_messages, messages_by_author, sort_by_indexed_date}
+use Rattle.archive_model.specs.Filing.{messages_in_month, is_indexed_by_author, is_indexed_in_month, is_sent_before, insert_by_indexed_date}
+use Rattle.archive_model.specs.Questions.{address_of, max_rank, grant_holds_on, is_address_of, is_grant_of, is_message_at_key, message_of, messages_in, person_of_token, standing_of}
 use Rattle.archive_port.specs.Messages.{IsReadable}
-use Rattle.archive_store.specs.Held.{held_of}
-use Rattle.archive_store.specs.Told.{CausedOr as StoreCausedOr, HasFailed, archive_in}
+use Rattle.archive_store.specs.Held.{store_connection}
+use Rattle.archive_store.specs.Told.{E15MeansDiskFailedOr as StoreCausedOr, DiskHasFailed, archive_in}
 use Rattle.archive_port.specs.Words.{standing_rank}
 use Rattle.archive_port.specs.declared.faults.StoreFault.{StoreFault}
 use Rattle.archive_port.specs.declared.faults.StoreFault.TheVariants as faults
 use Rattle.archive_store.specs.declared.store.Store.{Store}
 use Rattle.archive_results.specs.Access.{Ask}
-use Rattle.archive_desk.specs.Causes.{CausedOr, HasCause, IsBroken, IsMessageUnreadable, IsPersonUnreadable, IsReaderUnreadable, IsUnreadable}
-use Rattle.archive_desk.specs.Readable.{AreListsUnreadable, CanBeRead, IsHolderUnreadable, IsNeverBroken, IsNeverCutOff, IsNeverLost, IsRanked, IsTellable, IsUnbroken, IsUntroubled}
+use Rattle.archive_desk.specs.Causes.{DeskFaultMeansDiskFailedOr, HasCause, IsDeskDatabaseFault, IsMessageUnreadable, IsPersonUnreadable, IsReaderUnreadable, IsQuestionUnreadable}
+use Rattle.archive_desk.specs.Readable.{AreListsUnreadable, CanBeRead, IsTokenHolderUnreadable, QuestionHasNoDatabaseFault, ExportHasNoDatabaseFault}
+use Rattle.archive_desk.specs.Readable.{StoreQuestionHasNoFault, HasStandingRank, IsFullyReadableStore, HasNoDatabaseFault, MeetsNoDiskFault}
 use Rattle.archive_desk.specs.declared.exporting.ExportStop.{ExportStop}
-use Rattle.archive_desk.specs.declared.faults.DeskFault.{DeskFault}
+use Rattle.archive_desk.specs.declared.faults.DeskError.{DeskError}
 use Rattle.archive_desk.proofs.CauseLemmas.{each_fault}
 
 -- ---- what is found
@@ -55,30 +57,30 @@ no_one P (Some x) never = never x
 -- ---- messages by what is filed of them
 
 module _ (P : Message → Type 0) where
-  abbrev OfFiled : Filed → Type 0
+  abbrev OfFiled : IndexedMessage → Type 0
   OfFiled f = P f.0
 
-  zipped : (ms : List Message) (fs : List Filing) → All P ms → All OfFiled (zip ms fs)
+  zipped : (ms : List Message) (fs : List IndexColumns) → All P ms → All OfFiled (zip ms fs)
   zipped [] fs all = All-nil OfFiled
   zipped (m ∷ ms) [] all = All-nil OfFiled
   zipped (m ∷ ms) (f ∷ fs) all = All-cons OfFiled (m, f) (zip ms fs) (All-head P m ms all) (zipped ms fs (All-tail P m ms all))
 
-  placed : (f : Filed) (fs : List Filed) → OfFiled f → All OfFiled fs → All OfFiled (with_filed f fs)
+  placed : (f : IndexedMessage) (fs : List IndexedMessage) → OfFiled f → All OfFiled fs → All OfFiled (insert_by_indexed_date f fs)
   placed f [] it all = All-cons OfFiled f [] it all
   placed f (g ∷ gs) it all = cases (is_sent_before g f) (placed f gs it (All-tail OfFiled g gs all))
     where
-      cases : (b : Bool) → All OfFiled (with_filed f gs) → All OfFiled (if b then g ∷ with_filed f gs else f ∷ g ∷ gs)
-      cases true rest = All-cons OfFiled g (with_filed f gs) (All-head OfFiled g gs all) rest
+      cases : (b : Bool) → All OfFiled (insert_by_indexed_date f gs) → All OfFiled (if b then g ∷ insert_by_indexed_date f gs else f ∷ g ∷ gs)
+      cases true rest = All-cons OfFiled g (insert_by_indexed_date f gs) (All-head OfFiled g gs all) rest
       cases false rest = All-cons OfFiled f (g ∷ gs) it all
 
-  in_order : (fs : List Filed) → All OfFiled fs → All OfFiled (by_filed_date fs)
+  in_order : (fs : List IndexedMessage) → All OfFiled fs → All OfFiled (sort_by_indexed_date fs)
   in_order [] all = all
-  in_order (f ∷ fs) all = placed f (by_filed_date fs) (All-head OfFiled f fs all) (in_order fs (All-tail OfFiled f fs all))
+  in_order (f ∷ fs) all = placed f (sort_by_indexed_date fs) (All-head OfFiled f fs all) (in_order fs (All-tail OfFiled f fs all))
 
-  filed_so : (a : Archive) (test : Filed → Bool) → All P a.messages → All P (map (λ (f : Filed). f.0) (by_filed_date (filter test (filed a))))
+  filed_so : (a : Archive) (test : IndexedMessage → Bool) → All P a.messages → All P (map (λ (f : IndexedMessage). f.0) (sort_by_indexed_date (filter test (indexed_messages a))))
   filed_so a test all =
-      All-map P (λ (f : Filed). f.0) (by_filed_date (filter test (filed a)))
-      (in_order (filter test (filed a)) (All-filter test OfFiled (filed a) (zipped a.messages a.filings all)))
+      All-map P (λ (f : IndexedMessage). f.0) (sort_by_indexed_date (filter test (indexed_messages a)))
+      (in_order (filter test (indexed_messages a)) (All-filter test OfFiled (indexed_messages a) (zipped a.messages a.index_columns all)))
 
 -- ---- the rank of a person is a standing's
 
@@ -92,16 +94,16 @@ higher x y first last = cases (int_lt y x)
     cases true = first
     cases false = last
 
-highest_is_rank : (ranks : List ℤ) → All IsRank ranks → IsRank (highest ranks)
+highest_is_rank : (ranks : List ℤ) → All IsRank ranks → IsRank (max_rank ranks)
 highest_is_rank [] all = (Public, refl)
-highest_is_rank (rank ∷ ranks) all = higher rank (highest ranks) (All-head IsRank rank ranks all) (highest_is_rank ranks (All-tail IsRank rank ranks all))
+highest_is_rank (rank ∷ ranks) all = higher rank (max_rank ranks) (All-head IsRank rank ranks all) (highest_is_rank ranks (All-tail IsRank rank ranks all))
 
 module _ (a : Archive) (can : CanBeRead a) where
   standing_is_rank : (person list : List ℕ) (day : ℤ) → IsRank (standing_of a person list day)
   standing_is_rank person list day =
-      let holds : Grant → Bool = λ g. is_grant_of person list g && holds_on day g in
+      let holds : Grant → Bool = λ g. is_grant_of person list g && grant_holds_on day g in
       highest_is_rank (map (λ g. g.rank) (filter holds a.grants))
-      (All-map IsRank (λ (g : Grant). g.rank) (filter holds a.grants) (All-filter holds IsRanked a.grants can.grants))
+      (All-map IsRank (λ (g : Grant). g.rank) (filter holds a.grants) (All-filter holds HasStandingRank a.grants can.grants))
 
   -- ---- none is unreadable
 
@@ -118,27 +120,27 @@ module _ (a : Archive) (can : CanBeRead a) where
   reader_read ask = no_one (IsPersonUnreadable a ask) ask.reader (person_read ask)
 
   pub message_read : (ask : Ask) (key : List ℕ) → ¬ IsMessageUnreadable a ask key
-  message_read ask key = none_else IsReadable (message_of a ask.list key) (found IsReadable (is_message ask.list key) a.messages can.messages)
+  message_read ask key = none_else IsReadable (message_of a ask.list key) (found IsReadable (is_message_at_key ask.list key) a.messages can.messages)
 
   pub message_or_reader_read : (ask : Ask) (key : List ℕ) → ¬ (IsMessageUnreadable a ask key ⊎ IsReaderUnreadable a ask)
   message_or_reader_read ask key bad = elim bad [ inl message ↦ message_read ask key message | inr reader ↦ reader_read ask reader ]
 
-  messages_read : (ask : Ask) (messages : List Message) → All IsReadable messages → ¬ IsUnreadable a ask messages
+  messages_read : (ask : Ask) (messages : List Message) → All IsReadable messages → ¬ IsQuestionUnreadable a ask messages
   messages_read ask messages all bad = elim bad [ inl messages ↦ messages all | inr reader ↦ reader_read ask reader ]
 
-  pub list_read : (ask : Ask) → ¬ IsUnreadable a ask (messages_in a ask.list)
+  pub list_read : (ask : Ask) → ¬ IsQuestionUnreadable a ask (messages_in a ask.list)
   list_read ask = messages_read ask (messages_in a ask.list) (All-filter (λ m. bytes_eq m.list ask.list) IsReadable a.messages can.messages)
 
-  pub month_read : (ask : Ask) (month : ℤ) → ¬ IsUnreadable a ask (in_month a ask.list month)
-  month_read ask month = messages_read ask (in_month a ask.list month) (filed_so IsReadable a (is_filed_in_month ask.list month) can.messages)
+  pub month_read : (ask : Ask) (month : ℤ) → ¬ IsQuestionUnreadable a ask (messages_in_month a ask.list month)
+  month_read ask month = messages_read ask (messages_in_month a ask.list month) (filed_so IsReadable a (is_indexed_in_month ask.list month) can.messages)
 
-  pub author_read : (ask : Ask) (key : List ℕ) → ¬ IsUnreadable a ask (by_author a ask.list key)
-  author_read ask key = messages_read ask (by_author a ask.list key) (filed_so IsReadable a (is_filed_by_author ask.list key) can.messages)
+  pub author_read : (ask : Ask) (key : List ℕ) → ¬ IsQuestionUnreadable a ask (messages_by_author a ask.list key)
+  author_read ask key = messages_read ask (messages_by_author a ask.list key) (filed_so IsReadable a (is_indexed_by_author ask.list key) can.messages)
 
   pub lists_read : ¬ AreListsUnreadable a
   lists_read bad = bad can.lists
 
-  pub holder_read : (token : List ℕ) → ¬ IsHolderUnreadable a token
+  pub holder_read : (token : List ℕ) → ¬ IsTokenHolderUnreadable a token
   holder_read token =
       none_else IsUtf8 (person_of_token a token)
       (of_value IsUtf8 (λ (p : Person). p.name) (find (λ (p : Person). bytes_eq p.token token) a.persons)
@@ -146,46 +148,46 @@ module _ (a : Archive) (can : CanBeRead a) where
 
 -- ---- so only the disk breaks a question
 
-module _ {S : Type 0} (g : Ghosts S) (old new : Store S) (well : IsUntroubled g old new) where
+module _ {S : Type 0} (g : Ghosts S) (old new : Store S) (well : MeetsNoDiskFault g old new) where
   abbrev before : Archive
   before = archive_in g old
 
   abbrev can_be_read : CanBeRead before
-  can_be_read = well.tellable.readable
+  can_be_read = well.fully_readable.readable
 
   no_cause : (Unread : Archive → Type 0) → ¬ Unread before → ¬ HasCause g old new Unread
-  no_cause Unread read cause = elim (cause well.returned well.tellable.held well.tellable.unlimited) [ inl more ↦ well.unfailed more | inr bad ↦ read bad ]
+  no_cause Unread read cause = elim (cause well.returned well.fully_readable.held well.fully_readable.unlimited) [ inl more ↦ well.no_disk_failure more | inr bad ↦ read bad ]
 
-  unbroken : {A : Type 0} (result : Result A DeskFault) (Unread : Archive → Type 0) → ¬ Unread before → CausedOr g old new result Unread → IsUnbroken result
-  unbroken result Unread read = each_fault (λ fault. IsBroken fault → HasCause g old new Unread) (λ fault. ¬ IsBroken fault)
+  unbroken : {A : Type 0} (result : Result A DeskError) (Unread : Archive → Type 0) → ¬ Unread before → DeskFaultMeansDiskFailedOr g old new result Unread → HasNoDatabaseFault result
+  unbroken result Unread read = each_fault (λ fault. IsDeskDatabaseFault fault → HasCause g old new Unread) (λ fault. ¬ IsDeskDatabaseFault fault)
       (λ fault why it. no_cause Unread read (why it)) result
 
   told : {A : Type 0} (result : Result A StoreFault) (Unread : Archive → Type 0) → ¬ Unread before → StoreCausedOr g old new result Unread
       → IfErr result (λ fault. fault ≢ faults.Store)
   told result Unread read why =
-      each_fault (λ fault. fault ≡ faults.Store → HasFailed g old new ⊎ Unread before) (λ fault. fault ≢ faults.Store)
-      (λ fault cause it. elim (cause it) [ inl more ↦ well.unfailed more | inr bad ↦ read bad ])
-      result (why well.returned well.tellable.held well.tellable.unlimited)
+      each_fault (λ fault. fault ≡ faults.Store → DiskHasFailed g old new ⊎ Unread before) (λ fault. fault ≢ faults.Store)
+      (λ fault cause it. elim (cause it) [ inl more ↦ well.no_disk_failure more | inr bad ↦ read bad ])
+      result (why well.returned well.fully_readable.held well.fully_readable.unlimited)
 
-  pub never_broken : {A : Type 0} (result : Result A DeskFault) (ask : Ask) → IsNeverBroken g old new result ask
+  pub never_broken : {A : Type 0} (result : Result A DeskError) (ask : Ask) → QuestionHasNoDatabaseFault g old new result ask
   never_broken result ask = record {
-    list = unbroken result (λ a. IsUnreadable a ask (messages_in a ask.list)) (list_read before can_be_read ask);
-    month = λ month. unbroken result (λ a. IsUnreadable a ask (in_month a ask.list month)) (month_read before can_be_read ask month);
-    author = λ key. unbroken result (λ a. IsUnreadable a ask (by_author a ask.list key)) (author_read before can_be_read ask key);
+    list = unbroken result (λ a. IsQuestionUnreadable a ask (messages_in a ask.list)) (list_read before can_be_read ask);
+    month = λ month. unbroken result (λ a. IsQuestionUnreadable a ask (messages_in_month a ask.list month)) (month_read before can_be_read ask month);
+    author = λ key. unbroken result (λ a. IsQuestionUnreadable a ask (messages_by_author a ask.list key)) (author_read before can_be_read ask key);
     message = λ key. unbroken result (λ a. IsMessageUnreadable a ask key ⊎ IsReaderUnreadable a ask) (message_or_reader_read before can_be_read ask key);
     reader = unbroken result (λ a. IsReaderUnreadable a ask) (reader_read before can_be_read ask);
   }
 
-  pub never_cut_off : {A : Type 0} (result : Result A ExportStop) (ask : Ask) → IsNeverCutOff g old new result ask
+  pub never_cut_off : {A : Type 0} (result : Result A ExportStop) (ask : Ask) → ExportHasNoDatabaseFault g old new result ask
   never_cut_off result ask =
-      let Unread : Archive → Type 0 = λ a. IsUnreadable a ask (messages_in a ask.list) in
-      each_fault (λ (stop : ExportStop). IsBroken stop.fault → HasCause g old new Unread) (λ stop. ¬ IsBroken stop.fault)
+      let Unread : Archive → Type 0 = λ a. IsQuestionUnreadable a ask (messages_in a ask.list) in
+      each_fault (λ (stop : ExportStop). IsDeskDatabaseFault stop.fault → HasCause g old new Unread) (λ stop. ¬ IsDeskDatabaseFault stop.fault)
       (λ stop why it. no_cause Unread (list_read before can_be_read ask) (why it)) result
 
-  pub never_lost : {A : Type 0} (result : Result A StoreFault) → IsNeverLost g old new result
+  pub never_lost : {A : Type 0} (result : Result A StoreFault) → StoreQuestionHasNoFault g old new result
   never_lost result = record {
     lists = told result AreListsUnreadable (lists_read before can_be_read);
-    holder = λ token. told result (λ a. IsHolderUnreadable a token) (holder_read before can_be_read token);
+    holder = λ token. told result (λ a. IsTokenHolderUnreadable a token) (holder_read before can_be_read token);
   }
 
 -- ---- memory never fails as a disk does
@@ -193,5 +195,5 @@ module _ {S : Type 0} (g : Ghosts S) (old new : Store S) (well : IsUntroubled g 
 never_more : MoreFaults 0 0 → ⊥
 never_more more = absurd (omega (arith, more))
 
-pub memory_is_untroubled : (old new : Store MemStore) → IsTellable over_memory old → IsUntroubled over_memory old new
-memory_is_untroubled old new tellable = record { tellable = tellable; unfailed = never_more; returned = memory_is_clean (held_of new) }
+pub memory_is_untroubled : (old new : Store MemStore) → IsFullyReadableStore over_memory old → MeetsNoDiskFault over_memory old new
+memory_is_untroubled old new fully_readable = record { fully_readable = fully_readable; no_disk_failure = never_more; returned = memory_is_clean (store_connection new) }

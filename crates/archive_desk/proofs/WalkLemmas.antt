@@ -6,61 +6,61 @@ use Rattle.std.proofs.lemmas.List.{append-nil, take-append-le}
 use Rattle.std.proofs.Math.Seq.{take-append-add}
 use Rattle.sqlite.specs.Store.{Ghosts}
 use Rattle.mbox_core.specs.Division.{Item}
-use Rattle.mbox_core.specs.Written.{IsCutShort, written, written_item}
-use Rattle.archive_machine.specs.Records.{Archive, Message as Remembered}
-use Rattle.archive_machine.specs.Messages.{remembered}
-use Rattle.archive_machine.specs.declared.messages.Message.{Message}
-use Rattle.archive_store.specs.Told.{HasReturned, HoldsTables, IsOpen, archive_in}
+use Rattle.mbox_core.specs.Written.{AppendsPrefixOfText, written, written_item}
+use Rattle.archive_model.specs.Records.{Archive, Message as Remembered}
+use Rattle.archive_model.specs.Messages.{archived_message}
+use Rattle.archive_model.specs.declared.messages.Message.{Message}
+use Rattle.archive_store.specs.Told.{StoreHasCleanDisk, HoldsTables, IsOpen, archive_in}
 use Rattle.archive_store.specs.Walking.{Walk, WalksOver}
 use Rattle.archive_desk.proofs.Counted.{CountsOne}
-use Rattle.archive_results.specs.Access.{Ask, ReaderMarks, is_shown}
-use Rattle.archive_results.specs.Shown.{shown_of}
-use Rattle.archive_desk.specs.Exporting.{shown_text}
-use Rattle.archive_desk.specs.Faults.{Reason, reason}
-use Rattle.archive_desk.specs.Walking.{IsRowsStop, PassesWithheld, StandsOn, WritesRows, WritesWalk}
+use Rattle.archive_results.specs.Access.{Ask, ReaderFacts, is_shown}
+use Rattle.archive_results.specs.Shown.{shown_message}
+use Rattle.archive_desk.specs.Exporting.{shown_mbox_text}
+use Rattle.archive_desk.specs.Faults.{RefusalReason, refusal_reason}
+use Rattle.archive_desk.specs.Walking.{IsRowsStop, SkipsWithheldMessages, WalkHoldsArchive, WritesRows, WritesWalk}
 use Rattle.archive_port.specs.declared.faults.StoreFault.{StoreFault}
-use Rattle.archive_desk.specs.declared.faults.DeskFault.{DeskFault}
-use Rattle.archive_desk.specs.declared.faults.DeskFault.TheVariants.{Memory, Write}
+use Rattle.archive_desk.specs.declared.faults.DeskError.{DeskError}
+use Rattle.archive_desk.specs.declared.faults.DeskError.TheVariants.{Memory, Write}
 
 -- ---- the text
 
-module _ (ask : Ask) (reader : ReaderMarks) where
+module _ (ask : Ask) (reader : ReaderFacts) where
   abbrev text_of : List Remembered → List ℕ
-  text_of messages = written (map (λ s. s.item) (map shown_of messages))
+  text_of messages = written (map (λ s. s.item) (map shown_message messages))
 
   -- messages one after the other
-  pub shown_joined : (xs ys : List Remembered) → shown_text ask reader (xs ++ ys) ≡ shown_text ask reader xs ++ shown_text ask reader ys
+  pub shown_joined : (xs ys : List Remembered) → shown_mbox_text ask reader (xs ++ ys) ≡ shown_mbox_text ask reader xs ++ shown_mbox_text ask reader ys
   shown_joined [] ys = refl
   shown_joined (x ∷ xs) ys = by_test (is_shown ask reader x) (shown_joined xs ys)
     where
       by_test : (t : Bool) → text_of (filter (is_shown ask reader) (xs ++ ys)) ≡ text_of (filter (is_shown ask reader) xs) ++ text_of (filter (is_shown ask reader) ys)
           → text_of (cond t (x ∷ filter (is_shown ask reader) (xs ++ ys)) (filter (is_shown ask reader) (xs ++ ys))) ≡ text_of
           (cond t (x ∷ filter (is_shown ask reader) xs) (filter (is_shown ask reader) xs)) ++ text_of (filter (is_shown ask reader) ys)
-      by_test true h = ap (λ rest. written_item (shown_of x).item ++ rest) h
-          ∙ sym (append_assoc (written_item (shown_of x).item) (text_of (filter (is_shown ask reader) xs)) (text_of (filter (is_shown ask reader) ys)))
+      by_test true h = ap (λ rest. written_item (shown_message x).item ++ rest) h
+          ∙ sym (append_assoc (written_item (shown_message x).item) (text_of (filter (is_shown ask reader) xs)) (text_of (filter (is_shown ask reader) ys)))
       by_test false h = h
 
   -- one that is shown, and one that is not
-  pub one_shown : (list : List ℕ) (m : Message) (item : Item) → true ≡ is_shown ask reader (remembered list m) → item ≡ m.item
-      → shown_text ask reader (remembered list m ∷ []) ≡ written_item item
-  one_shown list m item is same = by_test (is_shown ask reader (remembered list m)) is
+  pub one_shown : (list : List ℕ) (m : Message) (item : Item) → true ≡ is_shown ask reader (archived_message list m) → item ≡ m.item
+      → shown_mbox_text ask reader (archived_message list m ∷ []) ≡ written_item item
+  one_shown list m item is same = by_test (is_shown ask reader (archived_message list m)) is
     where
-      by_test : (t : Bool) → true ≡ t → text_of (cond t (remembered list m ∷ []) []) ≡ written_item item
+      by_test : (t : Bool) → true ≡ t → text_of (cond t (archived_message list m ∷ []) []) ≡ written_item item
       by_test true e = append-nil (written_item m.item) ∙ ap written_item (sym same)
       by_test false e = absurd (cc)
 
-  pub none_shown : (list : List ℕ) (m : Message) → false ≡ is_shown ask reader (remembered list m) → shown_text ask reader (remembered list m ∷ []) ≡ []
-  none_shown list m is = by_test (is_shown ask reader (remembered list m)) is
+  pub none_shown : (list : List ℕ) (m : Message) → false ≡ is_shown ask reader (archived_message list m) → shown_mbox_text ask reader (archived_message list m ∷ []) ≡ []
+  none_shown list m is = by_test (is_shown ask reader (archived_message list m)) is
     where
-      by_test : (t : Bool) → false ≡ t → text_of (cond t (remembered list m ∷ []) []) ≡ []
+      by_test : (t : Bool) → false ≡ t → text_of (cond t (archived_message list m ∷ []) []) ≡ []
       by_test true e = absurd (cc)
       by_test false e = refl
 
 -- ---- a part, and what fails behind it
 
 -- behind a part, exactly the first bytes of what comes next
-pub cut_behind : (before mid after part text rest all : List ℕ) (k : ℕ) → mid ≡ before ++ part → all ≡ part ++ (text ++ rest) → IsCutShort mid after text k
-    → IsCutShort before after all (length part + k)
+pub cut_behind : (before mid after part text rest all : List ℕ) (k : ℕ) → mid ≡ before ++ part → all ≡ part ++ (text ++ rest) → AppendsPrefixOfText mid after text k
+    → AppendsPrefixOfText before after all (length part + k)
 cut_behind before mid after part text rest all k out whole cut = (
   omega (arith, cut.0, ap length whole, length-append part (text ++ rest), length-append text rest),
   cut.1 ∙ ap (λ x. x ++ take k text) out ∙ append_assoc before part (take k text)
@@ -70,24 +70,25 @@ cut_behind before mid after part text rest all k out whole cut = (
 )
 
 -- nothing of what comes next
-pub cut_there : (before after part rest all : List ℕ) → after ≡ before ++ part → all ≡ part ++ rest → IsCutShort before after all (length part)
+pub cut_there : (before after part rest all : List ℕ) → after ≡ before ++ part → all ≡ part ++ rest → AppendsPrefixOfText before after all (length part)
 cut_there before after part rest all out whole =
-    let none : IsCutShort after after [] 0 = (omega (arith), sym (append-nil after)) in
+    let none : AppendsPrefixOfText after after [] 0 = (omega (arith), sym (append-nil after)) in
     let here = cut_behind before after after part [] rest all 0 out whole none in
-    subst (λ n. IsCutShort before after all n) (let e : length part + 0 ≡ length part = omega (arith) in e) here
+    subst (λ n. AppendsPrefixOfText before after all n) (let e : length part + 0 ≡ length part = omega (arith) in e) here
 
-module _ {S : Type 0} (g : Ghosts S) (ask : Ask) (reader : ReaderMarks) where
+module _ {S : Type 0} (g : Ghosts S) (ask : Ask) (reader : ReaderFacts) where
   -- What was written is the text of the messages that the walk gave, as far as the policy shows them, and it was counted. The
   -- walk has those left that are not written.
   pub record RowsSoFar (old now : Walk S) (before after : List ℕ) (counted counts : ℕ) : Type 0 where
     pub part : List ℕ
     pub out : after ≡ before ++ part
     pub counts_is : counts ≡ min (counted + length part) 18446744073709551615
-    pub walked : HasReturned g now.store → (all : List Remembered) (a : Archive) → WalksOver g ask.list all a [] old
-        → (given : List Remembered) × WalksOver g ask.list all a given now × (part ≡ shown_text ask reader given)
+    pub walked : StoreHasCleanDisk g now.store → (all : List Remembered) (a : Archive) → WalksOver g ask.list all a [] old
+        → (given : List Remembered) × WalksOver g ask.list all a given now × (part ≡ shown_mbox_text ask reader given)
 
   -- whatever the fault
-  stands_still : (walk : Walk S) (a : Archive) (why : Option Reason) → StandsOn g a walk → MatchOption why (IsOpen g walk.store → StandsOn g a walk) (λ _. StandsOn g a walk)
+  stands_still : (walk : Walk S) (a : Archive) (why : Option RefusalReason) → WalkHoldsArchive g a walk
+      → MatchOption why (IsOpen g walk.store → WalkHoldsArchive g a walk) (λ _. WalkHoldsArchive g a walk)
   stands_still walk a None it = λ up. it
   stands_still walk a (Some why) it = it
 
@@ -101,16 +102,16 @@ module _ {S : Type 0} (g : Ghosts S) (ask : Ask) (reader : ReaderMarks) where
   }
 
   module _ (old mid new : Walk S) (before middle : List ℕ) (counted count : ℕ) (s : RowsSoFar old mid before middle counted count)
-      (was : HasReturned g new.store → HasReturned g mid.store) where
+      (was : StoreHasCleanDisk g new.store → StoreHasCleanDisk g mid.store) where
     -- why it stopped after a message, where memory was wanting
     pub rows_wanting : (after : List ℕ) (failed fails : ℕ) → after ≡ middle → fails ≡ failed → IsRowsStop before after failed fails counted count Memory
     rows_wanting after failed fails same quiet = (quiet, (s.part, same ∙ s.out, s.counts_is))
 
     module _ (m : Message)
-        (gives : HasReturned g new.store → (all : List Remembered) (a : Archive) (given : List Remembered) → WalksOver g ask.list all a given mid
-        → WalksOver g ask.list all a (given ++ remembered ask.list m ∷ []) new) where
+        (gives : StoreHasCleanDisk g new.store → (all : List Remembered) (a : Archive) (given : List Remembered) → WalksOver g ask.list all a given mid
+        → WalksOver g ask.list all a (given ++ archived_message ask.list m ∷ []) new) where
       abbrev text : List ℕ
-      text = shown_text ask reader (remembered ask.list m ∷ [])
+      text = shown_mbox_text ask reader (archived_message ask.list m ∷ [])
 
       -- one message more
       pub rows_more : (after : List ℕ) (more counts : ℕ) → after ≡ middle ++ text → more ≡ min (length text) 18446744073709551615
@@ -121,39 +122,39 @@ module _ {S : Type 0} (g : Ghosts S) (ask : Ask) (reader : ReaderMarks) where
         counts_is = omega (arith, is, sum, s.counts_is, length-append s.part text);
         walked = λ returned all a w.
             let so_far = s.walked (was returned) all a w in (
-              so_far.0 ++ remembered ask.list m ∷ [],
+              so_far.0 ++ archived_message ask.list m ∷ [],
               gives returned all a so_far.0 so_far.1,
-              ap (λ x. x ++ text) so_far.2 ∙ sym (shown_joined ask reader so_far.0 (remembered ask.list m ∷ [])),
+              ap (λ x. x ++ text) so_far.2 ∙ sym (shown_joined ask reader so_far.0 (archived_message ask.list m ∷ [])),
             );
       }
 
       -- the writer fails at it, or memory is wanting
-      pub rows_unwritten : (after : List ℕ) (k counts : ℕ) (fault : DeskFault) → (length after < 2 ^ 64 → IsCutShort middle after text k)
+      pub rows_unwritten : (after : List ℕ) (k counts : ℕ) (fault : DeskError) → (length after < 2 ^ 64 → AppendsPrefixOfText middle after text k)
           → counts ≡ min (count + k) 18446744073709551615 → WritesRows g old new ask reader before after counted counts (Err fault)
       rows_unwritten after k counts fault cut sum = λ returned all a w.
           let so_far = s.walked (was returned) all a w in
           let here = gives returned all a so_far.0 so_far.1 in
           let given = so_far.0 in
-          let one = remembered ask.list m ∷ [] in
-          let whole : shown_text ask reader all ≡ s.part ++ (text ++ shown_text ask reader here.left) =
-          ap (shown_text ask reader) (sym here.joined) ∙ shown_joined ask reader (given ++ one) here.left
-          ∙ ap (λ x. x ++ shown_text ask reader here.left) (shown_joined ask reader given one ∙ ap (λ x. x ++ text) (sym so_far.2))
-          ∙ append_assoc s.part text (shown_text ask reader here.left) in (
-            stands_still new a (reason fault) (here.held, here.archive_is),
+          let one = archived_message ask.list m ∷ [] in
+          let whole : shown_mbox_text ask reader all ≡ s.part ++ (text ++ shown_mbox_text ask reader here.left) =
+          ap (shown_mbox_text ask reader) (sym here.joined) ∙ shown_joined ask reader (given ++ one) here.left
+          ∙ ap (λ x. x ++ shown_mbox_text ask reader here.left) (shown_joined ask reader given one ∙ ap (λ x. x ++ text) (sym so_far.2))
+          ∙ append_assoc s.part text (shown_mbox_text ask reader here.left) in (
+            stands_still new a (refusal_reason fault) (here.held, here.archive_is),
             λ fits. (
               length s.part + k,
-              cut_behind before middle after s.part text (shown_text ask reader here.left) (shown_text ask reader all) k s.out whole (cut fits),
+              cut_behind before middle after s.part text (shown_mbox_text ask reader here.left) (shown_mbox_text ask reader all) k s.out whole (cut fits),
               omega (arith, sum, s.counts_is),
             ),
           )
 
       -- nothing of it was written
-      pub rows_refused : (after : List ℕ) (fault : DeskFault) → (length after < 2 ^ 64 → IsCutShort middle after text 0)
+      pub rows_refused : (after : List ℕ) (fault : DeskError) → (length after < 2 ^ 64 → AppendsPrefixOfText middle after text 0)
           → WritesRows g old new ask reader before after counted count (Err fault)
       rows_refused after fault cut = rows_unwritten after 0 count fault cut (omega (arith, s.counts_is))
 
     -- messages that the policy does not show were passed by
-    pub rows_past : PassesWithheld g mid new ask reader {A = Unit {0}} (Ok tt) → RowsSoFar old new before middle counted count
+    pub rows_past : SkipsWithheldMessages g mid new ask reader {A = Unit {0}} (Ok tt) → RowsSoFar old new before middle counted count
     rows_past passes = record {
       part = s.part;
       out = s.out;
@@ -164,95 +165,96 @@ module _ {S : Type 0} (g : Ghosts S) (ask : Ask) (reader : ReaderMarks) where
             so_far.0 ++ past.0,
             past.1,
             so_far.2
-                ∙ sym (shown_joined ask reader so_far.0 past.0 ∙ ap (λ xs. shown_text ask reader so_far.0 ++ text_of ask reader xs) past.2 ∙ append-nil (shown_text ask reader so_far.0)),
+                ∙ sym (shown_joined ask reader so_far.0 past.0 ∙ ap (λ xs. shown_mbox_text ask reader so_far.0 ++ text_of ask reader xs) past.2 ∙ append-nil (shown_mbox_text ask reader so_far.0)),
           );
     }
 
     -- the store fails
-    rows_left : (fault : DeskFault) → reason fault ≡ None
-        → (HasReturned g new.store → (all : List Remembered) (a : Archive) (given : List Remembered) → WalksOver g ask.list all a given mid → IsOpen g new.store → StandsOn g a new)
+    rows_left : (fault : DeskError) → refusal_reason fault ≡ None
+        → (StoreHasCleanDisk g new.store → (all : List Remembered) (a : Archive) (given : List Remembered) → WalksOver g ask.list all a given mid → IsOpen g new.store → WalkHoldsArchive g a new)
         → WritesRows g old new ask reader before middle counted count (Err fault)
     rows_left fault none stands = λ returned all a w.
         let so_far = s.walked (was returned) all a w in
         let here = so_far.1 in
-        let whole : shown_text ask reader all ≡ s.part ++ shown_text ask reader here.left =
-        ap (shown_text ask reader) (sym here.joined) ∙ shown_joined ask reader so_far.0 here.left
-        ∙ ap (λ x. x ++ shown_text ask reader here.left) (sym so_far.2) in (
+        let whole : shown_mbox_text ask reader all ≡ s.part ++ shown_mbox_text ask reader here.left =
+        ap (shown_mbox_text ask reader) (sym here.joined) ∙ shown_joined ask reader so_far.0 here.left
+        ∙ ap (λ x. x ++ shown_mbox_text ask reader here.left) (sym so_far.2) in (
           rw none (stands returned all a so_far.0 here),
           λ fits. (
             length s.part,
-            cut_there before middle s.part (shown_text ask reader here.left) (shown_text ask reader all) s.out whole,
+            cut_there before middle s.part (shown_mbox_text ask reader here.left) (shown_mbox_text ask reader all) s.out whole,
             s.counts_is,
           ),
         )
 
     -- at the next message
-    pub rows_unread : (fault : DeskFault) → reason fault ≡ None
-        → (HasReturned g new.store → (all : List Remembered) (a : Archive) (given : List Remembered) → WalksOver g ask.list all a given mid → IsOpen g new.store → WalksOver g ask.list all a given new)
+    pub rows_unread : (fault : DeskError) → refusal_reason fault ≡ None
+        → (StoreHasCleanDisk g new.store → (all : List Remembered) (a : Archive) (given : List Remembered) → WalksOver g ask.list all a given mid → IsOpen g new.store
+        → WalksOver g ask.list all a given new)
         → WritesRows g old new ask reader before middle counted count (Err fault)
     rows_unread fault none rests = rows_left fault none (λ returned all a given w up. let last = rests returned all a given w up in (last.held, last.archive_is))
 
     -- at the marks of those that are passed by
-    pub rows_unpassed : (fault : DeskFault) → reason fault ≡ None → (told : StoreFault) → PassesWithheld g mid new ask reader {A = Unit {0}} (Err told)
+    pub rows_unpassed : (fault : DeskError) → refusal_reason fault ≡ None → (told : StoreFault) → SkipsWithheldMessages g mid new ask reader {A = Unit {0}} (Err told)
         → WritesRows g old new ask reader before middle counted count (Err fault)
     rows_unpassed fault none told passes = rows_left fault none (λ returned all a given w up. let last = passes.passed returned all a given w up in (last.1.held, last.1.archive_is))
 
     -- none is left
-    pub rows_all : (HasReturned g new.store → (all : List Remembered) (a : Archive) (given : List Remembered) → WalksOver g ask.list all a given mid
+    pub rows_all : (StoreHasCleanDisk g new.store → (all : List Remembered) (a : Archive) (given : List Remembered) → WalksOver g ask.list all a given mid
         → WalksOver g ask.list all a given new × (given ≡ all)) → WritesRows g old new ask reader before middle counted count (Ok tt)
     rows_all ends = λ returned all a w.
         let so_far = s.walked (was returned) all a w in
         let here = ends returned all a so_far.0 so_far.1 in
-        let whole : s.part ≡ shown_text ask reader all = so_far.2 ∙ ap (shown_text ask reader) here.1 in (
+        let whole : s.part ≡ shown_mbox_text ask reader all = so_far.2 ∙ ap (shown_mbox_text ask reader) here.1 in (
           (here.0.held, here.0.archive_is),
           s.out ∙ ap (λ x. before ++ x) whole,
           s.counts_is ∙ ap (λ x. min (counted + length x) 18446744073709551615) whole,
         )
 
   -- a want of memory that is counted changes nothing of it
-  pub rows_counted : (old new counted : Walk S) (before after : List ℕ) (from to : ℕ) (fault : DeskFault) → CountsOne new counted
+  pub rows_counted : (old new counted : Walk S) (before after : List ℕ) (from to : ℕ) (fault : DeskError) → CountsOne new counted
       → WritesRows g old new ask reader before after from to (Err fault) → WritesRows g old counted ask reader before after from to (Err fault)
   rows_counted old new counted before after from to fault one rows = λ returned all a w.
-      let it = rows (subst (HasReturned g) one.store returned) all a w in (
-        subst (λ s. MatchOption (reason fault) (IsOpen g s → HoldsTables g s × (archive_in g s ≡ a)) (λ _. HoldsTables g s × (archive_in g s ≡ a))) (sym one.store) it.0,
+      let it = rows (subst (StoreHasCleanDisk g) one.store returned) all a w in (
+        subst (λ s. MatchOption (refusal_reason fault) (IsOpen g s → HoldsTables g s × (archive_in g s ≡ a)) (λ _. HoldsTables g s × (archive_in g s ≡ a))) (sym one.store) it.0,
         it.1,
       )
 
 -- ---- behind a head
 
 -- the writer fails in the head
-pub head_unwritten : {S : Type 0} (g : Ghosts S) (ask : Ask) (reader : ReaderMarks) (walk : Walk S) (head before after : List ℕ) (k : ℕ) → IsCutShort before after head k
+pub head_unwritten : {S : Type 0} (g : Ghosts S) (ask : Ask) (reader : ReaderFacts) (walk : Walk S) (head before after : List ℕ) (k : ℕ) → AppendsPrefixOfText before after head k
     → WritesWalk g walk walk ask reader head before after (Err (record { written = k; fault = Write }))
 head_unwritten g ask reader walk head before after k cut = λ returned all a w.
-    let text = shown_text ask reader all in (
+    let text = shown_mbox_text ask reader all in (
       (w.held, w.archive_is),
       λ fits.
           let none : length {A = ℕ} [] + k ≡ k = omega (arith) in
-          subst (λ n. IsCutShort before after (head ++ text) n) none (cut_behind before before after [] head text (head ++ text) k (sym (append-nil before)) refl cut),
+          subst (λ n. AppendsPrefixOfText before after (head ++ text) n) none (cut_behind before before after [] head text (head ++ text) k (sym (append-nil before)) refl cut),
     )
 
-module _ {S : Type 0} (g : Ghosts S) (ask : Ask) (reader : ReaderMarks) (old new : Walk S) (head before middle after : List ℕ) (out : middle ≡ before ++ head)
+module _ {S : Type 0} (g : Ghosts S) (ask : Ask) (reader : ReaderFacts) (old new : Walk S) (head before middle after : List ℕ) (out : middle ≡ before ++ head)
     (fits : length head < 2 ^ 64) where
   -- all of it is out
   pub walk_written : (count : ℕ) → WritesRows g old new ask reader middle after (length head) count (Ok tt)
       → WritesWalk g old new ask reader head before after (Ok count)
   walk_written count rows = λ returned all a w.
       let it = rows returned all a w in
-      let text = shown_text ask reader all in
+      let text = shown_mbox_text ask reader all in
       (it.0, it.1 ∙ ap (λ x. x ++ text) out ∙ append_assoc before head text, omega (arith, it.2, length-append head text))
 
   -- or a part, where the writer or the store fails
-  pub walk_stopped : (count : ℕ) (fault : DeskFault) → WritesRows g old new ask reader middle after (length head) count (Err fault)
+  pub walk_stopped : (count : ℕ) (fault : DeskError) → WritesRows g old new ask reader middle after (length head) count (Err fault)
       → WritesWalk g old new ask reader head before after (Err (record { written = count; fault = fault }))
   walk_stopped count fault rows = λ returned all a w.
       let it = rows returned all a w in
-      let text = shown_text ask reader all in (
+      let text = shown_mbox_text ask reader all in (
         it.0,
         λ low.
             let more = it.1 low in
             let told : length after ≡ length before + length head + more.0 =
             omega (arith, ap length more.1.1, length-append middle (take more.0 text), ap length out, length-append before head, length-take more.0 text, more.1.0) in
             let exact : count ≡ length head + more.0 = omega (arith, more.2, told, low) in
-            subst (λ n. IsCutShort before after (head ++ text) n) (sym exact)
+            subst (λ n. AppendsPrefixOfText before after (head ++ text) n) (sym exact)
             (cut_behind before middle after head text [] (head ++ text) more.0 out (ap (λ x. head ++ x) (sym (append-nil text))) more.1),
       )

@@ -1,14 +1,14 @@
 -- Want of memory, counted from call to call.
 use Rattle.std.proofs.Common.{inl, inr, refl, ℕ, Err}
-use Rattle.archive_port.specs.Wanting.{IsWant, Raises}
+use Rattle.archive_port.specs.Wanting.{IsMemoryRefusal, RaisesRefusalCount}
 use Rattle.archive_port.specs.declared.faults.StoreFault.{StoreFault}
 use Rattle.archive_port.specs.declared.faults.StoreFault.TheVariants as faults
 use Rattle.archive_port.proofs.WantLemmas.{raises_as}
-use Rattle.archive_desk.specs.Causes.{IsWanting}
-use Rattle.archive_desk.specs.Faults.{desk_fault}
+use Rattle.archive_desk.specs.Causes.{IsDeskMemoryRefusal}
+use Rattle.archive_desk.specs.Faults.{desk_error_of}
 
 -- of the faults of the store E14 alone
-pub wanting_by : (fault : StoreFault) → IsWanting (desk_fault fault) → IsWant fault
+pub wanting_by : (fault : StoreFault) → IsDeskMemoryRefusal (desk_error_of fault) → IsMemoryRefusal fault
 wanting_by faults.BadName it = elim it [ inl own ↦ absurd (cc) | inr below ↦ absurd (cc) ]
 wanting_by faults.BadText it = elim it [ inl own ↦ absurd (cc) | inr below ↦ absurd (cc) ]
 wanting_by faults.ListExists it = elim it [ inl own ↦ absurd (cc) | inr below ↦ absurd (cc) ]
@@ -25,7 +25,7 @@ wanting_by faults.TooLarge it = elim it [ inl own ↦ absurd (cc) | inr below �
 wanting_by faults.Memory it = refl
 wanting_by faults.Store it = elim it [ inl own ↦ absurd (cc) | inr below ↦ absurd (cc) ]
 
-module _ (A B : Type 0) (a b : ℕ) (fault : StoreFault) (it : Raises {A = A} IsWant a b (Err fault)) where
+module _ (A B : Type 0) (a b : ℕ) (fault : StoreFault) (it : RaisesRefusalCount {A = A} IsMemoryRefusal a b (Err fault)) where
   -- a fault of the store, as one of the desk
-  pub wants_of_store : Raises {A = B} IsWanting a b (Err (desk_fault fault))
-  wants_of_store = raises_as A B IsWant IsWanting a b fault (desk_fault fault) (wanting_by fault) it
+  pub wants_of_store : RaisesRefusalCount {A = B} IsDeskMemoryRefusal a b (Err (desk_error_of fault))
+  wants_of_store = raises_as A B IsMemoryRefusal IsDeskMemoryRefusal a b fault (desk_error_of fault) (wanting_by fault) it

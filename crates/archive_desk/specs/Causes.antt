@@ -7,42 +7,42 @@ use Rattle.sqlite.specs.Effect.{Database}
 use Rattle.sqlite.specs.Store.{Ghosts}
 use Rattle.sqlite.specs.Held.{state}
 use Rattle.policy_core.specs.declared.access.Standing.{Standing}
-use Rattle.policy_core.specs.Rules.{asks_own}
-use Rattle.archive_machine.specs.Records.{Archive, Message}
-use Rattle.archive_machine.specs.Questions.{address_of, message_of, standing_of}
+use Rattle.policy_core.specs.Rules.{has_own_condition}
+use Rattle.archive_model.specs.Records.{Archive, Message}
+use Rattle.archive_model.specs.Questions.{address_of, message_of, standing_of}
 use Rattle.archive_port.specs.Messages.{IsReadable}
-use Rattle.archive_store.specs.Held.{held_of}
-use Rattle.archive_store.specs.Told.{HasFailed, HasNoLimit, HasReturned, HoldsTables, archive_in}
+use Rattle.archive_store.specs.Held.{store_connection}
+use Rattle.archive_store.specs.Told.{DiskHasFailed, HasNoStepLimit, StoreHasCleanDisk, HoldsTables, archive_in}
 use Rattle.archive_port.specs.Words.{standing_rank}
 use Rattle.archive_store.specs.declared.store.Store.{Store}
 use Rattle.archive_port.specs.declared.faults.StoreFault.TheVariants as faults
 use Rattle.archive_results.specs.Access.{Ask}
-use Rattle.archive_desk.specs.declared.faults.DeskFault.{DeskFault}
-use Rattle.archive_desk.specs.declared.faults.DeskFault.TheVariants.{Store as Stored, Memory}
+use Rattle.archive_desk.specs.declared.faults.DeskError.{DeskError}
+use Rattle.archive_desk.specs.declared.faults.DeskError.TheVariants.{Store as Stored, Memory}
 
 -- G4 that carries E15
-abbrev pub IsBroken : DeskFault → Type 0
-IsBroken fault = fault ≡ Stored faults.Store
+abbrev pub IsDeskDatabaseFault : DeskError → Type 0
+IsDeskDatabaseFault fault = fault ≡ Stored faults.Store
 
 -- ---- want of memory, which is counted
 
 -- G5
-abbrev pub IsOwnWant : DeskFault → Type 0
-IsOwnWant fault = fault ≡ Memory
+abbrev pub IsDeskOwnMemoryRefusal : DeskError → Type 0
+IsDeskOwnMemoryRefusal fault = fault ≡ Memory
 
 -- G4 that carries E14
-abbrev pub IsStoreWanting : DeskFault → Type 0
-IsStoreWanting fault = fault ≡ Stored faults.Memory
+abbrev pub IsStoreMemoryRefusal : DeskError → Type 0
+IsStoreMemoryRefusal fault = fault ≡ Stored faults.Memory
 
 -- memory was refused: G5, or G4 that carries E14
-abbrev pub IsWanting : DeskFault → Type 0
-IsWanting fault = IsOwnWant fault ⊎ IsStoreWanting fault
+abbrev pub IsDeskMemoryRefusal : DeskError → Type 0
+IsDeskMemoryRefusal fault = IsDeskOwnMemoryRefusal fault ⊎ IsStoreMemoryRefusal fault
 
 -- ---- rows that cannot be read, which no command writes (a law: `what_commands_write_can_be_read`)
 
 -- among these messages is one that cannot be read
-abbrev pub AreUnreadable : List Message → Type 0
-AreUnreadable messages = ¬ All IsReadable messages
+abbrev pub HasUnreadableMessage : List Message → Type 0
+HasUnreadableMessage messages = ¬ All IsReadable messages
 
 -- the message of a key cannot be read
 abbrev pub IsMessageUnreadable : Archive → Ask → (key : List ℕ) → Type 0
@@ -58,15 +58,15 @@ IsAddressUnreadable archive person = IsSomeAnd (address_of archive person) (λ a
 
 -- what is asked of a person: the standing, and the address where a rule asks whether a message is the reader's own
 abbrev pub IsPersonUnreadable : Archive → Ask → (person : List ℕ) → Type 0
-IsPersonUnreadable archive ask person = IsRankUnknown archive ask person ⊎ ((asks_own ask.rules ≡ true) × IsAddressUnreadable archive person)
+IsPersonUnreadable archive ask person = IsRankUnknown archive ask person ⊎ ((has_own_condition ask.rules ≡ true) × IsAddressUnreadable archive person)
 
 -- what is asked of a reader who is a person cannot be read
 abbrev pub IsReaderUnreadable : Archive → Ask → Type 0
 IsReaderUnreadable archive ask = IsSomeAnd ask.reader (IsPersonUnreadable archive ask)
 
 -- one of the messages that a question is about, or who asks
-abbrev pub IsUnreadable : Archive → Ask → List Message → Type 0
-IsUnreadable archive ask messages = AreUnreadable messages ⊎ IsReaderUnreadable archive ask
+abbrev pub IsQuestionUnreadable : Archive → Ask → List Message → Type 0
+IsQuestionUnreadable archive ask messages = HasUnreadableMessage messages ⊎ IsReaderUnreadable archive ask
 
 -- ---- a call
 
@@ -75,22 +75,22 @@ module _ {S : Type 0} (g : Ghosts S) (old new : Store S) where
   -- to it, the tables are an archive's and no limit is set on the steps of a query, the disk failed in that call, or this is so of
   -- the archive, which holds what no command writes.
   abbrev pub HasCause : (Archive → Type 0) → Type 0
-  HasCause Unread = HasReturned g new → HoldsTables g old → HasNoLimit g old → HasFailed g old new ⊎ Unread (archive_in g old)
+  HasCause Unread = StoreHasCleanDisk g new → HoldsTables g old → HasNoStepLimit g old → DiskHasFailed g old new ⊎ Unread (archive_in g old)
 
   -- The same of a call that carries out as much as it can, under a premise on the store (`HoldsTables`, `IsReady`): the disk failed, or
   -- this is so of the archive before the call and of the rows which the store holds then.
-  abbrev pub HasCauseBehind : (Store S → Type 0) → (Archive → Database → Type 0) → Type 0
-  HasCauseBehind Premise Stops = HasReturned g new → Premise old → HasNoLimit g old
-      → HasFailed g old new ⊎ Stops (archive_in g old) (state g (held_of new)).now
+  abbrev pub HasPartialCallCause : (Store S → Type 0) → (Archive → Database → Type 0) → Type 0
+  HasPartialCallCause Premise Stops = StoreHasCleanDisk g new → Premise old → HasNoStepLimit g old
+      → DiskHasFailed g old new ⊎ Stops (archive_in g old) (state g (store_connection new)).now
 
   -- the same, where every archive can be read: the disk failed
   abbrev pub HasDiskCause : Type 0
-  HasDiskCause = HasReturned g new → HoldsTables g old → HasNoLimit g old → HasFailed g old new
+  HasDiskCause = StoreHasCleanDisk g new → HoldsTables g old → HasNoStepLimit g old → DiskHasFailed g old new
 
   -- what G4 of a question means that carries E15: the disk failed, or this is so of the archive
-  abbrev pub CausedOr : {A : Type 0} → Result A DeskFault → (Archive → Type 0) → Type 0
-  CausedOr result Unread = IfErr result (λ fault. IsBroken fault → HasCause Unread)
+  abbrev pub DeskFaultMeansDiskFailedOr : {A : Type 0} → Result A DeskError → (Archive → Type 0) → Type 0
+  DeskFaultMeansDiskFailedOr result Unread = IfErr result (λ fault. IsDeskDatabaseFault fault → HasCause Unread)
 
   -- the disk failed
-  abbrev pub Caused : {A : Type 0} → Result A DeskFault → Type 0
-  Caused result = IfErr result (λ fault. IsBroken fault → HasDiskCause)
+  abbrev pub DeskFaultMeansDiskFailed : {A : Type 0} → Result A DeskError → Type 0
+  DeskFaultMeansDiskFailed result = IfErr result (λ fault. IsDeskDatabaseFault fault → HasDiskCause)

@@ -2,29 +2,29 @@
 use Rattle.std.specs.Prelude.{◌≡◌, ◌⊎◌, ℕ, List, Result, MatchResult}
 use Rattle.sqlite.specs.Store.{Ghosts}
 use Rattle.sqlite.specs.Held.{state}
-use Rattle.mbox_core.specs.Division.{Item, Divides}
-use Rattle.archive_machine.specs.Records.{Archive}
-use Rattle.archive_tables.specs.Crashes.{CrashLeaves, IsSafe}
+use Rattle.mbox_core.specs.Division.{Item, DividesIntoItems}
+use Rattle.archive_model.specs.Records.{Archive}
+use Rattle.archive_tables.specs.Crashes.{CrashLeavesArchiveWhere, IsCrashSafe}
 use Rattle.archive_port.specs.Adding.{HasAddedAtLeast}
-use Rattle.archive_store.specs.Held.{held_of}
-use Rattle.archive_store.specs.Told.{HasReturned, HoldsTables, archive_in}
+use Rattle.archive_store.specs.Held.{store_connection}
+use Rattle.archive_store.specs.Told.{StoreHasCleanDisk, HoldsTables, archive_in}
 use Rattle.archive_store.specs.declared.store.Store.{Store}
 
 -- Nothing was added, and `done` is none, as where the file is no mbox; or so many first messages of the file, at least `done`.
 abbrev pub HasImportedAtLeast : List ℕ → List ℕ → ℕ → Archive → Archive → Type 0
-HasImportedAtLeast list text done a b = ((done ≡ 0) × (b ≡ a)) ⊎ ((items : List Item) × Divides text items × HasAddedAtLeast list items done a b)
+HasImportedAtLeast list text done a b = ((done ≡ 0) × (b ≡ a)) ⊎ ((items : List Item) × DividesIntoItems text items × HasAddedAtLeast list items done a b)
 
 module _ {S : Type 0} (g : Ghosts S) where
   -- a stop of the machine leaves what the store remembers, and nothing else
-  abbrev pub IsSafeStore : Store S → Type 0
-  IsSafeStore store = IsSafe (state g (held_of store))
+  abbrev pub IsCrashSafeStore : Store S → Type 0
+  IsCrashSafeStore store = IsCrashSafe (state g (store_connection store))
 
   -- A call that has returned, and a stop of the machine behind it, where before it a stop left what was remembered, and nothing else.
   -- Behind a call that was answered it is so again; and else an open finds an archive of which this holds, by the one before the call.
-  abbrev pub CrashesIn : (Store S → Type 0) → Store S → Store S → {A F : Type 0} → Result A F → (Archive → F → Archive → Type 0) → Type 0
-  CrashesIn Premise old new result Leaves = HasReturned g new → Premise old → IsSafeStore old
-      → MatchResult result (λ _. IsSafeStore new) (λ fault. CrashLeaves (state g (held_of new)) (Leaves (archive_in g old) fault))
+  abbrev pub CrashAfterCallUnder : (Store S → Type 0) → Store S → Store S → {A F : Type 0} → Result A F → (Archive → F → Archive → Type 0) → Type 0
+  CrashAfterCallUnder Premise old new result Leaves = StoreHasCleanDisk g new → Premise old → IsCrashSafeStore old
+      → MatchResult result (λ _. IsCrashSafeStore new) (λ fault. CrashLeavesArchiveWhere (state g (store_connection new)) (Leaves (archive_in g old) fault))
 
   -- a call to a store whose tables are an archive's, whatever is filed of a message
-  abbrev pub CrashesHeld : Store S → Store S → {A F : Type 0} → Result A F → (Archive → F → Archive → Type 0) → Type 0
-  CrashesHeld old new result Leaves = CrashesIn (HoldsTables g) old new result Leaves
+  abbrev pub CrashAfterTablesCall : Store S → Store S → {A F : Type 0} → Result A F → (Archive → F → Archive → Type 0) → Type 0
+  CrashAfterTablesCall old new result Leaves = CrashAfterCallUnder (HoldsTables g) old new result Leaves

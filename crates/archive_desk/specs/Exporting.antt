@@ -1,65 +1,65 @@
 -- The view as an mbox, written to a device.
 use Rattle.std.specs.Prelude.{◌≡◌, ◌<◌, ◌^◌, ◌-◌, ◌++◌, ℕ, List, length, map, filter, min, Option, Some, None, Result, option_map}
 use Rattle.sqlite.specs.Store.{Ghosts}
-use Rattle.mbox_core.specs.Written.{IsCutShort}
-use Rattle.archive_machine.specs.Records.{Archive, Message as Remembered}
-use Rattle.archive_store.specs.Told.{HasReturned, HoldsTables, archive_in}
+use Rattle.mbox_core.specs.Written.{AppendsPrefixOfText}
+use Rattle.archive_model.specs.Records.{Archive, Message as Remembered}
+use Rattle.archive_store.specs.Told.{StoreHasCleanDisk, HoldsTables, archive_in}
 use Rattle.archive_store.specs.declared.store.Store.{Store}
-use Rattle.archive_results.specs.Access.{Ask, ReaderMarks, is_shown, view_of}
+use Rattle.archive_results.specs.Access.{Ask, ReaderFacts, is_shown, view_of}
 use Rattle.archive_results.specs.Results.{export_text}
-use Rattle.archive_results.specs.Shown.{shown_of}
-use Rattle.archive_desk.specs.Holding.{CallsHeld}
-use Rattle.archive_desk.specs.Faults.{Reason, refused, not_in_view, not_written, declined, reason, ask_reason}
+use Rattle.archive_results.specs.Shown.{shown_message}
+use Rattle.archive_desk.specs.Holding.{CallsStoreWithTables}
+use Rattle.archive_desk.specs.Faults.{RefusalReason, refused, not_in_view, not_written, declined, refusal_reason, ask_reason}
 use Rattle.archive_desk.specs.declared.exporting.ExportStop.{ExportStop}
-use Rattle.archive_desk.specs.declared.faults.DeskFault.{DeskFault}
-use Rattle.archive_desk.specs.declared.faults.DeskFault.TheVariants.{Store as Stored, Memory, Write}
+use Rattle.archive_desk.specs.declared.faults.DeskError.{DeskError}
+use Rattle.archive_desk.specs.declared.faults.DeskError.TheVariants.{Store as Stored, Memory, Write}
 
 -- the text of an export
-abbrev pub exported : Archive → Ask → List ℕ
-exported archive ask = export_text (map shown_of (view_of archive ask))
+abbrev pub exported_text : Archive → Ask → List ℕ
+exported_text archive ask = export_text (map shown_message (view_of archive ask))
 
 -- the text of those of these messages that the policy shows to a reader of these marks
-abbrev pub shown_text : Ask → ReaderMarks → List Remembered → List ℕ
-shown_text ask reader messages = export_text (map shown_of (filter (is_shown ask reader) messages))
+abbrev pub shown_mbox_text : Ask → ReaderFacts → List Remembered → List ℕ
+shown_mbox_text ask reader messages = export_text (map shown_message (filter (is_shown ask reader) messages))
 
 -- how many bytes were written, and why it stopped; none where memory or the database was at fault
-abbrev pub stop_reason : ExportStop → Option (ℕ × Reason)
-stop_reason stop = option_map (λ why. (stop.written, why)) (reason stop.fault)
+abbrev pub export_stop_reason : ExportStop → Option (ℕ × RefusalReason)
+export_stop_reason stop = option_map (λ why. (stop.written, why)) (refusal_reason stop.fault)
 
 -- G1 and G2, where what is asked is refused; G6, and then exactly the first bytes of the text were written, where the writer
 -- told fewer than 2^64 bytes
-abbrev pub IsExportRefused : Option Reason → List ℕ → List ℕ → List ℕ → ℕ → Reason → Type 0
+abbrev pub IsExportRefused : Option RefusalReason → List ℕ → List ℕ → List ℕ → ℕ → RefusalReason → Type 0
 IsExportRefused asked before after text count (refused why) = asked ≡ Some (refused why)
-IsExportRefused asked before after text count not_written = (asked ≡ None) × (length after < 2 ^ 64 → IsCutShort before after text count)
+IsExportRefused asked before after text count not_written = (asked ≡ None) × (length after < 2 ^ 64 → AppendsPrefixOfText before after text count)
 IsExportRefused asked before after text count not_in_view = ⊥
 IsExportRefused asked before after text count (declined why) = ⊥
 
 -- An export of this text: after Ok the writer got it, and the count is its length, as far as 64 bits go; else why it stopped.
 -- The archive stays.
-abbrev pub Exports : {S : Type 0} → Ghosts S → Store S → Store S → Result ℕ ExportStop → Ask → List ℕ → List ℕ → (Archive → List ℕ) → Type 0
-Exports g old new result ask before after text = CallsHeld g old new stop_reason result
+abbrev pub ExportsMbox : {S : Type 0} → Ghosts S → Store S → Store S → Result ℕ ExportStop → Ask → List ℕ → List ℕ → (Archive → List ℕ) → Type 0
+ExportsMbox g old new result ask before after text = CallsStoreWithTables g old new export_stop_reason result
     (λ a b count. (b ≡ a) × (ask_reason a ask ≡ None) × (after ≡ before ++ text a) × (count ≡ min (length (text a)) (2 ^ 64 - 1)))
     (λ a b why. (b ≡ a) × IsExportRefused (ask_reason a ask) before after (text a) why.0 why.1)
     (λ a b stop. b ≡ a)
 
 -- so many bytes were written, as far as 64 bits go
-abbrev pub HasWritten : (before after : List ℕ) → ℕ → Type 0
-HasWritten before after count = (part : List ℕ) × (after ≡ before ++ part) × (count ≡ min (length part) (2 ^ 64 - 1))
+abbrev pub HasWrittenBytes : (before after : List ℕ) → ℕ → Type 0
+HasWrittenBytes before after count = (part : List ℕ) × (after ≡ before ++ part) × (count ≡ min (length part) (2 ^ 64 - 1))
 
 -- The writer failed. Else it did not: where the store failed or memory was wanting, so many bytes were written, and where what is
 -- asked is refused, none.
-abbrev pub IsExportStop : List ℕ → List ℕ → ℕ → ℕ → ℕ → DeskFault → Type 0
+abbrev pub IsExportStop : List ℕ → List ℕ → ℕ → ℕ → ℕ → DeskError → Type 0
 IsExportStop before after failed fails count Write = failed < fails
-IsExportStop before after failed fails count (Stored fault) = (fails ≡ failed) × HasWritten before after count
-IsExportStop before after failed fails count Memory = (fails ≡ failed) × HasWritten before after count
+IsExportStop before after failed fails count (Stored fault) = (fails ≡ failed) × HasWrittenBytes before after count
+IsExportStop before after failed fails count Memory = (fails ≡ failed) × HasWrittenBytes before after count
 IsExportStop before after failed fails count other = (count ≡ 0) × (after ≡ before) × (fails ≡ failed)
 
 -- Whatever the fault, and whether the connection is still open: exactly the first bytes of the text of what the store
 -- remembered were written, where the writer told fewer than 2^64 bytes.
 abbrev pub ExportsPart : {S : Type 0} → Ghosts S → Store S → Store S → (before after : List ℕ) → ℕ → (Archive → List ℕ) → Type 0
 ExportsPart g old new before after count text =
-    HasReturned g new → HoldsTables g old → length after < 2 ^ 64 → IsCutShort before after (text (archive_in g old)) count
+    StoreHasCleanDisk g new → HoldsTables g old → length after < 2 ^ 64 → AppendsPrefixOfText before after (text (archive_in g old)) count
 
 -- Where some bytes were written, what is asked is not refused: the list is there, and so is the reader.
-abbrev pub HasBegun : {S : Type 0} → Ghosts S → Store S → Store S → Ask → ℕ → Type 0
-HasBegun g old new ask count = HasReturned g new → HoldsTables g old → 0 < count → ask_reason (archive_in g old) ask ≡ None
+abbrev pub WritesOnlyIfNotRefused : {S : Type 0} → Ghosts S → Store S → Store S → Ask → ℕ → Type 0
+WritesOnlyIfNotRefused g old new ask count = StoreHasCleanDisk g new → HoldsTables g old → 0 < count → ask_reason (archive_in g old) ask ≡ None

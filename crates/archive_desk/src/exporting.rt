@@ -1,17 +1,17 @@
 //! The view as an mbox, written message by message.
 ghost use Rattle.std.specs.Prelude.{◌≡◌, ◌∷◌, [], ◌<◌, ◌^◌, ◌-◌, ◌++◌, min, length, OnOk, IfOk, IfErr};
-ghost use Rattle.mbox_core.specs.Written.{IsCutShort};
-ghost use Rattle.archive_machine.specs.Messages.{remembered};
-ghost use Rattle.archive_store.specs.Walking.{over};
-ghost use Rattle.archive_desk.specs.Ending.{EndsExport, EndsWalk, StopsExport, TellsWriter};
-ghost use Rattle.archive_desk.specs.Exporting.{Exports, IsExportStop, exported, shown_text};
-ghost use Rattle.archive_desk.specs.Walking.{IsRowsStop, IsShownStop, IsWalkStop, WritesRows, WritesWalk, unshown_bytes};
+ghost use Rattle.mbox_core.specs.Written.{AppendsPrefixOfText};
+ghost use Rattle.archive_model.specs.Messages.{archived_message};
+ghost use Rattle.archive_store.specs.Walking.{walk_over_store};
+ghost use Rattle.archive_desk.specs.Ending.{EndsExport, EndsWalk, LeavesPartialExport, ReportsWriterFailure};
+ghost use Rattle.archive_desk.specs.Exporting.{ExportsMbox, IsExportStop, exported_text, shown_mbox_text};
+ghost use Rattle.archive_desk.specs.Walking.{IsRowsStop, IsMessageWriteStop, IsWalkStop, WritesRows, WritesWalk, partial_message_bytes};
 
-use crate::faults::DeskFault;
+use crate::faults::DeskError;
 use crate::passing::pass_withheld;
-use crate::viewing::find_reader;
-use archive_results::{Ask, ReaderMarks, is_shown};
-use archive_store::{EachRow, Message, Store};
+use crate::viewing::resolve_reader;
+use archive_results::{Ask, ReaderFacts, is_shown};
+use archive_store::{Message, MessageWalk, Store};
 use mail_core::Memory;
 use mbox_core::device::{Sink, write_bytes};
 use mbox_core::{write_item, written_len};
@@ -24,7 +24,7 @@ pub struct ExportStop {
     /// How many bytes of the text went out.
     pub written: u64,
     /// Why no more did.
-    pub fault: DeskFault,
+    pub fault: DeskError,
 }
 
 /// Writes the view as an mbox (RFC 4155): how many bytes that is. It holds one message at a time. G1 where there is no
@@ -36,13 +36,13 @@ pub fn export<S: Alter, W: Sink>(
     ask: &Ask<'_>,
     out: &mut W,
 ) -> Result<u64, ExportStop>
-    ensures exported { Exports S.Store store.old store.new result ask.now (W.told out.old)
+    ensures exported { ExportsMbox S.Store store.old store.new result ask.now (W.told out.old)
         (W.told out.new)
-        (λ a. exported a ask.now) }
-    ensures stopped { StopsExport S.Store store.old store.new ask.now (W.told out.old)
+        (λ a. exported_text a ask.now) }
+    ensures stopped { LeavesPartialExport S.Store store.old store.new ask.now (W.told out.old)
         (W.told out.new)
-        (λ a. exported a ask.now) result }
-    ensures writer { TellsWriter (W.failures out.old) (W.failures out.new) result
+        (λ a. exported_text a ask.now) result }
+    ensures writer { ReportsWriterFailure (W.failures out.old) (W.failures out.new) result
         (λ stop. IsExportStop (W.told out.old) (W.told out.new) (W.failures out.old)
         (W.failures out.new) stop.written stop.fault) }
     ensures ends { EndsExport S.Store store.old store.new ask.now result }
@@ -59,18 +59,18 @@ pub fn export_after<S: Alter, W: Sink>(
     head: &[u8],
     out: &mut W,
 ) -> Result<u64, ExportStop>
-    ensures exported { Exports S.Store store.old store.new result ask.now (W.told out.old)
+    ensures exported { ExportsMbox S.Store store.old store.new result ask.now (W.told out.old)
         (W.told out.new)
-        (λ a. head.now ++ exported a ask.now) }
-    ensures stopped { StopsExport S.Store store.old store.new ask.now (W.told out.old)
+        (λ a. head.now ++ exported_text a ask.now) }
+    ensures stopped { LeavesPartialExport S.Store store.old store.new ask.now (W.told out.old)
         (W.told out.new)
-        (λ a. head.now ++ exported a ask.now) result }
-    ensures writer { TellsWriter (W.failures out.old) (W.failures out.new) result
+        (λ a. head.now ++ exported_text a ask.now) result }
+    ensures writer { ReportsWriterFailure (W.failures out.old) (W.failures out.new) result
         (λ stop. IsExportStop (W.told out.old) (W.told out.new) (W.failures out.old)
         (W.failures out.new) stop.written stop.fault) }
     ensures ends { EndsExport S.Store store.old store.new ask.now result }
 {
-    let reader = match find_reader(store, ask) {
+    let reader = match resolve_reader(store, ask) {
         Ok(reader) => reader,
         Err(fault) => return Err(ExportStop { written: 0, fault }),
     };
@@ -78,7 +78,7 @@ pub fn export_after<S: Alter, W: Sink>(
         Ok(mut walk) => write_walk(store, alloc, ask, &reader, head, &mut walk, out),
         Err(fault) => Err(ExportStop {
             written: 0,
-            fault: DeskFault::from(fault),
+            fault: DeskError::from(fault),
         }),
     }
 }
@@ -88,22 +88,22 @@ fn write_walk<S: Alter, W: Sink>(
     store: &mut Store<S>,
     alloc: Global,
     ask: &Ask<'_>,
-    reader: &ReaderMarks,
+    reader: &ReaderFacts,
     head: &[u8],
-    walk: &mut EachRow,
+    walk: &mut MessageWalk,
     out: &mut W,
 ) -> Result<u64, ExportStop>
-    ensures written { WritesWalk S.Store (over store.old walk.old) (over store.new walk.new) ask.now reader.now head.now
+    ensures written { WritesWalk S.Store (walk_over_store store.old walk.old) (walk_over_store store.new walk.new) ask.now reader.now head.now
         (W.told out.old) (W.told out.new) result }
-    ensures writer { TellsWriter (W.failures out.old) (W.failures out.new) result
+    ensures writer { ReportsWriterFailure (W.failures out.old) (W.failures out.new) result
         (λ stop. IsWalkStop (W.told out.old) (W.told out.new) (W.failures out.old)
         (W.failures out.new) stop.written stop.fault) }
-    ensures ends { EndsWalk S.Store (over store.old walk.old) (over store.new walk.new) ask.now (λ stop. stop.fault) result }
+    ensures ends { EndsWalk S.Store (walk_over_store store.old walk.old) (walk_over_store store.new walk.new) ask.now (λ stop. stop.fault) result }
 {
     if let Err(fault) = write_bytes(out, head) {
         return Err(ExportStop {
             written: fault.written,
-            fault: DeskFault::Write,
+            fault: DeskError::Write,
         });
     }
     let mut count = head.len() as u64;
@@ -121,19 +121,19 @@ fn write_rows<S: Alter, W: Sink>(
     store: &mut Store<S>,
     alloc: Global,
     ask: &Ask<'_>,
-    reader: &ReaderMarks,
-    walk: &mut EachRow,
+    reader: &ReaderFacts,
+    walk: &mut MessageWalk,
     out: &mut W,
     count: &mut u64,
-) -> Result<(), DeskFault>
+) -> Result<(), DeskError>
     requires { count.old < 2 ^ 64 }
-    ensures written { WritesRows S.Store (over store.old walk.old) (over store.new walk.new) ask.now reader.now (W.told out.old)
+    ensures written { WritesRows S.Store (walk_over_store store.old walk.old) (walk_over_store store.new walk.new) ask.now reader.now (W.told out.old)
         (W.told out.new)
         count.old count.new result }
-    ensures writer { TellsWriter (W.failures out.old) (W.failures out.new) result
+    ensures writer { ReportsWriterFailure (W.failures out.old) (W.failures out.new) result
         (λ fault. IsRowsStop (W.told out.old) (W.told out.new) (W.failures out.old)
         (W.failures out.new) count.old count.new fault) }
-    ensures ends { EndsWalk S.Store (over store.old walk.old) (over store.new walk.new) ask.now (λ fault. fault) result }
+    ensures ends { EndsWalk S.Store (walk_over_store store.old walk.old) (walk_over_store store.new walk.new) ask.now (λ fault. fault) result }
 {
     loop {
         pass_withheld(store, ask, reader, walk)?;
@@ -144,11 +144,11 @@ fn write_rows<S: Alter, W: Sink>(
             Ok(more) => *count = count.saturating_add(more),
             Err(Unshown::Write(written)) => {
                 *count = count.saturating_add(written);
-                return Err(DeskFault::Write);
+                return Err(DeskError::Write);
             }
             Err(Unshown::Refused(refused)) => {
-                store.wants.raise(refused.into());
-                return Err(DeskFault::Memory);
+                store.wants.increment(refused.into());
+                return Err(DeskError::Memory);
             }
         }
     }
@@ -166,22 +166,22 @@ enum Unshown {
 fn write_shown<W: Sink>(
     alloc: Global,
     ask: &Ask<'_>,
-    reader: &ReaderMarks,
+    reader: &ReaderFacts,
     message: &Message,
     out: &mut W,
 ) -> Result<u64, Unshown>
     ensures ok { OnOk result (W.told out.new
-        ≡ W.told out.old ++ shown_text ask.now reader.now
-        (remembered ask.now.list message.now ∷ [])) }
+        ≡ W.told out.old ++ shown_mbox_text ask.now reader.now
+        (archived_message ask.now.list message.now ∷ [])) }
     ensures count { IfOk result (λ count.
-        count ≡ min (length (shown_text ask.now reader.now
-        (remembered ask.now.list message.now ∷ []))) (2 ^ 64 - 1)) }
+        count ≡ min (length (shown_mbox_text ask.now reader.now
+        (archived_message ask.now.list message.now ∷ []))) (2 ^ 64 - 1)) }
     ensures part { IfErr result (λ stop. length (W.told out.new) < 2 ^ 64
-        → IsCutShort (W.told out.old) (W.told out.new)
-        (shown_text ask.now reader.now (remembered ask.now.list message.now ∷ []))
-        (unshown_bytes stop)) }
+        → AppendsPrefixOfText (W.told out.old) (W.told out.new)
+        (shown_mbox_text ask.now reader.now (archived_message ask.now.list message.now ∷ []))
+        (partial_message_bytes stop)) }
     ensures quiet { OnOk result (W.failures out.new ≡ W.failures out.old) }
-    ensures cause { IfErr result (λ stop. IsShownStop (W.told out.old) (W.told out.new)
+    ensures cause { IfErr result (λ stop. IsMessageWriteStop (W.told out.old) (W.told out.new)
         (W.failures out.old) (W.failures out.new) stop) }
 {
     match is_shown(alloc, ask, reader, message) {

@@ -1,5 +1,5 @@
 //! Why a question is not answered.
-ghost use Rattle.archive_desk.specs.Faults.{desk_fault};
+ghost use Rattle.archive_desk.specs.Faults.{desk_error_of};
 
 use archive_store::StoreFault;
 use std::error::Error;
@@ -7,7 +7,7 @@ use std::fmt;
 
 /// Why a question is not answered. It prints its number and its name.
 #[derive(Clone, Copy, Debug, PartialEq, Eq, Drop)]
-pub enum DeskFault {
+pub enum DeskError {
     /// G1: there is no list of this name.
     NoList,
     /// G2: there is no person of this name.
@@ -22,43 +22,43 @@ pub enum DeskFault {
     Write,
 }
 
-impl From<StoreFault> for DeskFault {
+impl From<StoreFault> for DeskError {
     ghost use Rattle.std.specs.Prelude.{◌≡◌};
 
-    ghost from_gives = { λ fault desk. desk ≡ desk_fault fault };
+    ghost from_gives = { λ fault desk. desk ≡ desk_error_of fault };
 
-    fn from(fault: StoreFault) -> DeskFault {
+    fn from(fault: StoreFault) -> DeskError {
         match fault {
-            StoreFault::NoList => DeskFault::NoList,
-            StoreFault::NoPerson => DeskFault::NoPerson,
-            _ => DeskFault::Store(fault),
+            StoreFault::NoList => DeskError::NoList,
+            StoreFault::NoPerson => DeskError::NoPerson,
+            _ => DeskError::Store(fault),
         }
     }
 }
 
-impl DeskFault {
+impl DeskError {
     ghost use Rattle.std.specs.Prelude.{◌≡◌};
-    ghost use Rattle.archive_desk.specs.Names.{desk_text};
+    ghost use Rattle.archive_desk.specs.Names.{desk_error_text};
 
     /// Its number and its name; of G4 without the store's refusal.
     pub fn name(self) -> &'static str
-        ensures { result.now ≡ desk_text self }
+        ensures { result.now ≡ desk_error_text self }
     {
         match self {
-            DeskFault::NoList => "G1 NoList",
-            DeskFault::NoPerson => "G2 NoPerson",
-            DeskFault::NotInView => "G3 NotInView",
-            DeskFault::Store(_) => "G4 Store",
-            DeskFault::Memory => "G5 Memory",
-            DeskFault::Write => "G6 Write",
+            DeskError::NoList => "G1 NoList",
+            DeskError::NoPerson => "G2 NoPerson",
+            DeskError::NotInView => "G3 NotInView",
+            DeskError::Store(_) => "G4 Store",
+            DeskError::Memory => "G5 Memory",
+            DeskError::Write => "G6 Write",
         }
     }
 }
 
-impl fmt::Display for DeskFault {
+impl fmt::Display for DeskError {
     fn fmt<W: fmt::Write>(&self, f: &mut fmt::Formatter<W>) -> fmt::Result {
         f.write_str(self.name())
     }
 }
 
-impl Error for DeskFault {}
+impl Error for DeskError {}

@@ -1,20 +1,20 @@
 //! Taking the messages of a file into a list.
 ghost use Rattle.std.specs.Prelude.{◌≡◌, ◌∷◌, [], true, drop, IfOk, IfErr};
-ghost use Rattle.mbox_core.specs.Division.{Divides};
-ghost use Rattle.archive_machine.specs.Commands.{no_list};
-ghost use Rattle.archive_machine.specs.Questions.{has_list, list_refusal};
-ghost use Rattle.archive_tables.specs.Crashes.{AddsNothing};
-ghost use Rattle.archive_store.specs.Held.{held_of};
-ghost use Rattle.archive_store.specs.Refusals.{StopsAmong};
-ghost use Rattle.archive_port.specs.Replies.{refusal};
-ghost use Rattle.archive_store.specs.Told.{AsksIn, EndsAsk, HoldsTables, WasOpen};
-ghost use Rattle.archive_store.specs.Crashes.{Crashes};
+ghost use Rattle.mbox_core.specs.Division.{DividesIntoItems};
+ghost use Rattle.archive_model.specs.Commands.{no_list};
+ghost use Rattle.archive_model.specs.Questions.{has_list, list_refusal};
+ghost use Rattle.archive_tables.specs.Crashes.{CrashAddsNothing};
+ghost use Rattle.archive_store.specs.Held.{store_connection};
+ghost use Rattle.archive_store.specs.Refusals.{RowsRefuseAnItem};
+ghost use Rattle.archive_port.specs.Replies.{refusal_of_fault};
+ghost use Rattle.archive_store.specs.Told.{AnswersFromStoreUnder, EndsQuestion, HoldsTables, WasOpen};
+ghost use Rattle.archive_store.specs.Crashes.{CrashOutcome};
 ghost use Rattle.archive_port.specs.Adding.{HasAddedAtLeast};
-ghost use Rattle.archive_desk.specs.Crashes.{CrashesHeld, HasImportedAtLeast};
+ghost use Rattle.archive_desk.specs.Crashes.{CrashAfterTablesCall, HasImportedAtLeast};
 ghost use Rattle.archive_desk.specs.Ending.{EndsImport};
-ghost use Rattle.archive_desk.specs.Holding.{CallsHeld};
-ghost use Rattle.archive_desk.specs.Importing.{HasAdded, IsBrokenAdd, IsBrokenImport, IsImportWant, IsUncut};
-ghost use Rattle.archive_desk.specs.Importing.{IsImported, IsRefusedAdd, IsRefusedImport, StopsImport, stop_reason};
+ghost use Rattle.archive_desk.specs.Holding.{CallsStoreWithTables};
+ghost use Rattle.archive_desk.specs.Importing.{HasAddedAllItems, IsBrokenAdd, IsBrokenImport, IsImportStoreMemoryRefusal, IsSplitError};
+ghost use Rattle.archive_desk.specs.Importing.{IsImported, IsRefusedAdd, IsRefusedImport, RowsRefuseImportItem, import_stop_reason};
 
 use archive_store::{Store, StoreFault};
 use mbox_core::{Item, MboxFault, cut};
@@ -41,28 +41,28 @@ pub struct ImportStop {
     /// How many messages of the file were seen to.
     pub done: u64,
     /// Why no more were.
-    pub fault: ImportFault,
+    pub fault: ImportError,
 }
 
 /// Why an import stopped. It prints its number and its name.
 #[derive(Clone, Copy, Debug, PartialEq, Eq, Drop)]
-pub enum ImportFault {
+pub enum ImportError {
     /// M1: the file is no mbox. Of one that is read piece by piece also M2 and M3: a read failed, or no memory was left.
     Mbox(MboxFault),
     /// E4: there is no such list. E12: the list holds 50,000 messages, and the next is not on it. E14, E15.
     Store(StoreFault),
 }
 
-impl fmt::Display for ImportFault {
+impl fmt::Display for ImportError {
     fn fmt<W: fmt::Write>(&self, f: &mut fmt::Formatter<W>) -> fmt::Result {
         match self {
-            ImportFault::Mbox(fault) => write!(f, "{fault}"),
-            ImportFault::Store(fault) => write!(f, "{fault}"),
+            ImportError::Mbox(fault) => write!(f, "{fault}"),
+            ImportError::Store(fault) => write!(f, "{fault}"),
         }
     }
 }
 
-impl Error for ImportFault {}
+impl Error for ImportError {}
 
 /// Adds the messages of an mbox (RFC 4155) to a list, one after the other. A message that the list holds is known and
 /// changes nothing, one that is too large is passed over. The list is looked up before the file is cut: E4 where there
@@ -76,31 +76,31 @@ pub fn import<S: Alter>(
     list: &str,
     mbox: &[u8],
 ) -> Result<Report, ImportStop>
-    ensures imports { CallsHeld S.Store store.old store.new stop_reason result
+    ensures imports { CallsStoreWithTables S.Store store.old store.new import_stop_reason result
         (λ a b report. IsImported list.now mbox.now a b report)
         (λ a b why. IsRefusedImport list.now mbox.now a b why.0 why.1)
         (λ a b stop. IsBrokenImport list.now mbox.now a b stop.done stop.fault) }
-    ensures crash { Crashes S.Store (held_of store.old) (held_of store.new)
+    ensures crash { CrashOutcome S.Store (store_connection store.old) (store_connection store.new)
         (HasImportedAtLeast list.now mbox.now 0) result
         (λ stop. HasImportedAtLeast list.now mbox.now stop.done) }
-    ensures ends { EndsImport S.Store store.old store.new (HoldsTables S.Store) IsImportWant result
-        (λ _ done db. StopsImport list.now mbox.now done db) }
+    ensures ends { EndsImport S.Store store.old store.new (HoldsTables S.Store) IsImportStoreMemoryRefusal result
+        (λ _ done db. RowsRefuseImportItem list.now mbox.now done db) }
 {
-    if let Err(fault) = find_list(store, list) {
+    if let Err(fault) = check_list_exists(store, list) {
         return Err(ImportStop {
             done: 0,
-            fault: ImportFault::Store(fault),
+            fault: ImportError::Store(fault),
         });
     }
     match cut_items(alloc, mbox) {
         Ok(items) => add_items(store, alloc, list, &items),
         Err(Uncut::Mbox(fault)) => {
-            let fault = ImportFault::Mbox(fault);
+            let fault = ImportError::Mbox(fault);
             Err(ImportStop { done: 0, fault })
         }
         Err(Uncut::Refused(refused)) => {
-            store.wants.raise(refused.into());
-            let fault = ImportFault::Store(StoreFault::Memory);
+            store.wants.increment(refused.into());
+            let fault = ImportError::Store(StoreFault::Memory);
             Err(ImportStop { done: 0, fault })
         }
     }
@@ -115,13 +115,13 @@ enum Uncut {
 }
 
 /// Looks a list up: E4 where there is none of this name; E14, E15.
-pub fn find_list<S: Alter>(store: &mut Store<S>, list: &str) -> Result<(), StoreFault>
-    ensures found { AsksIn S.Store (HoldsTables S.Store) store.old store.new refusal result
+pub fn check_list_exists<S: Alter>(store: &mut Store<S>, list: &str) -> Result<(), StoreFault>
+    ensures found { AnswersFromStoreUnder S.Store (HoldsTables S.Store) store.old store.new refusal_of_fault result
         (λ a. list_refusal a list.now)
         (λ a _. has_list a list.now ≡ true) }
-    ensures quiet { AddsNothing S.Store (held_of store.old) (held_of store.new) }
-    ensures was_open { WasOpen S.Store store.old store.new refusal result }
-    ensures ends { EndsAsk S.Store store.old store.new result (no_list ∷ []) }
+    ensures quiet { CrashAddsNothing S.Store (store_connection store.old) (store_connection store.new) }
+    ensures was_open { WasOpen S.Store store.old store.new refusal_of_fault result }
+    ensures ends { EndsQuestion S.Store store.old store.new result (no_list ∷ []) }
 {
     match store.has_list(list) {
         Ok(true) => Ok(()),
@@ -132,8 +132,8 @@ pub fn find_list<S: Alter>(store: &mut Store<S>, list: &str) -> Result<(), Store
 
 /// The messages of a file. Their texts are the file's own bytes.
 fn cut_items<'a>(alloc: Global, mbox: &'a [u8]) -> Result<Vec<Item<'a>>, Uncut>
-    ensures divided { IfOk result (λ items. Divides mbox.entry.now items.items) }
-    ensures fault { IfErr result (λ fault. IsUncut mbox.entry.now fault) }
+    ensures divided { IfOk result (λ items. DividesIntoItems mbox.entry.now items.items) }
+    ensures fault { IfErr result (λ fault. IsSplitError mbox.entry.now fault) }
 {
     let messages = match cut(mbox) {
         Ok(messages) => messages,
@@ -152,14 +152,14 @@ fn add_items<S: Alter>(
     list: &str,
     items: &[Item<'_>],
 ) -> Result<Report, ImportStop>
-    ensures added { CallsHeld S.Store store.old store.new stop_reason result
-        (λ a b report. HasAdded list.now items.entry.now a b report)
+    ensures added { CallsStoreWithTables S.Store store.old store.new import_stop_reason result
+        (λ a b report. HasAddedAllItems list.now items.entry.now a b report)
         (λ a b why. IsRefusedAdd list.now items.entry.now a b why.0 why.1)
         (λ a b stop. IsBrokenAdd list.now items.entry.now a b stop.done stop.fault) }
-    ensures crash { CrashesHeld S.Store store.old store.new result
+    ensures crash { CrashAfterTablesCall S.Store store.old store.new result
         (λ a stop b. HasAddedAtLeast list.now items.entry.now stop.done a b) }
-    ensures ends { EndsImport S.Store store.old store.new (HoldsTables S.Store) IsImportWant result
-        (λ _ done db. StopsAmong list.now (drop done items.entry.now) db) }
+    ensures ends { EndsImport S.Store store.old store.new (HoldsTables S.Store) IsImportStoreMemoryRefusal result
+        (λ _ done db. RowsRefuseAnItem list.now (drop done items.entry.now) db) }
 {
     match store.add_all(alloc, list, items) {
         Ok(counts) => Ok(Report {
@@ -169,7 +169,7 @@ fn add_items<S: Alter>(
         }),
         Err(stop) => Err(ImportStop {
             done: stop.done as u64,
-            fault: ImportFault::Store(stop.fault),
+            fault: ImportError::Store(stop.fault),
         }),
     }
 }

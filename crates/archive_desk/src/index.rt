@@ -1,21 +1,21 @@
 //! The index of a view, the headers of its messages, read by one walk.
 ghost use Rattle.std.specs.Prelude.{◌≡◌, ◌∷◌, [], ◌++◌, filter, map, IfErr, OnOk};
-ghost use Rattle.archive_machine.specs.Messages.{remembered};
+ghost use Rattle.archive_model.specs.Messages.{archived_message};
 ghost use Rattle.archive_results.specs.Access.{is_shown};
-ghost use Rattle.archive_results.specs.Index.{IsIndexOf, header_of};
-ghost use Rattle.archive_store.specs.Told.{AsksIn, HoldsTables};
-ghost use Rattle.archive_store.specs.Walking.{over, selected};
-ghost use Rattle.archive_desk.specs.Causes.{IsUnreadable};
-ghost use Rattle.archive_desk.specs.Ending.{EndsAsk, EndsWalk};
-ghost use Rattle.archive_desk.specs.Faults.{IsAskFault, ask_reason, reason};
+ghost use Rattle.archive_results.specs.Index.{AreSummariesOf, summary_of};
+ghost use Rattle.archive_store.specs.Told.{AnswersFromStoreUnder, HoldsTables};
+ghost use Rattle.archive_store.specs.Walking.{walk_over_store, selected_messages};
+ghost use Rattle.archive_desk.specs.Causes.{IsQuestionUnreadable};
+ghost use Rattle.archive_desk.specs.Ending.{EndsDeskQuestion, EndsWalk};
+ghost use Rattle.archive_desk.specs.Faults.{IsAskFault, ask_reason, refusal_reason};
 ghost use Rattle.archive_desk.specs.Listing.{view_in};
-ghost use Rattle.archive_desk.specs.Walking.{IsUnlisted, ListsRows};
+ghost use Rattle.archive_desk.specs.Walking.{IsMemoryOrDatabaseFault, ListsRows};
 
-use crate::faults::DeskFault;
+use crate::faults::DeskError;
 use crate::passing::pass_withheld;
-use crate::viewing::find_reader;
-use archive_results::{Ask, Header, ReaderMarks, header_of, is_shown};
-use archive_store::{EachRow, Message, Selection, Store};
+use crate::viewing::resolve_reader;
+use archive_results::{Ask, MessageSummary, ReaderFacts, is_shown, summary_of};
+use archive_store::{Message, MessageWalk, Selection, Store};
 use mail_core::Memory;
 use sqlite::Alter;
 use std::alloc::Global;
@@ -27,20 +27,20 @@ pub(crate) fn read_headers<S: Alter>(
     alloc: Global,
     ask: &Ask<'_>,
     which: &Selection<'_>,
-) -> Result<Vec<Header>, DeskFault>
-    ensures held { AsksIn S.Store (HoldsTables S.Store) store.old store.new reason result
+) -> Result<Vec<MessageSummary>, DeskError>
+    ensures held { AnswersFromStoreUnder S.Store (HoldsTables S.Store) store.old store.new refusal_reason result
         (λ a. ask_reason a ask.now)
-        (λ a headers. IsIndexOf (view_in a ask.now which.now) headers.items) }
-    ensures ends { EndsAsk S.Store store.old store.new IsAskFault result
-        (λ a. IsUnreadable a ask.now (selected a ask.now.list which.now)) }
+        (λ a headers. AreSummariesOf (view_in a ask.now which.now) headers.items) }
+    ensures ends { EndsDeskQuestion S.Store store.old store.new IsAskFault result
+        (λ a. IsQuestionUnreadable a ask.now (selected_messages a ask.now.list which.now)) }
 {
-    let reader = match find_reader(store, ask) {
+    let reader = match resolve_reader(store, ask) {
         Ok(reader) => reader,
         Err(fault) => return Err(fault),
     };
     match store.each_selected(alloc, ask.list, which) {
         Ok(mut walk) => walk_headers(store, alloc, ask, &reader, &mut walk),
-        Err(fault) => Err(DeskFault::from(fault)),
+        Err(fault) => Err(DeskError::from(fault)),
     }
 }
 
@@ -49,12 +49,12 @@ fn walk_headers<S: Alter>(
     store: &mut Store<S>,
     alloc: Global,
     ask: &Ask<'_>,
-    reader: &ReaderMarks,
-    walk: &mut EachRow,
-) -> Result<Vec<Header>, DeskFault>
-    ensures listed { ListsRows S.Store (over store.old walk.old) (over store.new walk.new) ask.now reader.now (map header_of) result }
-    ensures fault { IfErr result (λ fault. IsUnlisted fault) }
-    ensures ends { EndsWalk S.Store (over store.old walk.old) (over store.new walk.new) ask.now (λ fault. fault) result }
+    reader: &ReaderFacts,
+    walk: &mut MessageWalk,
+) -> Result<Vec<MessageSummary>, DeskError>
+    ensures listed { ListsRows S.Store (walk_over_store store.old walk.old) (walk_over_store store.new walk.new) ask.now reader.now (map summary_of) result }
+    ensures fault { IfErr result (λ fault. IsMemoryOrDatabaseFault fault) }
+    ensures ends { EndsWalk S.Store (walk_over_store store.old walk.old) (walk_over_store store.new walk.new) ask.now (λ fault. fault) result }
 {
     let mut headers = Vec::new(alloc);
     loop {
@@ -65,8 +65,8 @@ fn walk_headers<S: Alter>(
         match push_header(alloc, ask, reader, &message, &mut headers) {
             Ok(()) => {}
             Err(refused) => {
-                store.wants.raise(refused.into());
-                return Err(DeskFault::Memory);
+                store.wants.increment(refused.into());
+                return Err(DeskError::Memory);
             }
         }
     }
@@ -76,16 +76,16 @@ fn walk_headers<S: Alter>(
 fn push_header(
     alloc: Global,
     ask: &Ask<'_>,
-    reader: &ReaderMarks,
+    reader: &ReaderFacts,
     message: &Message,
-    headers: &mut Vec<Header>,
+    headers: &mut Vec<MessageSummary>,
 ) -> Result<(), Memory>
     ensures { OnOk result (headers.new.items ≡ headers.old.items
-        ++ map header_of (filter (is_shown ask.now reader.now)
-        (remembered ask.now.list message.now ∷ []))) }
+        ++ map summary_of (filter (is_shown ask.now reader.now)
+        (archived_message ask.now.list message.now ∷ []))) }
 {
     if is_shown(alloc, ask, reader, message)? {
-        headers.push(header_of(alloc, message)?)?;
+        headers.push(summary_of(alloc, message)?)?;
     }
     Ok(())
 }

@@ -5,34 +5,34 @@ ghost use Rattle.sqlite.specs.Steps.{over_memory};
 ghost use Rattle.sqlite_trees.specs.declared.memory.MemStore.{MemStore};
 ghost use Rattle.mbox_core.specs.Division.{Item};
 ghost use Rattle.mbox_core.specs.Written.{IsItem};
-ghost use Rattle.archive_machine.specs.Records.{Archive};
-ghost use Rattle.archive_machine.specs.Commands.{Command as Told};
-ghost use Rattle.archive_machine.specs.Machine.{step};
-ghost use Rattle.archive_machine.specs.Runs.{run, taken};
+ghost use Rattle.archive_model.specs.Records.{Archive};
+ghost use Rattle.archive_model.specs.Commands.{Command as Told};
+ghost use Rattle.archive_model.specs.Machine.{step};
+ghost use Rattle.archive_model.specs.Runs.{run, taken};
 ghost use Rattle.archive_tables.specs.Making.{empty_archive};
-ghost use Rattle.archive_port.specs.Commands.{command_of};
+ghost use Rattle.archive_port.specs.Commands.{spec_command};
 ghost use Rattle.archive_port.specs.declared.faults.StoreFault.{StoreFault};
 ghost use Rattle.archive_store.specs.declared.store.Store.{Store};
 ghost use Rattle.archive_results.specs.Access.{Ask};
 ghost use Rattle.archive_port.specs.Adding.{HasAddedAtLeast};
 ghost use Rattle.archive_desk.specs.Crashes.{HasImportedAtLeast};
 ghost use Rattle.archive_desk.specs.Importing.{IsImported};
-ghost use Rattle.archive_desk.specs.Readable.{BreaksNoQuestion, CanBeRead, IsNeverBroken, IsNeverCutOff};
-ghost use Rattle.archive_desk.specs.Readable.{IsNeverLost, IsSaid, IsTellable, IsUntroubled};
+ghost use Rattle.archive_desk.specs.Readable.{BreaksNoQuestion, CanBeRead, QuestionHasNoDatabaseFault, ExportHasNoDatabaseFault};
+ghost use Rattle.archive_desk.specs.Readable.{StoreQuestionHasNoFault, IsWellFormedCommand, IsFullyReadableStore, MeetsNoDiskFault};
 ghost use Rattle.archive_desk.specs.declared.exporting.ExportStop.{ExportStop};
 ghost use Rattle.archive_desk.specs.declared.importing.Report.{Report};
-ghost use Rattle.archive_desk.specs.declared.faults.DeskFault.{DeskFault};
+ghost use Rattle.archive_desk.specs.declared.faults.DeskError.{DeskError};
 
 use archive_store::Command;
 use mbox_core::laws::whole_items_are_items;
 use sqlite::Alter;
 
-/// Where an archive can be read, it can be after a command for which `IsSaid` holds, as it does for each of the code, after any
+/// Where an archive can be read, it can be after a command for which `IsWellFormedCommand` holds, as it does for each of the code, after any
 /// number of them, and after messages that can be written are added. The empty archive can be read.
 pub fn what_commands_write_can_be_read()
-    ensures step { (a : Archive) (command : Told) → IsSaid command → CanBeRead a
+    ensures step { (a : Archive) (command : Told) → IsWellFormedCommand command → CanBeRead a
         → CanBeRead (step a command).0 }
-    ensures run { (a : Archive) (commands : List Told) → All IsSaid commands → CanBeRead a
+    ensures run { (a : Archive) (commands : List Told) → All IsWellFormedCommand commands → CanBeRead a
         → CanBeRead (run a commands).archive }
     ensures taken { (a : Archive) (list : List ℕ) (items : List Item) → All IsItem items
         → CanBeRead a → CanBeRead (taken a list items).archive }
@@ -55,7 +55,7 @@ pub fn what_is_repeated_is_known()
 /// Of each command of the code this is so: what it adds can be written, what it grants is of rank 1 to 3, it withdraws for the author
 /// or the board, and holds back up to a day.
 pub fn each_command_is_said(command: &Command<'_>)
-    ensures { IsSaid (command_of command.now) }
+    ensures { IsWellFormedCommand (spec_command command.now) }
 {
     match command {
         Command::Add { item, .. } => {
@@ -69,9 +69,9 @@ pub fn each_command_is_said(command: &Command<'_>)
     }
 }
 
-/// `IsSaid` holds of all commands of a run.
+/// `IsWellFormedCommand` holds of all commands of a run.
 pub fn the_commands_of_a_run_are_said(commands: &[Command<'_>])
-    ensures { All IsSaid (map command_of commands.now) }
+    ensures { All IsWellFormedCommand (map spec_command commands.now) }
 {
     for command in commands.iter() {
         each_command_is_said(command);
@@ -87,23 +87,23 @@ pub fn nothing_that_can_be_read_breaks_a_question()
 /// Over a disk that does not fail in a call, no question of an archive that can be read is answered by G4 that carries E15, no export
 /// stops with it, and neither the lists nor who has a token are refused with E15.
 pub fn only_the_disk_breaks_a_question<S: Alter, A>()
-    ensures question { (old new : Store S) (result : Result A DeskFault) (ask : Ask)
-        → IsUntroubled S.Store old new
-        → IsNeverBroken S.Store old new result ask }
+    ensures question { (old new : Store S) (result : Result A DeskError) (ask : Ask)
+        → MeetsNoDiskFault S.Store old new
+        → QuestionHasNoDatabaseFault S.Store old new result ask }
     ensures export { (old new : Store S) (result : Result A ExportStop) (ask : Ask)
-        → IsUntroubled S.Store old new
-        → IsNeverCutOff S.Store old new result ask }
+        → MeetsNoDiskFault S.Store old new
+        → ExportHasNoDatabaseFault S.Store old new result ask }
     ensures names { (old new : Store S) (result : Result A StoreFault)
-        → IsUntroubled S.Store old new → IsNeverLost S.Store old new result }
+        → MeetsNoDiskFault S.Store old new → StoreQuestionHasNoFault S.Store old new result }
 {}
 
 /// In memory each call is such, on the tables of an archive that can be read, without a limit on the steps of a query: so there it
 /// never comes.
 pub fn in_memory_nothing_breaks_a_question<A>()
-    ensures question { (old new : Store MemStore) (result : Result A DeskFault) (ask : Ask)
-        → IsTellable over_memory old → IsNeverBroken over_memory old new result ask }
+    ensures question { (old new : Store MemStore) (result : Result A DeskError) (ask : Ask)
+        → IsFullyReadableStore over_memory old → QuestionHasNoDatabaseFault over_memory old new result ask }
     ensures export { (old new : Store MemStore) (result : Result A ExportStop) (ask : Ask)
-        → IsTellable over_memory old → IsNeverCutOff over_memory old new result ask }
+        → IsFullyReadableStore over_memory old → ExportHasNoDatabaseFault over_memory old new result ask }
     ensures names { (old new : Store MemStore) (result : Result A StoreFault)
-        → IsTellable over_memory old → IsNeverLost over_memory old new result }
+        → IsFullyReadableStore over_memory old → StoreQuestionHasNoFault over_memory old new result }
 {}

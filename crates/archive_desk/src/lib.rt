@@ -12,8 +12,8 @@ mod passing;
 mod viewing;
 
 pub use exporting::{ExportStop, export, export_after};
-pub use faults::DeskFault;
-pub use importing::{ImportFault, ImportStop, Report, find_list, import};
-pub use listing::{Index, author, month, read_index, thread, threads};
+pub use faults::DeskError;
+pub use importing::{ImportError, ImportStop, Report, check_list_exists, import};
+pub use listing::{ViewSummaries, author, month, read_index, thread, threads};
 pub use messages::{find_row, message};
-pub use viewing::{find_reader, view};
+pub use viewing::{resolve_reader, view};

@@ -1,23 +1,23 @@
 //! The lists of a month and of an author, and threads.
 ghost use Rattle.std.specs.Prelude.{◌≡◌, map, pos, Some};
-ghost use Rattle.archive_machine.specs.Filing.{by_author, in_month};
-ghost use Rattle.archive_machine.specs.Questions.{merge_of, messages_in};
+ghost use Rattle.archive_model.specs.Filing.{messages_by_author, messages_in_month};
+ghost use Rattle.archive_model.specs.Questions.{merge_of, messages_in};
 ghost use Rattle.archive_results.specs.Access.{view_of};
-ghost use Rattle.archive_results.specs.Index.{IsIndexOf};
-ghost use Rattle.archive_results.specs.Filed.{filed_author_lines, filed_month_lines};
+ghost use Rattle.archive_results.specs.Index.{AreSummariesOf};
+ghost use Rattle.archive_results.specs.Filed.{indexed_author_lines, indexed_month_lines};
 ghost use Rattle.archive_results.specs.Results.{author_lines, month_lines, tree_lines, thread_lines};
-ghost use Rattle.archive_results.specs.Shown.{shown_of};
-ghost use Rattle.archive_store.specs.Told.{Asks, AsksIn, HoldsTables};
-ghost use Rattle.archive_desk.specs.Causes.{IsUnreadable};
-ghost use Rattle.archive_desk.specs.Ending.{Ends, EndsAsk};
-ghost use Rattle.archive_desk.specs.Faults.{IsAskFault, ask_reason, list_reason, reason};
-ghost use Rattle.archive_desk.specs.Holding.{AsksHeld};
-ghost use Rattle.archive_store.specs.Walking.{selected};
+ghost use Rattle.archive_results.specs.Shown.{shown_message};
+ghost use Rattle.archive_store.specs.Told.{AnswersFromReadyStore, AnswersFromStoreUnder, HoldsTables};
+ghost use Rattle.archive_desk.specs.Causes.{IsQuestionUnreadable};
+ghost use Rattle.archive_desk.specs.Ending.{EndsDeskCall, EndsDeskQuestion};
+ghost use Rattle.archive_desk.specs.Faults.{IsAskFault, ask_reason, list_reason, refusal_reason};
+ghost use Rattle.archive_desk.specs.Holding.{AnswersFromStoreTables};
+ghost use Rattle.archive_store.specs.Walking.{selected_messages};
 ghost use Rattle.archive_desk.specs.Listing.{IsThreadFault, lines_shown, thread_reason, view_in};
 
-use crate::faults::DeskFault;
+use crate::faults::DeskError;
 use crate::index::read_headers;
-use archive_results::{Ask, Header, Line, TreeLine, columns_of, thread_lines, tree_lines};
+use archive_results::{Ask, Line, MessageSummary, TreeLine, columns_of, thread_lines, tree_lines};
 use archive_store::{Key, Selection, Store};
 use civil_time::Month;
 use sqlite::Alter;
@@ -33,14 +33,14 @@ pub fn month<S: Alter>(
     alloc: Global,
     ask: &Ask<'_>,
     month: Month,
-) -> Result<Vec<Line>, DeskFault>
-    ensures listed { Asks S.Store store.old store.new reason result (λ a. ask_reason a ask.now)
-        (λ a lines. lines.items ≡ month_lines month (map shown_of (view_of a ask.now))) }
-    ensures filed { AsksIn S.Store (HoldsTables S.Store) store.old store.new reason result
+) -> Result<Vec<Line>, DeskError>
+    ensures listed { AnswersFromReadyStore S.Store store.old store.new refusal_reason result (λ a. ask_reason a ask.now)
+        (λ a lines. lines.items ≡ month_lines month (map shown_message (view_of a ask.now))) }
+    ensures filed { AnswersFromStoreUnder S.Store (HoldsTables S.Store) store.old store.new refusal_reason result
         (λ a. ask_reason a ask.now)
-        (λ a lines. lines.items ≡ filed_month_lines a ask.now (pos month)) }
-    ensures ends { EndsAsk S.Store store.old store.new IsAskFault result
-        (λ a. IsUnreadable a ask.now (in_month a ask.now.list (pos month))) }
+        (λ a lines. lines.items ≡ indexed_month_lines a ask.now (pos month)) }
+    ensures ends { EndsDeskQuestion S.Store store.old store.new IsAskFault result
+        (λ a. IsQuestionUnreadable a ask.now (messages_in_month a ask.now.list (pos month))) }
 {
     read_lines(store, alloc, ask, &Selection::InMonth(month))
 }
@@ -53,14 +53,14 @@ pub fn author<S: Alter>(
     alloc: Global,
     ask: &Ask<'_>,
     key: &[u8],
-) -> Result<Vec<Line>, DeskFault>
-    ensures listed { Asks S.Store store.old store.new reason result (λ a. ask_reason a ask.now)
-        (λ a lines. lines.items ≡ author_lines key.now (map shown_of (view_of a ask.now))) }
-    ensures filed { AsksIn S.Store (HoldsTables S.Store) store.old store.new reason result
+) -> Result<Vec<Line>, DeskError>
+    ensures listed { AnswersFromReadyStore S.Store store.old store.new refusal_reason result (λ a. ask_reason a ask.now)
+        (λ a lines. lines.items ≡ author_lines key.now (map shown_message (view_of a ask.now))) }
+    ensures filed { AnswersFromStoreUnder S.Store (HoldsTables S.Store) store.old store.new refusal_reason result
         (λ a. ask_reason a ask.now)
-        (λ a lines. lines.items ≡ filed_author_lines a ask.now key.now) }
-    ensures ends { EndsAsk S.Store store.old store.new IsAskFault result
-        (λ a. IsUnreadable a ask.now (by_author a ask.now.list key.now)) }
+        (λ a lines. lines.items ≡ indexed_author_lines a ask.now key.now) }
+    ensures ends { EndsDeskQuestion S.Store store.old store.new IsAskFault result
+        (λ a. IsQuestionUnreadable a ask.now (messages_by_author a ask.now.list key.now)) }
 {
     read_lines(store, alloc, ask, &Selection::ByAuthor(key))
 }
@@ -71,12 +71,12 @@ fn read_lines<S: Alter>(
     alloc: Global,
     ask: &Ask<'_>,
     which: &Selection<'_>,
-) -> Result<Vec<Line>, DeskFault>
-    ensures held { AsksIn S.Store (HoldsTables S.Store) store.old store.new reason result
+) -> Result<Vec<Line>, DeskError>
+    ensures held { AnswersFromStoreUnder S.Store (HoldsTables S.Store) store.old store.new refusal_reason result
         (λ a. ask_reason a ask.now)
         (λ a lines. lines.items ≡ lines_shown (view_in a ask.now which.now)) }
-    ensures ends { EndsAsk S.Store store.old store.new IsAskFault result
-        (λ a. IsUnreadable a ask.now (selected a ask.now.list which.now)) }
+    ensures ends { EndsDeskQuestion S.Store store.old store.new IsAskFault result
+        (λ a. IsQuestionUnreadable a ask.now (selected_messages a ask.now.list which.now)) }
 {
     let headers = match read_headers(store, alloc, ask, which) {
         Ok(headers) => headers,
@@ -85,8 +85,8 @@ fn read_lines<S: Alter>(
     match columns_of(alloc, headers) {
         Ok(columns) => Ok(columns.lines),
         Err(refused) => {
-            store.wants.raise(refused.into());
-            Err(DeskFault::Memory)
+            store.wants.increment(refused.into());
+            Err(DeskError::Memory)
         }
     }
 }
@@ -99,12 +99,12 @@ pub fn threads<T: Threader, S: Alter>(
     alloc: Global,
     ask: &Ask<'_>,
     threader: &T,
-) -> Result<Vec<TreeLine>, DeskFault>
-    ensures listed { AsksHeld S.Store store.old store.new reason result (λ a. ask_reason a ask.now)
+) -> Result<Vec<TreeLine>, DeskError>
+    ensures listed { AnswersFromStoreTables S.Store store.old store.new refusal_reason result (λ a. ask_reason a ask.now)
         (λ a rows. rows.items ≡ tree_lines (merge_of a ask.now.list)
-        (map shown_of (view_of a ask.now))) }
-    ensures ends { EndsAsk S.Store store.old store.new IsAskFault result
-        (λ a. IsUnreadable a ask.now (messages_in a ask.now.list)) }
+        (map shown_message (view_of a ask.now))) }
+    ensures ends { EndsDeskQuestion S.Store store.old store.new IsAskFault result
+        (λ a. IsQuestionUnreadable a ask.now (messages_in a ask.now.list)) }
 {
     let index = match read_index(store, alloc, ask) {
         Ok(index) => index,
@@ -113,8 +113,8 @@ pub fn threads<T: Threader, S: Alter>(
     match tree_lines(alloc, threader, index.headers, index.merge) {
         Ok(rows) => Ok(rows),
         Err(refused) => {
-            store.wants.raise(refused.into());
-            Err(DeskFault::Memory)
+            store.wants.increment(refused.into());
+            Err(DeskError::Memory)
         }
     }
 }
@@ -128,13 +128,13 @@ pub fn thread<T: Threader, S: Alter>(
     ask: &Ask<'_>,
     threader: &T,
     key: &Key,
-) -> Result<Vec<TreeLine>, DeskFault>
-    ensures listed { AsksHeld S.Store store.old store.new reason result
+) -> Result<Vec<TreeLine>, DeskError>
+    ensures listed { AnswersFromStoreTables S.Store store.old store.new refusal_reason result
         (λ a. thread_reason a ask.now key.now)
         (λ a rows. thread_lines (merge_of a ask.now.list) key.now
-        (map shown_of (view_of a ask.now)) ≡ Some rows.items) }
-    ensures ends { EndsAsk S.Store store.old store.new IsThreadFault result
-        (λ a. IsUnreadable a ask.now (messages_in a ask.now.list)) }
+        (map shown_message (view_of a ask.now)) ≡ Some rows.items) }
+    ensures ends { EndsDeskQuestion S.Store store.old store.new IsThreadFault result
+        (λ a. IsQuestionUnreadable a ask.now (messages_in a ask.now.list)) }
 {
     let index = match read_index(store, alloc, ask) {
         Ok(index) => index,
@@ -142,19 +142,19 @@ pub fn thread<T: Threader, S: Alter>(
     };
     match thread_lines(alloc, threader, index.headers, index.merge, key) {
         Ok(Some(rows)) => Ok(rows),
-        Ok(None) => Err(DeskFault::NotInView),
+        Ok(None) => Err(DeskError::NotInView),
         Err(refused) => {
-            store.wants.raise(refused.into());
-            Err(DeskFault::Memory)
+            store.wants.increment(refused.into());
+            Err(DeskError::Memory)
         }
     }
 }
 
 /// The headers of the messages of a view, in mailbox order, and whether its threads of one subject are gathered.
 #[derive(Drop)]
-pub struct Index {
+pub struct ViewSummaries {
     /// In mailbox order.
-    pub headers: Vec<Header>,
+    pub headers: Vec<MessageSummary>,
     /// Whether threads of one subject are gathered (RFC 5256, REFERENCES, step 5).
     pub merge: bool,
 }
@@ -165,30 +165,30 @@ pub fn read_index<S: Alter>(
     store: &mut Store<S>,
     alloc: Global,
     ask: &Ask<'_>,
-) -> Result<Index, DeskFault>
-    ensures held { AsksIn S.Store (HoldsTables S.Store) store.old store.new reason result
+) -> Result<ViewSummaries, DeskError>
+    ensures held { AnswersFromStoreUnder S.Store (HoldsTables S.Store) store.old store.new refusal_reason result
         (λ a. ask_reason a ask.now)
-        (λ a index. IsIndexOf (view_of a ask.now) index.headers.items
+        (λ a index. AreSummariesOf (view_of a ask.now) index.headers.items
         × (index.merge ≡ merge_of a ask.now.list)) }
-    ensures ends { EndsAsk S.Store store.old store.new IsAskFault result
-        (λ a. IsUnreadable a ask.now (messages_in a ask.now.list)) }
+    ensures ends { EndsDeskQuestion S.Store store.old store.new IsAskFault result
+        (λ a. IsQuestionUnreadable a ask.now (messages_in a ask.now.list)) }
 {
     let headers = match read_headers(store, alloc, ask, &Selection::Every) {
         Ok(headers) => headers,
         Err(fault) => return Err(fault),
     };
     match find_merge(store, ask) {
-        Ok(merge) => Ok(Index { headers, merge }),
+        Ok(merge) => Ok(ViewSummaries { headers, merge }),
         Err(fault) => Err(fault),
     }
 }
 
 /// Whether the threads of the list are gathered by subject.
-fn find_merge<S: Alter>(store: &mut Store<S>, ask: &Ask<'_>) -> Result<bool, DeskFault>
-    ensures found { AsksIn S.Store (HoldsTables S.Store) store.old store.new reason result
+fn find_merge<S: Alter>(store: &mut Store<S>, ask: &Ask<'_>) -> Result<bool, DeskError>
+    ensures found { AnswersFromStoreUnder S.Store (HoldsTables S.Store) store.old store.new refusal_reason result
         (λ a. list_reason a ask.now)
         (λ a merge. merge ≡ merge_of a ask.now.list) }
-    ensures ends { Ends S.Store store.old store.new IsAskFault result (λ _. ⊥) }
+    ensures ends { EndsDeskCall S.Store store.old store.new IsAskFault result (λ _. ⊥) }
 {
     Ok(store.merge_of(ask.list)?)
 }

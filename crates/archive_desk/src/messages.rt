@@ -1,18 +1,18 @@
 //! One message, asked for by its key.
 ghost use Rattle.std.specs.Prelude.{◌≡◌, ◌⊎◌, option_map};
-ghost use Rattle.archive_machine.specs.Questions.{message_of};
-ghost use Rattle.archive_machine.specs.Messages.{remembered};
-ghost use Rattle.archive_results.specs.Access.{asked_of, asked_on, reader_marks, told};
-ghost use Rattle.archive_store.specs.Told.{AsksIn, HoldsTables};
+ghost use Rattle.archive_model.specs.Questions.{message_of};
+ghost use Rattle.archive_model.specs.Messages.{archived_message};
+ghost use Rattle.archive_results.specs.Access.{asked_for_key, asked_of_message, reader_facts, spec_asked};
+ghost use Rattle.archive_store.specs.Told.{AnswersFromStoreUnder, HoldsTables};
 ghost use Rattle.archive_desk.specs.Asking.{standing_reason};
 ghost use Rattle.archive_desk.specs.Causes.{IsMessageUnreadable, IsReaderUnreadable};
-ghost use Rattle.archive_desk.specs.Ending.{Ends, EndsAsk};
-ghost use Rattle.archive_desk.specs.Faults.{IsAskFault, ask_reason, list_reason, reason};
-ghost use Rattle.archive_desk.specs.Holding.{AsksHeld};
+ghost use Rattle.archive_desk.specs.Ending.{EndsDeskCall, EndsDeskQuestion};
+ghost use Rattle.archive_desk.specs.Faults.{IsAskFault, ask_reason, list_reason, refusal_reason};
+ghost use Rattle.archive_desk.specs.Holding.{AnswersFromStoreTables};
 
-use crate::faults::DeskFault;
+use crate::faults::DeskError;
 use crate::viewing::find_marks;
-use archive_results::{Ask, Asked, asked};
+use archive_results::{Ask, Asked, lookup_message};
 use archive_store::{Key, Message, Store};
 use sqlite::Alter;
 use std::alloc::Global;
@@ -25,11 +25,11 @@ pub fn message<'p, S: Alter>(
     alloc: Global,
     ask: &Ask<'p>,
     key: &Key,
-) -> Result<Asked<'p>, DeskFault>
-    ensures asked { AsksHeld S.Store store.old store.new reason result
+) -> Result<Asked<'p>, DeskError>
+    ensures asked { AnswersFromStoreTables S.Store store.old store.new refusal_reason result
         (λ a. ask_reason a ask.entry.now)
-        (λ a answer. told answer ≡ asked_of a ask.entry.now key.now) }
-    ensures ends { EndsAsk S.Store store.old store.new IsAskFault result
+        (λ a answer. spec_asked answer ≡ asked_for_key a ask.entry.now key.now) }
+    ensures ends { EndsDeskQuestion S.Store store.old store.new IsAskFault result
         (λ a. IsMessageUnreadable a ask.entry.now key.now ⊎ IsReaderUnreadable a ask.entry.now) }
 {
     match find_row(store, ask, key) {
@@ -43,11 +43,11 @@ pub fn find_row<S: Alter>(
     store: &mut Store<S>,
     ask: &Ask<'_>,
     key: &Key,
-) -> Result<Option<Message>, DeskFault>
-    ensures held { AsksIn S.Store (HoldsTables S.Store) store.old store.new reason result
+) -> Result<Option<Message>, DeskError>
+    ensures held { AnswersFromStoreUnder S.Store (HoldsTables S.Store) store.old store.new refusal_reason result
         (λ a. list_reason a ask.now)
-        (λ a found. option_map (remembered ask.now.list) found ≡ message_of a ask.now.list key.now) }
-    ensures ends { EndsAsk S.Store store.old store.new IsAskFault result
+        (λ a found. option_map (archived_message ask.now.list) found ≡ message_of a ask.now.list key.now) }
+    ensures ends { EndsDeskQuestion S.Store store.old store.new IsAskFault result
         (λ a. IsMessageUnreadable a ask.now key.now) }
 {
     Ok(store.row(ask.list, key)?)
@@ -59,20 +59,20 @@ fn answer_on<'p, S: Alter>(
     alloc: Global,
     ask: &Ask<'p>,
     held: &Option<Message>,
-) -> Result<Asked<'p>, DeskFault>
-    ensures asked { AsksIn S.Store (HoldsTables S.Store) store.old store.new reason result
+) -> Result<Asked<'p>, DeskError>
+    ensures asked { AnswersFromStoreUnder S.Store (HoldsTables S.Store) store.old store.new refusal_reason result
         (λ a. standing_reason a ask.entry.now)
-        (λ a answer. told answer ≡ asked_on ask.entry.now (reader_marks a ask.entry.now)
-        (option_map (remembered ask.entry.now.list) held.now)) }
-    ensures ends { Ends S.Store store.old store.new IsAskFault result
+        (λ a answer. spec_asked answer ≡ asked_of_message ask.entry.now (reader_facts a ask.entry.now)
+        (option_map (archived_message ask.entry.now.list) held.now)) }
+    ensures ends { EndsDeskCall S.Store store.old store.new IsAskFault result
         (λ a. IsReaderUnreadable a ask.entry.now) }
 {
     let reader = find_marks(store, ask)?;
-    match asked(alloc, ask, &reader, held) {
+    match lookup_message(alloc, ask, &reader, held) {
         Ok(answer) => Ok(answer),
         Err(refused) => {
-            store.wants.raise(refused.into());
-            Err(DeskFault::Memory)
+            store.wants.increment(refused.into());
+            Err(DeskError::Memory)
         }
     }
 }

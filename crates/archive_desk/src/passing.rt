@@ -1,15 +1,15 @@
 //! Messages that a walk passes by: those that the policy withholds whatever their texts are. Their texts are not read.
 ghost use Rattle.std.specs.Prelude.{◌≡◌, None, false};
-ghost use Rattle.archive_machine.specs.Records.{Message as Remembered};
-ghost use Rattle.archive_port.specs.Messages.{AreMarksOf};
-ghost use Rattle.archive_results.specs.Access.{marks_of};
-ghost use Rattle.archive_store.specs.Told.{Counts, Lasts};
-ghost use Rattle.archive_store.specs.Walking.{over};
-ghost use Rattle.archive_port.specs.Wanting.{IsWant};
-ghost use Rattle.archive_desk.specs.Walking.{PassesOne, PassesWithheld, StopsPassing};
+ghost use Rattle.archive_model.specs.Records.{Message as Remembered};
+ghost use Rattle.archive_port.specs.Messages.{AreDatedMarksOf};
+ghost use Rattle.archive_results.specs.Access.{message_facts};
+ghost use Rattle.archive_store.specs.Told.{CountsRefusals, StaysOpenUnlessDiskFails};
+ghost use Rattle.archive_store.specs.Walking.{walk_over_store};
+ghost use Rattle.archive_port.specs.Wanting.{IsMemoryRefusal};
+ghost use Rattle.archive_desk.specs.Walking.{SkipsAtMostOne, SkipsWithheldMessages, E15MeansWalkUnreadable};
 
-use archive_results::{Ask, Marks, ReaderMarks, asks_author, is_withheld};
-use archive_store::{DatedMarks, EachRow, Store, StoreFault};
+use archive_results::{Ask, MessageFacts, ReaderFacts, asks_author, is_withheld};
+use archive_store::{DatedMarks, MessageWalk, Store, StoreFault};
 use sqlite::Alter;
 
 /// Passes by the messages in front of a walk that the policy withholds whatever their texts are, so that the next is one that it
@@ -17,13 +17,13 @@ use sqlite::Alter;
 pub(crate) fn pass_withheld<S: Alter>(
     store: &mut Store<S>,
     ask: &Ask<'_>,
-    reader: &ReaderMarks,
-    walk: &mut EachRow,
+    reader: &ReaderFacts,
+    walk: &mut MessageWalk,
 ) -> Result<(), StoreFault>
-    ensures passed { PassesWithheld S.Store (over store.old walk.old) (over store.new walk.new) ask.now reader.now result }
-    ensures lasts { Lasts S.Store store.old store.new }
-    ensures caused { StopsPassing S.Store (over store.old walk.old) (over store.new walk.new) ask.now result }
-    ensures counted { Counts IsWant store.old store.new result }
+    ensures passed { SkipsWithheldMessages S.Store (walk_over_store store.old walk.old) (walk_over_store store.new walk.new) ask.now reader.now result }
+    ensures lasts { StaysOpenUnlessDiskFails S.Store store.old store.new }
+    ensures caused { E15MeansWalkUnreadable S.Store (walk_over_store store.old walk.old) (walk_over_store store.new walk.new) ask.now result }
+    ensures counted { CountsRefusals IsMemoryRefusal store.old store.new result }
 {
     while pass_next(store, ask, reader, walk)? {}
     Ok(())
@@ -33,18 +33,18 @@ pub(crate) fn pass_withheld<S: Alter>(
 fn pass_next<S: Alter>(
     store: &mut Store<S>,
     ask: &Ask<'_>,
-    reader: &ReaderMarks,
-    walk: &mut EachRow,
+    reader: &ReaderFacts,
+    walk: &mut MessageWalk,
 ) -> Result<bool, StoreFault>
-    ensures passed { PassesOne S.Store (over store.old walk.old) (over store.new walk.new) ask.now reader.now result }
-    ensures lasts { Lasts S.Store store.old store.new }
-    ensures caused { StopsPassing S.Store (over store.old walk.old) (over store.new walk.new) ask.now result }
-    ensures counted { Counts IsWant store.old store.new result }
+    ensures passed { SkipsAtMostOne S.Store (walk_over_store store.old walk.old) (walk_over_store store.new walk.new) ask.now reader.now result }
+    ensures lasts { StaysOpenUnlessDiskFails S.Store store.old store.new }
+    ensures caused { E15MeansWalkUnreadable S.Store (walk_over_store store.old walk.old) (walk_over_store store.new walk.new) ask.now result }
+    ensures counted { CountsRefusals IsMemoryRefusal store.old store.new result }
 {
     if asks_author(ask, reader) {
         return Ok(false);
     }
-    let Some(marks) = walk.next_marks(store)? else {
+    let Some(marks) = walk.peek_marks(store)? else {
         return Ok(false);
     };
     if !is_withheld(ask, reader, weighed(marks)) {
@@ -55,11 +55,11 @@ fn pass_next<S: Alter>(
 }
 
 /// What a policy weighs of these marks, of a message that is not the reader's own.
-fn weighed(marks: DatedMarks) -> Marks
-    ensures { (m : Remembered) → AreMarksOf marks m
-        → result ≡ record (marks_of None m) { own = false } }
+fn weighed(marks: DatedMarks) -> MessageFacts
+    ensures { (m : Remembered) → AreDatedMarksOf marks m
+        → result ≡ record (message_facts None m) { own = false } }
 {
-    Marks {
+    MessageFacts {
         arrival: marks.arrival,
         withdrawn: marks.withdrawn,
         embargo_until: marks.embargo_until,

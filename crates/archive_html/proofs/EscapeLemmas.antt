@@ -6,7 +6,7 @@ use Rattle.percent_encoding.specs.AsciiSet.{should_percent_encode}
 use Rattle.percent_encoding.specs.Percent.{percent_encode_byte, encode_byte, percent_encode}
 use Rattle.percent_encoding.proofs.PercentLemmas.{IsByte}
 use Rattle.archive_html.specs.declared.escapes.TheConstants.{RESERVED}
-use Rattle.archive_html.specs.Links.{is_unreserved, hex_digit, escaped_byte, escaped}
+use Rattle.archive_html.specs.Links.{is_unreserved, hex_digit, percent_encoded_byte, percent_encoded}
 
 -- the set holds each byte but the unreserved ones
 reserved : agree_below (should_percent_encode RESERVED) (λ b. not (is_unreserved b)) 256 ≡ true
@@ -17,7 +17,7 @@ same_escape : (b : ℕ) → b < 256 → percent_encode_byte b ≡ 37 ∷ hex_dig
 unfolding percent_encode_byte
 same_escape b small = let e : b / 16 % 16 ≡ b / 16 = omega arith in rw e refl
 
-same_byte : (b : ℕ) → b < 256 → encode_byte RESERVED b ≡ escaped_byte b
+same_byte : (b : ℕ) → b < 256 → encode_byte RESERVED b ≡ percent_encoded_byte b
 same_byte b small =
     let e : should_percent_encode RESERVED b ≡ not (is_unreserved b) = agree_below_at (should_percent_encode RESERVED) (λ k. not (is_unreserved k)) 256 b reserved small in
     cases (is_unreserved b) (should_percent_encode RESERVED b) e
@@ -27,9 +27,9 @@ same_byte b small =
     cases true test e = rw e refl
     cases false test e = rw e (same_escape b small)
 
-pub encoded : (text : List ℕ) → All IsByte text → percent_encode RESERVED text ≡ escaped text
+pub encoded : (text : List ℕ) → All IsByte text → percent_encode RESERVED text ≡ percent_encoded text
 unfolding percent_encode
 encoded [] small = refl
 encoded (b ∷ bs) small =
     ap (λ x. x ++ percent_encode RESERVED bs) (same_byte b (All-head IsByte b bs small))
-    ∙ ap (λ x. escaped_byte b ++ x) (encoded bs (All-tail IsByte b bs small))
+    ∙ ap (λ x. percent_encoded_byte b ++ x) (encoded bs (All-tail IsByte b bs small))

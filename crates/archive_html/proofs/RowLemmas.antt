@@ -4,7 +4,7 @@ use Rattle.std.specs.Fmt.{digits, decimal}
 use Rattle.archive_results.specs.Shown.{Line}
 use Rattle.archive_results.specs.Results.{TreeLine}
 use Rattle.archive_html.specs.Links.{month_link, author_link, message_link, thread_link}
-use Rattle.archive_html.specs.Rows.{row, list_row, message_row, missing_row, tree_row}
+use Rattle.archive_html.specs.Rows.{page_row, list_row, message_row, missing_row, tree_row}
 
 -- a number from 10 to 20 has two digits
 small : (k : ℕ) → k ≤ 10 → decimal (10 + k) ≡ (48 + (10 + k) / 10) ∷ (48 + (10 + k) % 10) ∷ []
@@ -37,7 +37,7 @@ list_row_is list p0 p1 p2 p3 p4 p5 p6 p7 e1 e2 e3 e4 e5 e6 e7 = rw (e7, e6, e5, 
 
 row_is : (depth : ℕ) (m a s t p0 p1 p2 p3 p4 p5 p6 p7 p8 p9 : List ℕ) → p1 ≡ p0 ++ (codes "<div class=\"d" ++ (decimal (min depth 20) ++ codes "\">"))
     → p2 ≡ p1 ++ m → p3 ≡ p2 ++ 32 ∷ [] → p4 ≡ p3 ++ a → p5 ≡ p4 ++ 32 ∷ [] → p6 ≡ p5 ++ s → p7 ≡ p6 ++ 32 ∷ [] → p8 ≡ p7 ++ t → p9 ≡ p8 ++ codes "</div>\n"
-    → p9 ≡ p0 ++ row depth (m ∷ a ∷ s ∷ t ∷ [])
+    → p9 ≡ p0 ++ page_row depth (m ∷ a ∷ s ∷ t ∷ [])
 row_is depth m a s t p0 p1 p2 p3 p4 p5 p6 p7 p8 p9 e1 e2 e3 e4 e5 e6 e7 e8 e9 = rw (e9, e8, e7, e6, e5, e4, e3, e2, e1) (simp append_assoc)
 
 pub message_row_is : (list : List ℕ) (depth : ℕ) (line : Line) (k : List ℕ) (sent : ℤ) (a b key author subject p0 p1 p2 p3 p4 p5 p6 p7 p8 p9 : List ℕ)

@@ -3,7 +3,7 @@ use Rattle.std.specs.Prelude.{ℕ, ◌+◌, ◌/◌, ◌%◌, ◌==◌, nat_lt, 
 use Rattle.std.specs.List.{list_any}
 use Rattle.std.specs.Char.{is_ascii_alphanumeric}
 use Rattle.civil_time.specs.Texts.{instant_text, instant_month_text}
-use Rattle.archive_html.specs.Texts.{shown_text}
+use Rattle.archive_html.specs.Texts.{html_escaped_text}
 
 -- ---- escapes
 
@@ -16,11 +16,11 @@ abbrev pub hex_digit : ℕ → ℕ
 hex_digit n = if nat_lt n 10 then 48 + n else 55 + n
 
 -- RFC 3986, section 2.1: an unreserved byte as it is, any other as `%` and two hexadecimal digits
-abbrev pub escaped_byte : ℕ → List ℕ
-escaped_byte b = if is_unreserved b then b ∷ [] else 37 ∷ hex_digit (b / 16) ∷ hex_digit (b % 16) ∷ []
+abbrev pub percent_encoded_byte : ℕ → List ℕ
+percent_encoded_byte b = if is_unreserved b then b ∷ [] else 37 ∷ hex_digit (b / 16) ∷ hex_digit (b % 16) ∷ []
 
-abbrev pub escaped : List ℕ → List ℕ
-escaped text = flat_map escaped_byte text
+abbrev pub percent_encoded : List ℕ → List ℕ
+percent_encoded text = flat_map percent_encoded_byte text
 
 -- ---- links
 
@@ -39,11 +39,11 @@ month_link list sent = link (list_path list (codes "/month/" ++ instant_month_te
 -- an author key, which leads to all that this author wrote; `(none)` without a link where it is empty
 unfoldable pub author_link : (list author : List ℕ) → List ℕ
 author_link list author =
-    if length author == 0 then codes "(none)" else link (list_path list (codes "/by/" ++ escaped author)) (shown_text author)
+    if length author == 0 then codes "(none)" else link (list_path list (codes "/by/" ++ percent_encoded author)) (html_escaped_text author)
 
 -- a subject as it is shown, and `(no subject)` for an empty one
 unfoldable pub subject_text : List ℕ → List ℕ
-subject_text subject = if length subject == 0 then codes "(no subject)" else shown_text subject
+subject_text subject = if length subject == 0 then codes "(no subject)" else html_escaped_text subject
 
 -- a subject, which leads to the message
 unfoldable pub message_link : (list key subject : List ℕ) → List ℕ

@@ -3,8 +3,8 @@
 use Rattle.std.specs.Prelude.{ℕ, ◌==◌, nat_lt, Bool, not, ◌&&◌, ◌||◌, if◌then◌else◌, List, [], ◌∷◌, flat_map, codes}
 
 -- a byte as it is shown: `?` for one outside 32 to 126, a reference for `&`, `<`, `>` and `"`, any other as it is
-abbrev pub shown_byte : ℕ → List ℕ
-shown_byte b =
+abbrev pub html_escaped_byte : ℕ → List ℕ
+html_escaped_byte b =
     if nat_lt b 32 || nat_lt 126 b then codes "?"
     else if b == 38 then codes "&amp;"
     else if b == 60 then codes "&lt;"
@@ -13,8 +13,8 @@ shown_byte b =
     else b ∷ []
 
 -- a byte that is shown as it is
-abbrev pub is_plain : ℕ → Bool
-is_plain b = not (nat_lt b 32 || nat_lt 126 b) && (not (b == 38) && (not (b == 60) && (not (b == 62) && not (b == 34))))
+abbrev pub is_shown_unchanged : ℕ → Bool
+is_shown_unchanged b = not (nat_lt b 32 || nat_lt 126 b) && (not (b == 38) && (not (b == 60) && (not (b == 62) && not (b == 34))))
 
-abbrev pub shown_text : List ℕ → List ℕ
-shown_text text = flat_map shown_byte text
+abbrev pub html_escaped_text : List ℕ → List ℕ
+html_escaped_text text = flat_map html_escaped_byte text

@@ -10,4 +10,4 @@ mod texts;
 mod threads;
 
 pub use pages::{author_page, lists_page, month_page};
-pub use threads::{RowTexts, thread_page, threads_page};
+pub use threads::{RenderedRows, thread_page, threads_page};

@@ -1,7 +1,7 @@
 //! Whole pages, from head to foot, one function each.
 ghost use Rattle.std.specs.Prelude.{◌≡◌, ◌++◌, OnOk, IfOk, map, flat_map, codes, string_bytes};
 ghost use Rattle.archive_html.specs.Rows.{list_row, message_row};
-ghost use Rattle.archive_html.specs.Pages.{page, page_head, page_foot, titled, lists_page, month_page, author_page};
+ghost use Rattle.archive_html.specs.Pages.{page, page_head, page_foot, list_title, lists_page, month_page, author_page};
 
 use crate::rows::{push_list, push_message};
 use crate::texts::push_shown;
@@ -12,7 +12,7 @@ use std::alloc::{AllocError, Global};
 
 /// The title of a page of a list.
 pub(crate) fn titled(alloc: Global, list: &str, rest: &[u8]) -> Result<Vec<u8>, AllocError>
-    ensures { IfOk result (λ title. title.items ≡ titled list.now rest.now) }
+    ensures { IfOk result (λ title. title.items ≡ list_title list.now rest.now) }
 {
     let mut title = list.as_bytes().to_vec(alloc)?;
     title.extend_from_slice(b": ")?;

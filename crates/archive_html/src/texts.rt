@@ -1,13 +1,13 @@
 //! Texts as a page shows them.
 ghost use Rattle.std.specs.Prelude.{◌≡◌, ◌≤◌, ◌++◌, OnOk, length};
 ghost use Rattle.std.specs.List.{prefix_len};
-ghost use Rattle.archive_html.specs.Texts.{is_plain, shown_byte, shown_text};
+ghost use Rattle.archive_html.specs.Texts.{is_shown_unchanged, html_escaped_byte, html_escaped_text};
 
 use std::alloc::AllocError;
 
 /// Adds a byte as it is shown.
 fn push_shown_byte(page: &mut Vec<u8>, byte: u8) -> Result<(), AllocError>
-    ensures { OnOk result (page.new.items ≡ page.old.items ++ shown_byte byte) }
+    ensures { OnOk result (page.new.items ≡ page.old.items ++ html_escaped_byte byte) }
 {
     match byte {
         b'&' => page.extend_from_slice(b"&amp;"),
@@ -21,14 +21,14 @@ fn push_shown_byte(page: &mut Vec<u8>, byte: u8) -> Result<(), AllocError>
 
 /// Whether a byte is shown as it is.
 fn is_plain(byte: u8) -> bool
-    ensures { result ≡ is_plain byte }
+    ensures { result ≡ is_shown_unchanged byte }
 {
     matches!(byte, b' '..=b'~') && byte != b'&' && byte != b'<' && byte != b'>' && byte != b'"'
 }
 
 /// How many bytes at the beginning of a text are shown as they are.
 fn plain_len(text: &[u8]) -> usize
-    ensures value { result ≡ prefix_len is_plain text.now }
+    ensures value { result ≡ prefix_len is_shown_unchanged text.now }
     ensures within { result ≤ length text.now }
 {
     for (len, byte) in text.iter().enumerate() {
@@ -41,7 +41,7 @@ fn plain_len(text: &[u8]) -> usize
 
 /// Adds a text as it is shown, a run of plain bytes at a time.
 pub(crate) fn push_shown(page: &mut Vec<u8>, text: &[u8]) -> Result<(), AllocError>
-    ensures { OnOk result (page.new.items ≡ page.old.items ++ shown_text text.now) }
+    ensures { OnOk result (page.new.items ≡ page.old.items ++ html_escaped_text text.now) }
 {
     let mut rest = text;
     loop {

@@ -1,14 +1,14 @@
 //! Pages of threads, and the texts of their rows, which stand apart from the pages so that each is written once.
 ghost use Rattle.std.specs.Prelude.{◌≡◌, ◌++◌, ℕ, List, IfOk, OnOk, codes, length, slice_index_or};
 ghost use Rattle.thread_core.specs.declared.row.Row.{Row as Placed};
-ghost use Rattle.archive_html.specs.Pages.{page, titled};
-ghost use Rattle.archive_html.specs.Rows.{AreRowTexts, rows_text, tree_row};
-ghost use Rattle.archive_results.specs.Results.{tree_line, within};
+ghost use Rattle.archive_html.specs.Pages.{page, list_title};
+ghost use Rattle.archive_html.specs.Rows.{AreRenderedRows, rows_text, tree_row};
+ghost use Rattle.archive_results.specs.Results.{tree_line, elements_in_range};
 ghost use Rattle.archive_results.specs.Shown.{Line as Shown};
 
 use crate::pages::{push_foot, started, titled};
 use crate::rows::{push_message, push_missing};
-use archive_results::{Line, line_at, within};
+use archive_results::{Line, elements_in_range, line_at};
 use mail_core::Memory;
 use std::alloc::{AllocError, Global};
 use thread_core::Row;
@@ -32,15 +32,20 @@ fn push_row(page: &mut Vec<u8>, list: &str, lines: &[Line], row: &Row) -> Result
 
 /// The rows of threads as a page of their list has them, one after the other, and where each begins.
 #[derive(Drop)]
-pub struct RowTexts {
+pub struct RenderedRows {
     bytes: Vec<u8>,
     starts: Vec<usize>,
 }
 
-impl RowTexts {
+impl RenderedRows {
     /// The texts of some rows, each of which names its message by the place of the line.
-    pub fn new(alloc: Global, list: &str, lines: &[Line], rows: &[Row]) -> Result<RowTexts, Memory>
-        ensures { IfOk result (λ texts. AreRowTexts list.now lines.now rows.now texts.bytes.items texts.starts.items) }
+    pub fn new(
+        alloc: Global,
+        list: &str,
+        lines: &[Line],
+        rows: &[Row],
+    ) -> Result<RenderedRows, Memory>
+        ensures { IfOk result (λ texts. AreRenderedRows list.now lines.now rows.now texts.bytes.items texts.starts.items) }
     {
         let mut bytes = Vec::new(alloc);
         bytes.reserve(rows.len().saturating_mul(ROW_BYTES))?;
@@ -49,7 +54,7 @@ impl RowTexts {
             starts.push(bytes.len())?;
             push_row(&mut bytes, list, lines, row)?;
         }
-        Ok(RowTexts { bytes, starts })
+        Ok(RenderedRows { bytes, starts })
     }
 
     /// All of them.
@@ -72,12 +77,12 @@ impl RowTexts {
     /// Those of the rows from one up to another.
     pub fn run(&self, first: usize, end: usize) -> &[u8]
         ensures { (list : List ℕ) (lines : List Shown) (rows : List Placed)
-            → AreRowTexts list lines rows self.entry.now.bytes.items self.entry.now.starts.items
-            → result.now ≡ rows_text list lines (within (first, end) rows) }
+            → AreRenderedRows list lines rows self.entry.now.bytes.items self.entry.now.starts.items
+            → result.now ≡ rows_text list lines (elements_in_range (first, end) rows) }
     {
         let from = self.start(first);
         let to = self.start(end.max(first));
-        within(&self.bytes, from, to)
+        elements_in_range(&self.bytes, from, to)
     }
 }
 
@@ -94,7 +99,7 @@ fn rows_page(alloc: Global, title: &[u8], rows: &[u8]) -> Result<Vec<u8>, AllocE
 
 /// The page of all threads of a list, from the texts of their rows.
 pub fn threads_page(alloc: Global, list: &str, rows: &[u8]) -> Result<Vec<u8>, Memory>
-    ensures { IfOk result (λ made. made.items ≡ page (titled list.now (codes "threads")) rows.now) }
+    ensures { IfOk result (λ made. made.items ≡ page (list_title list.now (codes "threads")) rows.now) }
 {
     let title = titled(alloc, list, b"threads")?;
     Ok(rows_page(alloc, &title, rows)?)
@@ -102,7 +107,7 @@ pub fn threads_page(alloc: Global, list: &str, rows: &[u8]) -> Result<Vec<u8>, M
 
 /// The page of one thread of a list, from the texts of its rows.
 pub fn thread_page(alloc: Global, list: &str, rows: &[u8]) -> Result<Vec<u8>, Memory>
-    ensures { IfOk result (λ made. made.items ≡ page (titled list.now (codes "thread")) rows.now) }
+    ensures { IfOk result (λ made. made.items ≡ page (list_title list.now (codes "thread")) rows.now) }
 {
     let title = titled(alloc, list, b"thread")?;
     Ok(rows_page(alloc, &title, rows)?)

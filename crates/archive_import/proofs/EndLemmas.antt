@@ -9,21 +9,21 @@ use Rattle.sqlite.specs.Held.{state}
 use Rattle.mbox_core.specs.Division.{Item}
 use Rattle.mbox_core.specs.declared.faults.MboxFault.{MboxFault}
 use Rattle.mbox_core.specs.declared.faults.MboxFault.TheVariants.{Memory as NoRoom}
-use Rattle.archive_machine.specs.Records.{Archive}
-use Rattle.archive_machine.specs.Commands.{list_full, no_list}
-use Rattle.archive_store.specs.Held.{held_of, wants_of}
-use Rattle.archive_store.specs.Refusals.{StopsAmong}
-use Rattle.archive_store.specs.Told.{Counts, EndsBehind, HasFailed, HoldsTables, Lasts}
-use Rattle.archive_desk.specs.Holding.{GoesHeld}
+use Rattle.archive_model.specs.Records.{Archive}
+use Rattle.archive_model.specs.Commands.{list_full, no_list}
+use Rattle.archive_store.specs.Held.{store_connection, memory_refusal_count}
+use Rattle.archive_store.specs.Refusals.{RowsRefuseAnItem}
+use Rattle.archive_store.specs.Told.{CountsRefusals, EndsPartialWrite, DiskHasFailed, HoldsTables, StaysOpenUnlessDiskFails}
+use Rattle.archive_desk.specs.Holding.{RelatesTableArchives}
 use Rattle.archive_port.specs.declared.reports.AddReport.{AddReport}
-use Rattle.archive_port.specs.declared.reports.AddStop.{AddStop}
+use Rattle.archive_port.specs.declared.reports.AddError.{AddError}
 use Rattle.archive_store.specs.declared.store.Store.{Store}
-use Rattle.archive_desk.specs.declared.importing.ImportFault.TheVariants.{Mbox, Store as Stored}
+use Rattle.archive_desk.specs.declared.importing.ImportError.TheVariants.{Mbox, Store as Stored}
 use Rattle.archive_desk.specs.declared.importing.ImportStop.{ImportStop}
 use Rattle.archive_desk.specs.declared.importing.Report.{Report}
 use Rattle.archive_desk.proofs.ImportEnds.{import_ends_after, import_stopped, import_stops_as, import_unbroken}
-use Rattle.archive_import.specs.Intake.{IntakeState, IsUnderWay, StopsAmid, StopsMore, StopsRead}
-use Rattle.archive_import.specs.Streaming.{AreRead, EndsReading, IsWanting, StopsReading}
+use Rattle.archive_import.specs.Intake.{IntakeState, IsUnderWay, RowsRefusePending, RowsRefusePendingOrMore, RowsRefusePendingRead}
+use Rattle.archive_import.specs.Streaming.{AreItemsOfReadText, EndsReading, IsImportMemoryRefusal, RowsRefuseReadItem}
 use Rattle.archive_import.proofs.ReadLemmas.{Begun}
 use Rattle.archive_import.proofs.StopLemmas.{Grows}
 use Rattle.archive_import.proofs.WantLemmas.{IsStopWanting, store_want}
@@ -31,7 +31,7 @@ use Rattle.archive_import.proofs.WantLemmas.{IsStopWanting, store_want}
 -- ---- messages that the rows stop
 
 -- they stop more, of which those were the first
-pub stops_more : (list : List ℕ) (items more : List Item) (done : ℕ) (db : Database) → StopsAmong list (drop done items) db → StopsAmong list (drop done (items ++ more)) db
+pub stops_more : (list : List ℕ) (items more : List Item) (done : ℕ) (db : Database) → RowsRefuseAnItem list (drop done items) db → RowsRefuseAnItem list (drop done (items ++ more)) db
 stops_more list items more done db it =
     let low : done ≤ length items = omega (arith, ap length it.are, length-append it.before (it.item ∷ it.rest), length-drop done items) in
     record {
@@ -46,8 +46,8 @@ stops_more list items more done db it =
 
 -- those that are held are the last of all
 stops_amid : (list : List ℕ) (a b : Archive) (items : List Item) (i : IntakeState) → IsUnderWay list a b items i → (k : ℕ) (db : Database)
-    → StopsAmong list (drop k i.held) db → StopsAmong list (drop (i.done + k) items) db
-stops_amid list a b items i w k db it = subst (λ is. StopsAmong list is db)
+    → RowsRefuseAnItem list (drop k i.held) db → RowsRefuseAnItem list (drop (i.done + k) items) db
+stops_amid list a b items i w k db it = subst (λ is. RowsRefuseAnItem list is db)
     (sym (ap (λ n. drop (n + k) items) w.counted ∙ ap (drop (length w.before + k)) w.parts ∙ drop-append-add w.before i.held k)) it
 
 module _ {S : Type 0} (g : Ghosts S) where
@@ -55,69 +55,72 @@ module _ {S : Type 0} (g : Ghosts S) where
 
   -- a fault of the stream
   pub uncut_ends : (old new : Store S) (Stops : Archive → ℕ → Database → Type 0) (done : ℕ) (fault : MboxFault) (stop : ImportStop)
-      → stop ≡ record { done = done; fault = Mbox fault } → Counts {A = Unit {0}} IsStopWanting old new (Err stop) → EndsReading g old new {A = Unit {0}} (Err stop) Stops
+      → stop ≡ record { done = done; fault = Mbox fault } → CountsRefusals {A = Unit {0}} IsStopWanting old new (Err stop) → EndsReading g old new {A = Unit {0}} (Err stop) Stops
   uncut_ends old new Stops done fault stop is counted =
-      import_unbroken g (HoldsTables g) IsWanting old new (Unit {0}) (Unit {0}) Stops done (Mbox fault) stop (λ bad. absurd (cc)) is counted
+      import_unbroken g (HoldsTables g) IsImportMemoryRefusal old new (Unit {0}) (Unit {0}) Stops done (Mbox fault) stop (λ bad. absurd (cc)) is counted
 
   -- one message more is held, or cannot be
   pub hold_ends : (old new : Store S) (Stops : Archive → ℕ → Database → Type 0) (done : ℕ) (result : Result (Unit {0}) ImportStop)
-      → IfErr result (λ stop. stop ≡ record { done = done; fault = Mbox NoRoom }) → Counts IsStopWanting old new result → EndsReading g old new result Stops
+      → IfErr result (λ stop. stop ≡ record { done = done; fault = Mbox NoRoom }) → CountsRefusals IsStopWanting old new result → EndsReading g old new result Stops
   hold_ends old new Stops done (Ok u) told counted = record { caused = tt; counted = counted }
   hold_ends old new Stops done (Err stop) told counted = uncut_ends old new Stops done NoRoom stop told counted
 
   -- ---- what is held is not added
 
   module _ (old new : Store S) (list : List ℕ) (i : IntakeState) where
-    pub held_ends : (stop : AddStop) (at : ImportStop) → at ≡ record { done = i.done + stop.done; fault = Stored stop.fault }
-        → EndsBehind g old new {A = AddReport} (Err stop.fault) (no_list ∷ list_full ∷ []) (StopsAmong list (drop stop.done i.held))
-        → EndsReading g old new {A = Unit {0}} (Err at) (StopsAmid list i)
-    held_ends stop at is it = import_stopped g (HoldsTables g) IsWanting old new AddReport (Unit {0}) (StopsAmid list i) (λ store held. held) store_want
-        (HasFailed g old new ⊎ StopsAmong list (drop stop.done i.held) (state g (held_of new)).now) stop.fault (no_list ∷ list_full ∷ []) (i.done + stop.done) at is
+    pub held_ends : (stop : AddError) (at : ImportStop) → at ≡ record { done = i.done + stop.done; fault = Stored stop.fault }
+        → EndsPartialWrite g old new {A = AddReport} (Err stop.fault) (no_list ∷ list_full ∷ []) (RowsRefuseAnItem list (drop stop.done i.held))
+        → EndsReading g old new {A = Unit {0}} (Err at) (RowsRefusePending list i)
+    held_ends stop at is it = import_stopped g (HoldsTables g) IsImportMemoryRefusal old new AddReport (Unit {0}) (RowsRefusePending list i) (λ store held. held) store_want
+        (DiskHasFailed g old new ⊎ RowsRefuseAnItem list (drop stop.done i.held) (state g (store_connection new)).now) stop.fault (no_list ∷ list_full ∷ []) (i.done + stop.done) at is
         (λ why. elim why [ inl more ↦ inl more | inr stops ↦ inr (λ b a items w. stops_amid list a b items i w stop.done _ stops) ]) it
 
     -- and so no further message is
-    pub amid_ends : (more : List Item) (stop : ImportStop) → EndsReading g old new {A = Unit {0}} (Err stop) (StopsAmid list i)
-        → EndsReading g old new {A = Unit {0}} (Err stop) (StopsMore list i more)
-    amid_ends more stop it = import_stops_as g (HoldsTables g) IsWanting old new (Unit {0}) (Unit {0}) (StopsAmid list i) (StopsMore list i more) stop
+    pub amid_ends : (more : List Item) (stop : ImportStop) → EndsReading g old new {A = Unit {0}} (Err stop) (RowsRefusePending list i)
+        → EndsReading g old new {A = Unit {0}} (Err stop) (RowsRefusePendingOrMore list i more)
+    amid_ends more stop it = import_stops_as g (HoldsTables g) IsImportMemoryRefusal old new (Unit {0}) (Unit {0}) (RowsRefusePending list i) (RowsRefusePendingOrMore list i more) stop
         (λ b db stops a items w. stops_more list items more stop.done db (stops a items w)) it
 
   -- ---- behind other calls
 
-  pub grown_ends : (old mid new : Store S) (list : List ℕ) (i j : IntakeState) (more next rest all : List Item) → GoesHeld g old mid (Grows list i j more) → Lasts g mid new
-      → wants_of old ≤ wants_of mid → (stop : ImportStop) → all ≡ more ++ (next ++ rest) → EndsReading g mid new {A = Unit {0}} (Err stop) (StopsMore list j next)
-      → EndsReading g old new {A = Unit {0}} (Err stop) (StopsMore list i all)
+  pub grown_ends : (old mid new : Store S) (list : List ℕ) (i j : IntakeState) (more next rest all : List Item) → RelatesTableArchives g old mid (Grows list i j more)
+      → StaysOpenUnlessDiskFails g mid new
+      → memory_refusal_count old ≤ memory_refusal_count mid → (stop : ImportStop) → all ≡ more ++ (next ++ rest) → EndsReading g mid new {A = Unit {0}} (Err stop) (RowsRefusePendingOrMore list j next)
+      → EndsReading g old new {A = Unit {0}} (Err stop) (RowsRefusePendingOrMore list i all)
   grown_ends old mid new list i j more next rest all before lasts grows stop e it =
-      import_ends_after g (HoldsTables g) IsWanting old mid new (Grows list i j more) before lasts grows (StopsMore list j next) (StopsMore list i all)
-      (λ b c done db grown stops a items w. subst (λ is. StopsAmong list (drop done is) db) (joined items)
+      import_ends_after g (HoldsTables g) IsImportMemoryRefusal old mid new (Grows list i j more) before lasts grows (RowsRefusePendingOrMore list j next) (RowsRefusePendingOrMore list i all)
+      (λ b c done db grown stops a items w. subst (λ is. RowsRefuseAnItem list (drop done is) db) (joined items)
       (stops_more list ((items ++ more) ++ next) rest done db (stops a (items ++ more) (grown a items w)))) (Err stop) it
     where
       joined : (items : List Item) → ((items ++ more) ++ next) ++ rest ≡ items ++ all
       joined items = append_assoc (items ++ more) next rest ∙ append_assoc items more (next ++ rest) ∙ ap (λ is. items ++ is) (sym e)
 
-  module _ (old mid : Store S) (list : List ℕ) (from items : List Item) (i j : IntakeState) (begun : GoesHeld g old mid (Begun list from items i j))
-      (grows : wants_of old ≤ wants_of mid) (new : Store S) (lasts : Lasts g mid new) (text : List ℕ) (ends : ℕ) where
+  module _ (old mid : Store S) (list : List ℕ) (from items : List Item) (i j : IntakeState) (begun : RelatesTableArchives g old mid (Begun list from items i j))
+      (grows : memory_refusal_count old ≤ memory_refusal_count mid) (new : Store S) (lasts : StaysOpenUnlessDiskFails g mid new) (text : List ℕ) (ends : ℕ) where
     -- as the messages are added that wait
-    pub waiting_ends : (waiting : List Item) (result : Result (Unit {0}) ImportStop) → AreRead text ends (items ++ waiting) → EndsReading g mid new result (StopsMore list j waiting)
-        → EndsReading g old new result (StopsRead list text ends from i)
+    pub waiting_ends : (waiting : List Item) (result : Result (Unit {0}) ImportStop) → AreItemsOfReadText text ends (items ++ waiting)
+        → EndsReading g mid new result (RowsRefusePendingOrMore list j waiting)
+        → EndsReading g old new result (RowsRefusePendingRead list text ends from i)
     waiting_ends waiting result are it =
-        import_ends_after g (HoldsTables g) IsWanting old mid new (Begun list from items i j) begun lasts grows (StopsMore list j waiting) (StopsRead list text ends from i)
+        import_ends_after g (HoldsTables g) IsImportMemoryRefusal old mid new (Begun list from items i j) begun lasts grows (RowsRefusePendingOrMore list j waiting)
+        (RowsRefusePendingRead list text ends from i)
         (λ b c done db begun stops a w. (items ++ waiting, are, stops a items (begun a w))) result it
 
     -- as the last ones are
-    pub last_ends : (result : Result (Unit {0}) ImportStop) → AreRead text ends items → EndsReading g mid new result (StopsAmid list j)
-        → EndsReading g old new result (StopsRead list text ends from i)
+    pub last_ends : (result : Result (Unit {0}) ImportStop) → AreItemsOfReadText text ends items → EndsReading g mid new result (RowsRefusePending list j)
+        → EndsReading g old new result (RowsRefusePendingRead list text ends from i)
     last_ends result are it =
-        import_ends_after g (HoldsTables g) IsWanting old mid new (Begun list from items i j) begun lasts grows (StopsAmid list j) (StopsRead list text ends from i)
+        import_ends_after g (HoldsTables g) IsImportMemoryRefusal old mid new (Begun list from items i j) begun lasts grows (RowsRefusePending list j) (RowsRefusePendingRead list text ends from i)
         (λ b c done db begun stops a w. (items, are, stops a items (begun a w))) result it
 
   -- ---- the whole call
 
   pub read_ends : (old mid new : Store S) (list text : List ℕ) (ends : ℕ) (items : List Item) (j : IntakeState) (Before : Archive → Archive → Type 0)
-      → ((a b : Archive) → Before a b → IsUnderWay list a b items j) → GoesHeld g old mid Before → Lasts g mid new → wants_of old ≤ wants_of mid
-      → (Stops : Archive → ℕ → Database → Type 0) (stop : ImportStop) → ((a : Archive) (db : Database) → StopsReading list text ends stop.done db → Stops a stop.done db)
-      → EndsReading g mid new {A = Unit {0}} (Err stop) (StopsRead list text ends items j) → EndsReading g old new {A = Report} (Err stop) Stops
+      → ((a b : Archive) → Before a b → IsUnderWay list a b items j) → RelatesTableArchives g old mid Before → StaysOpenUnlessDiskFails g mid new → memory_refusal_count old ≤ memory_refusal_count mid
+      → (Stops : Archive → ℕ → Database → Type 0) (stop : ImportStop) → ((a : Archive) (db : Database) → RowsRefuseReadItem list text ends stop.done db → Stops a stop.done db)
+      → EndsReading g mid new {A = Unit {0}} (Err stop) (RowsRefusePendingRead list text ends items j) → EndsReading g old new {A = Report} (Err stop) Stops
   read_ends old mid new list text ends items j Before under before lasts grows Stops stop implies it =
-      let Reading : Archive → ℕ → Database → Type 0 = λ a done db. StopsReading list text ends done db in
-      import_stops_as g (HoldsTables g) IsWanting old new (Unit {0}) Report Reading Stops stop implies
-      (import_ends_after g (HoldsTables g) IsWanting old mid new Before before lasts grows (StopsRead list text ends items j) Reading
+      let Reading : Archive → ℕ → Database → Type 0 = λ a done db. RowsRefuseReadItem list text ends done db in
+      import_stops_as g (HoldsTables g) IsImportMemoryRefusal old new (Unit {0}) Report Reading Stops stop implies
+      (import_ends_after g (HoldsTables g) IsImportMemoryRefusal old mid new Before before lasts grows (RowsRefusePendingRead list text ends items j) Reading
       (λ a b done db it stops. stops a (under a b it)) (Err stop) it)

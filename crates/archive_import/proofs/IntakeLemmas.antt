@@ -8,17 +8,17 @@ use Rattle.std.proofs.lemmas.List.Elements.{filter-append}
 use Rattle.std.proofs.lemmas.List.Sums.{sum_by-append}
 use Rattle.std.proofs.Math.Seq.{take-append-add, take-append_seam}
 use Rattle.mbox_core.specs.Division.{Item}
-use Rattle.archive_machine.specs.Records.{Archive}
-use Rattle.archive_machine.specs.Commands.{add, Reply, refused, list_full, no_list, too_large, already_known, taken_in}
-use Rattle.archive_machine.specs.Questions.{has_list, messages_in}
-use Rattle.archive_machine.specs.Machine.{Outcome, step}
-use Rattle.archive_machine.specs.Runs.{run, taken, Tally, tally, is_new, is_known, is_too_large}
-use Rattle.archive_machine.proofs.RunLemmas.{archive_of_both, replies_of_both}
-use Rattle.archive_port.specs.Adding.{HasAddedFirst, IsFullAt, text_bytes}
+use Rattle.archive_model.specs.Records.{Archive}
+use Rattle.archive_model.specs.Commands.{add, CommandReply, refused, list_full, no_list, too_large, already_known, taken_in}
+use Rattle.archive_model.specs.Questions.{has_list, messages_in}
+use Rattle.archive_model.specs.Machine.{StepOutcome, step}
+use Rattle.archive_model.specs.Runs.{run, taken, Tally, tally_replies, is_added_reply, is_known_reply, is_too_large_reply}
+use Rattle.archive_model.proofs.RunLemmas.{archive_of_both, replies_of_both}
+use Rattle.archive_port.specs.Adding.{HasAddedFirstItems, IsListFullAt, total_text_bytes}
 use Rattle.archive_store.proofs.RunLemmas.{run_nothing}
-use Rattle.archive_desk.specs.Importing.{tally_of}
+use Rattle.archive_desk.specs.Importing.{import_tally_of}
 use Rattle.archive_import.specs.declared.intake.TheConstants.{MESSAGES_HELD, BYTES_HELD}
-use Rattle.archive_import.specs.Intake.{IntakeState, IsUnderWay, IsSmall, is_more, tally_sum}
+use Rattle.archive_import.specs.Intake.{IntakeState, IsUnderWay, FitsIntakeLimits, ReportGrowsBy, tally_sum}
 
 -- ---- some messages and then others
 
@@ -29,7 +29,7 @@ pub replies_both : (a : Archive) (list : List ℕ) (xs ys : List Item)
     → (taken a list (xs ++ ys)).replies ≡ (taken a list xs).replies ++ (taken (taken a list xs).archive list ys).replies
 replies_both a list xs ys = ap (λ cs. (run a cs).replies) (map-append (add list) xs ys) ∙ replies_of_both a (map (add list) xs) (map (add list) ys)
 
-filtered_both : (p : Reply → Bool) (xs ys : List Reply) → length (filter p (xs ++ ys)) ≡ length (filter p xs) + length (filter p ys)
+filtered_both : (p : CommandReply → Bool) (xs ys : List CommandReply) → length (filter p (xs ++ ys)) ≡ length (filter p xs) + length (filter p ys)
 filtered_both p xs ys = ap length (filter-append p xs ys) ∙ length-append (filter p xs) (filter p ys)
 
 abbrev tally_is : ℕ → ℕ → ℕ → Tally
@@ -38,12 +38,12 @@ tally_is n k l = record { new = n; known = k; too_large = l }
 same_tally : (n k l n' k' l' : ℕ) → n ≡ n' → k ≡ k' → l ≡ l' → tally_is n k l ≡ tally_is n' k' l'
 same_tally n k l n' k' l' e f g = λ i. tally_is (e i) (f i) (g i)
 
-pub tally_both : (xs ys : List Reply) → tally (xs ++ ys) ≡ tally_sum (tally xs) (tally ys)
-tally_both xs ys = same_tally _ _ _ _ _ _ (filtered_both is_new xs ys) (filtered_both is_known xs ys) (filtered_both is_too_large xs ys)
+pub tally_both : (xs ys : List CommandReply) → tally_replies (xs ++ ys) ≡ tally_sum (tally_replies xs) (tally_replies ys)
+tally_both xs ys = same_tally _ _ _ _ _ _ (filtered_both is_added_reply xs ys) (filtered_both is_known_reply xs ys) (filtered_both is_too_large_reply xs ys)
 
 -- ---- adding messages leaves the lists
 
-abbrev outcome_by : Archive → Archive → Bool → Bool → Bool → Bool → Outcome
+abbrev outcome_by : Archive → Archive → Bool → Bool → Bool → Bool → StepOutcome
 outcome_by a x there large known full =
     if not there then (a, refused no_list) else if large then (a, refused too_large) else if known then (a, already_known) else if full then (a, refused list_full) else (x, taken_in)
 
@@ -67,13 +67,13 @@ still_there a list items there = ap (λ ls. list_any (λ known. bytes_eq known l
 
 -- ---- the first of some messages
 
-pub first_longer : (list : List ℕ) (items rest : List Item) (done : ℕ) (a b : Archive) → HasAddedFirst list items done a b → HasAddedFirst list (items ++ rest) done a b
+pub first_longer : (list : List ℕ) (items rest : List Item) (done : ℕ) (a b : Archive) → HasAddedFirstItems list items done a b → HasAddedFirstItems list (items ++ rest) done a b
 first_longer list items rest done a b it = (
   omega (arith, it.0, length-append items rest),
   it.1 ∙ ap (λ is. (taken a list is).archive) (sym (take-append-le done items rest it.0)),
 )
 
-pub full_longer : (list : List ℕ) (items rest : List Item) (done : ℕ) (a : Archive) → IsFullAt a list items done → IsFullAt a list (items ++ rest) done
+pub full_longer : (list : List ℕ) (items rest : List Item) (done : ℕ) (a : Archive) → IsListFullAt a list items done → IsListFullAt a list (items ++ rest) done
 full_longer list items rest done a it =
     let low : done ≤ length items = omega (arith, it.within) in
     let next : done + 1 ≤ length items = omega (arith, it.within) in
@@ -93,7 +93,7 @@ module _ (list : List ℕ) (a b : Archive) (items : List Item) (i : IntakeState)
   all_counted = omega (arith, ap length w.parts, length-append w.before i.held, w.counted)
 
   -- before what is held
-  pub first_done : HasAddedFirst list items i.done a b
+  pub first_done : HasAddedFirstItems list items i.done a b
   first_done = (
     omega (arith, all_counted),
     w.archive_is ∙ ap (λ is. (taken a list is).archive)
@@ -112,10 +112,10 @@ module _ (list : List ℕ) (a b : Archive) (items : List Item) (i : IntakeState)
   first_replies k = ap (λ is. (taken a list is).replies) (first_are k) ∙ replies_both a list w.before (take k i.held)
       ∙ ap (λ x. (taken a list w.before).replies ++ (taken x list (take k i.held)).replies) (sym w.archive_is)
 
-  pub some_added : (c : Archive) (k : ℕ) → k ≤ length i.held → c ≡ (taken b list (take k i.held)).archive → HasAddedFirst list items (i.done + k) a c
+  pub some_added : (c : Archive) (k : ℕ) → k ≤ length i.held → c ≡ (taken b list (take k i.held)).archive → HasAddedFirstItems list items (i.done + k) a c
   some_added c k low is = (omega (arith, low, all_counted), is ∙ sym (first_archive k))
 
-  pub full_amid : (k : ℕ) → IsFullAt b list i.held k → IsFullAt a list items (i.done + k)
+  pub full_amid : (k : ℕ) → IsListFullAt b list i.held k → IsListFullAt a list items (i.done + k)
   full_amid k it =
       let before = (taken a list w.before).replies in
       record {
@@ -130,18 +130,18 @@ module _ (list : List ℕ) (a b : Archive) (items : List Item) (i : IntakeState)
   still_listed = ap (λ x. has_list x list) w.archive_is ∙ still_there a list w.before w.is_there
 
   -- all that is held is added
-  pub all_added : (c : Archive) (j : IntakeState) (counts : Tally) → c ≡ (taken b list i.held).archive → counts ≡ tally (taken b list i.held).replies
-      → j.held ≡ [] → j.done ≡ i.done + length i.held → is_more i.report counts j.report → IsUnderWay list a c items j
+  pub all_added : (c : Archive) (j : IntakeState) (counts : Tally) → c ≡ (taken b list i.held).archive → counts ≡ tally_replies (taken b list i.held).replies
+      → j.held ≡ [] → j.done ≡ i.done + length i.held → ReportGrowsBy i.report counts j.report → IsUnderWay list a c items j
   all_added c j counts is are none done more = record {
     is_there = w.is_there;
     before = items;
     parts = sym (ap (λ is. items ++ is) none ∙ append-nil items);
     counted = done ∙ sym all_counted;
     archive_is = is ∙ ap (λ x. (taken x list i.held).archive) w.archive_is ∙ sym (archive_both a list w.before i.held) ∙ ap (λ is. (taken a list is).archive) (sym w.parts);
-    told = more ∙ ap (λ t. tally_sum t counts) w.told ∙ ap (tally_sum (tally (taken a list w.before).replies)) are
+    told = more ∙ ap (λ t. tally_sum t counts) w.told ∙ ap (tally_sum (tally_replies (taken a list w.before).replies)) are
         ∙ sym (tally_both (taken a list w.before).replies (taken b list i.held).replies)
-        ∙ ap (λ x. tally ((taken a list w.before).replies ++ (taken x list i.held).replies)) w.archive_is
-        ∙ ap tally (sym (replies_both a list w.before i.held)) ∙ ap (λ is. tally (taken a list is).replies) (sym w.parts);
+        ∙ ap (λ x. tally_replies ((taken a list w.before).replies ++ (taken x list i.held).replies)) w.archive_is
+        ∙ ap tally_replies (sym (replies_both a list w.before i.held)) ∙ ap (λ is. tally_replies (taken a list is).replies) (sym w.parts);
   }
 
   -- one message more is held
@@ -156,12 +156,12 @@ module _ (list : List ℕ) (a b : Archive) (items : List Item) (i : IntakeState)
   })
 
   -- nothing is held: all is added
-  pub none_held : i.held ≡ [] → (i.done ≡ length items) × (b ≡ (taken a list items).archive) × (tally_of i.report ≡ tally (taken a list items).replies)
+  pub none_held : i.held ≡ [] → (i.done ≡ length items) × (b ≡ (taken a list items).archive) × (import_tally_of i.report ≡ tally_replies (taken a list items).replies)
   none_held none =
       let same : items ≡ w.before = w.parts ∙ ap (λ is. w.before ++ is) none ∙ append-nil w.before in (
         w.counted ∙ ap length (sym same),
         w.archive_is ∙ ap (λ is. (taken a list is).archive) (sym same),
-        w.told ∙ ap (λ is. tally (taken a list is).replies) (sym same),
+        w.told ∙ ap (λ is. tally_replies (taken a list is).replies) (sym same),
       )
 
   -- there was no message
@@ -174,7 +174,7 @@ module _ (list : List ℕ) (a b : Archive) (items : List Item) (i : IntakeState)
       )
 
 -- nothing was done, and nothing is held
-no_replies : (a : Archive) → tally (run a []).replies ≡ tally []
+no_replies : (a : Archive) → tally_replies (run a []).replies ≡ tally_replies []
 unfolding run
 no_replies a = refl
 
@@ -191,9 +191,9 @@ under_way_first list a b i there same is = subst (λ x. IsUnderWay list a b [] x
 
 -- ---- what may be held
 
-pub small_more : (held : List Item) (item : Item) (bytes all : ℕ) → bytes ≡ text_bytes held → length held < MESSAGES_HELD
+pub small_more : (held : List Item) (item : Item) (bytes all : ℕ) → bytes ≡ total_text_bytes held → length held < MESSAGES_HELD
     → all ≡ min (bytes + length item.text) 18446744073709551615 → all ≤ BYTES_HELD
-    → IsSmall (held ++ item ∷ [])
+    → FitsIntakeLimits (held ++ item ∷ [])
 small_more held item bytes all is few sum small = (
   omega (arith, few, length-append held (item ∷ [])),
   inl (omega (arith, is, sum, small, sum_by-append (λ (x : Item). length x.text) held (item ∷ []))),

@@ -1,26 +1,27 @@
 //! Taking the messages of an mbox that is read piece by piece into a list.
 ghost use Rattle.std.specs.Prelude.{◌≡◌, ◌≢◌, ◌+◌, ◌++◌, ◌∷◌, [], ℕ, List, drop, IfOk, IfErr, OnOk, Ok, Err};
 ghost use Rattle.mbox_core.specs.Division.{Item as Message};
-ghost use Rattle.mbox_stream.specs.Cutter.{IsCutter};
-ghost use Rattle.archive_machine.specs.Commands.{list_full, no_list};
-ghost use Rattle.archive_machine.specs.Records.{Archive};
-ghost use Rattle.archive_store.specs.Batches.{AddsAll};
-ghost use Rattle.archive_store.specs.Crashes.{CrashAll};
+ghost use Rattle.mbox_stream.specs.Cutter.{IsCutterConsistent};
+ghost use Rattle.archive_model.specs.Commands.{list_full, no_list};
+ghost use Rattle.archive_model.specs.Records.{Archive};
+ghost use Rattle.archive_store.specs.Batches.{AddsAllMessages};
+ghost use Rattle.archive_store.specs.Crashes.{CrashAddsAllBatches};
 ghost use Rattle.archive_port.specs.Adding.{HasAddedAtLeast};
-ghost use Rattle.archive_store.specs.Held.{held_of};
-ghost use Rattle.archive_store.specs.Refusals.{StopsAmong};
-ghost use Rattle.archive_port.specs.Replies.{done_in, with_fault};
-ghost use Rattle.archive_store.specs.Told.{EndsBehind};
-ghost use Rattle.archive_desk.specs.Crashes.{CrashesHeld};
-ghost use Rattle.archive_desk.specs.Holding.{CallsHeld};
+ghost use Rattle.archive_store.specs.Held.{store_connection};
+ghost use Rattle.archive_store.specs.Refusals.{RowsRefuseAnItem};
+ghost use Rattle.archive_port.specs.Replies.{done_count_on_error, map_error_to_fault};
+ghost use Rattle.archive_store.specs.Told.{EndsPartialWrite};
+ghost use Rattle.archive_desk.specs.Crashes.{CrashAfterTablesCall};
+ghost use Rattle.archive_desk.specs.Holding.{CallsStoreWithTables};
 ghost use Rattle.archive_desk.specs.Importing.{IsBrokenAdd};
-ghost use Rattle.archive_import.specs.Streaming.{CrashReads, EndsReading, Imports, halt_reason, HasFailed, FailedBy, IsFresh, IsHalted, IsBroken, IsReadIn, HasReadAtLeast};
-ghost use Rattle.archive_import.specs.Streaming.{IsSettled, ReadsIn, StopsReading, TakesWaiting};
-ghost use Rattle.archive_import.specs.Intake.{IsUnderWay, IsHaltedAdd, IsUnread, IsOfStore, StopsAmid, StopsMore, StopsRead, TellsWithin};
+ghost use Rattle.archive_import.specs.Streaming.{CrashImportsInput, EndsReading, ImportsInput, halt_reason, ResultHasReadFailures};
+ghost use Rattle.archive_import.specs.Streaming.{FaultHasReadFailures, IsCutterAtStart, IsImportError, IsBrokenInputImport, IsInputImported, HasAddedReadAtLeast};
+ghost use Rattle.archive_import.specs.Streaming.{IsCutterSettled, ReadsInputThroughCutter, RowsRefuseReadItem, TakesWaiting};
+ghost use Rattle.archive_import.specs.Intake.{IsUnderWay, IsAddError, IsErrorAfterFailedRead, IsStoreFault, RowsRefusePending, RowsRefusePendingOrMore, RowsRefusePendingRead, ReportsWithinItems};
 
 use crate::intake::Intake;
-use archive_desk::{ImportFault, ImportStop, Report, find_list};
-use archive_store::{AddReport, AddStop, Store, StoreFault};
+use archive_desk::{ImportError, ImportStop, Report, check_list_exists};
+use archive_store::{AddError, AddReport, Store, StoreFault};
 use mbox_core::device::Source;
 use mbox_core::{Item, MboxFault, OwnedItem};
 use mbox_stream::Cutter;
@@ -43,22 +44,22 @@ pub fn import_from<S: Alter, R: Source>(
 ) -> Result<Report, ImportStop>
     ensures imports { (text : List ℕ) × (ends : ℕ) × (R.told input.new ≡ R.told input.old ++ text)
         × (R.ends input.new ≡ R.ends input.old + ends)
-        × Imports S.Store store.old store.new list.now text ends result }
+        × ImportsInput S.Store store.old store.new list.now text ends result }
     ensures crash { (text : List ℕ) (ends : ℕ) → R.told input.new ≡ R.told input.old ++ text
         → R.ends input.new ≡ R.ends input.old + ends
-        → CrashReads S.Store store.old store.new list.now text ends result }
+        → CrashImportsInput S.Store store.old store.new list.now text ends result }
     ensures failures { (failed : ℕ) × (R.failures input.new ≡ R.failures input.old + failed)
-        × HasFailed result failed }
+        × ResultHasReadFailures result failed }
     ensures end { OnOk result (R.ends input.new ≡ R.ends input.old + 1) }
     ensures ends { EndsReading S.Store store.old store.new result (λ _ done db.
         (text : List ℕ) (ends : ℕ) → R.told input.new ≡ R.told input.old ++ text
         → R.ends input.new ≡ R.ends input.old + ends
-        → StopsReading list.now text ends done db) }
+        → RowsRefuseReadItem list.now text ends done db) }
 {
-    if let Err(fault) = find_list(store, list) {
+    if let Err(fault) = check_list_exists(store, list) {
         return Err(ImportStop {
             done: 0,
-            fault: ImportFault::Store(fault),
+            fault: ImportError::Store(fault),
         });
     }
     let mut cutter = Cutter::new(alloc);
@@ -82,22 +83,22 @@ fn add_settled<S: Alter, R: Source>(
     cutter: &mut Cutter,
     intake: &mut Intake,
 ) -> Result<(), ImportStop>
-    requires { IsFresh cutter.old }
-    ensures adds { CallsHeld S.Store store.old store.new halt_reason result
+    requires { IsCutterAtStart cutter.old }
+    ensures adds { CallsStoreWithTables S.Store store.old store.new halt_reason result
         (λ b c _. (a : Archive) → IsUnderWay list.now a b [] intake.old
         → IsUnderWay list.now a c cutter.new.taken intake.new)
         (λ b c why. (a : Archive) → IsUnderWay list.now a b [] intake.old
-        → IsHalted list.now cutter.new.stream 0 a c why.0 why.1)
+        → IsImportError list.now cutter.new.stream 0 a c why.0 why.1)
         (λ b c stop. (a : Archive) → IsUnderWay list.now a b [] intake.old
-        → IsBroken list.now cutter.new.stream 0 a c stop.done stop.fault) }
-    ensures crash { CrashesHeld S.Store store.old store.new result
+        → IsBrokenInputImport list.now cutter.new.stream 0 a c stop.done stop.fault) }
+    ensures crash { CrashAfterTablesCall S.Store store.old store.new result
         (λ b stop c. (a : Archive) → IsUnderWay list.now a b [] intake.old
-        → HasReadAtLeast list.now cutter.new.stream 0 stop.done a c) }
-    ensures read { ReadsIn (R.told input.old) (R.told input.new) (R.ends input.old)
+        → HasAddedReadAtLeast list.now cutter.new.stream 0 stop.done a c) }
+    ensures read { ReadsInputThroughCutter (R.told input.old) (R.told input.new) (R.ends input.old)
         (R.ends input.new)
         (R.failures input.old) (R.failures input.new) cutter.new result }
     ensures ends { EndsReading S.Store store.old store.new result
-        (StopsRead list.now cutter.new.stream 0 [] intake.old) }
+        (RowsRefusePendingRead list.now cutter.new.stream 0 [] intake.old) }
 {
     for _ in 0..u64::MAX {
         match cutter.read_from(input) {
@@ -130,22 +131,22 @@ fn stop_unread<S: Alter>(
     intake: &mut Intake,
 ) -> Result<(), ImportStop>
     ensures stopped { OnOk result ⊥ }
-    ensures kind { IfErr result (λ stop. FailedBy stop.fault 1) }
-    ensures adds { CallsHeld S.Store store.old store.new halt_reason result
+    ensures kind { IfErr result (λ stop. FaultHasReadFailures stop.fault 1) }
+    ensures adds { CallsStoreWithTables S.Store store.old store.new halt_reason result
         (λ b c _. (a : Archive) (items : List Message) → IsUnderWay list.now a b items intake.old
         → ⊥)
         (λ b c why. (a : Archive) (items : List Message) → IsUnderWay list.now a b items intake.old
-        → IsUnread list.now items a c why.0 why.1)
+        → IsErrorAfterFailedRead list.now items a c why.0 why.1)
         (λ b c stop. (a : Archive) (items : List Message) → IsUnderWay list.now a b items intake.old
         → IsBrokenAdd list.now items a c stop.done stop.fault) }
-    ensures crash { CrashesHeld S.Store store.old store.new result
+    ensures crash { CrashAfterTablesCall S.Store store.old store.new result
         (λ b stop c. (a : Archive) (items : List Message) → IsUnderWay list.now a b items intake.old
         → HasAddedAtLeast list.now items stop.done a c) }
     ensures ends { EndsReading S.Store store.old store.new result
-        (StopsAmid list.now intake.old) }
+        (RowsRefusePending list.now intake.old) }
 {
     match add_held(store, alloc, list, intake) {
-        Ok(()) => Err(intake.stop(ImportFault::Mbox(MboxFault::Read))),
+        Ok(()) => Err(intake.stop(ImportError::Mbox(MboxFault::Read))),
         Err(stop) => Err(stop),
     }
 }
@@ -158,20 +159,20 @@ fn add_last<S: Alter>(
     cutter: &mut Cutter,
     intake: &mut Intake,
 ) -> Result<(), ImportStop>
-    requires { IsSettled cutter.old }
-    ensures adds { CallsHeld S.Store store.old store.new halt_reason result
+    requires { IsCutterSettled cutter.old }
+    ensures adds { CallsStoreWithTables S.Store store.old store.new halt_reason result
         (λ b c _. (a : Archive) → IsUnderWay list.now a b cutter.old.taken intake.old
-        → IsReadIn list.now cutter.old.stream 1 a c intake.new.report)
+        → IsInputImported list.now cutter.old.stream 1 a c intake.new.report)
         (λ b c why. (a : Archive) → IsUnderWay list.now a b cutter.old.taken intake.old
-        → IsHalted list.now cutter.old.stream 1 a c why.0 why.1)
+        → IsImportError list.now cutter.old.stream 1 a c why.0 why.1)
         (λ b c stop. (a : Archive) → IsUnderWay list.now a b cutter.old.taken intake.old
-        → IsBroken list.now cutter.old.stream 1 a c stop.done stop.fault) }
-    ensures crash { CrashesHeld S.Store store.old store.new result
+        → IsBrokenInputImport list.now cutter.old.stream 1 a c stop.done stop.fault) }
+    ensures crash { CrashAfterTablesCall S.Store store.old store.new result
         (λ b stop c. (a : Archive) → IsUnderWay list.now a b cutter.old.taken intake.old
-        → HasReadAtLeast list.now cutter.old.stream 1 stop.done a c) }
-    ensures kind { IfErr result (λ stop. FailedBy stop.fault 0) }
+        → HasAddedReadAtLeast list.now cutter.old.stream 1 stop.done a c) }
+    ensures kind { IfErr result (λ stop. FaultHasReadFailures stop.fault 0) }
     ensures ends { EndsReading S.Store store.old store.new result
-        (StopsRead list.now cutter.old.stream 1 cutter.old.taken intake.old) }
+        (RowsRefusePendingRead list.now cutter.old.stream 1 cutter.old.taken intake.old) }
 {
     match cutter.finish() {
         Ok(()) => {}
@@ -191,20 +192,20 @@ fn add_waiting<S: Alter>(
     cutter: &mut Cutter,
     intake: &mut Intake,
 ) -> Result<(), ImportStop>
-    requires { IsCutter cutter.old }
-    ensures adds { CallsHeld S.Store store.old store.new halt_reason result
+    requires { IsCutterConsistent cutter.old }
+    ensures adds { CallsStoreWithTables S.Store store.old store.new halt_reason result
         (λ b c _. (a : Archive) (items : List Message) → IsUnderWay list.now a b items intake.old
         → IsUnderWay list.now a c (items ++ cutter.old.waiting) intake.new)
         (λ b c why. (a : Archive) (items : List Message) → IsUnderWay list.now a b items intake.old
-        → IsHaltedAdd list.now (items ++ cutter.old.waiting) a c why.0 why.1)
+        → IsAddError list.now (items ++ cutter.old.waiting) a c why.0 why.1)
         (λ b c stop. (a : Archive) (items : List Message) → IsUnderWay list.now a b items intake.old
         → IsBrokenAdd list.now (items ++ cutter.old.waiting) a c stop.done stop.fault) }
-    ensures crash { CrashesHeld S.Store store.old store.new result
+    ensures crash { CrashAfterTablesCall S.Store store.old store.new result
         (λ b stop c. (a : Archive) (items : List Message) → IsUnderWay list.now a b items intake.old
         → HasAddedAtLeast list.now (items ++ cutter.old.waiting) stop.done a c) }
     ensures takes { TakesWaiting cutter.old cutter.new result }
     ensures ends { EndsReading S.Store store.old store.new result
-        (StopsMore list.now intake.old cutter.old.waiting) }
+        (RowsRefusePendingOrMore list.now intake.old cutter.old.waiting) }
 {
     while let Some(item) = cutter.take() {
         match hold_one(store, alloc, list, item, intake) {
@@ -223,19 +224,19 @@ fn hold_one<S: Alter>(
     item: OwnedItem,
     intake: &mut Intake,
 ) -> Result<(), ImportStop>
-    ensures adds { CallsHeld S.Store store.old store.new halt_reason result
+    ensures adds { CallsStoreWithTables S.Store store.old store.new halt_reason result
         (λ b c _. (a : Archive) (items : List Message) → IsUnderWay list.now a b items intake.old
         → IsUnderWay list.now a c (items ++ item ∷ []) intake.new)
         (λ b c why. (a : Archive) (items : List Message) → IsUnderWay list.now a b items intake.old
-        → IsHaltedAdd list.now (items ++ item ∷ []) a c why.0 why.1)
+        → IsAddError list.now (items ++ item ∷ []) a c why.0 why.1)
         (λ b c stop. (a : Archive) (items : List Message) → IsUnderWay list.now a b items intake.old
         → IsBrokenAdd list.now (items ++ item ∷ []) a c stop.done stop.fault) }
-    ensures crash { CrashesHeld S.Store store.old store.new result
+    ensures crash { CrashAfterTablesCall S.Store store.old store.new result
         (λ b stop c. (a : Archive) (items : List Message) → IsUnderWay list.now a b items intake.old
         → HasAddedAtLeast list.now (items ++ item ∷ []) stop.done a c) }
-    ensures kind { IfErr result (λ stop. FailedBy stop.fault 0) }
+    ensures kind { IfErr result (λ stop. FaultHasReadFailures stop.fault 0) }
     ensures ends { EndsReading S.Store store.old store.new result
-        (StopsMore list.now intake.old (item ∷ [])) }
+        (RowsRefusePendingOrMore list.now intake.old (item ∷ [])) }
 {
     if intake.has_room(&item) {
         return intake.hold(&mut store.wants, item);
@@ -253,26 +254,26 @@ fn add_held<S: Alter>(
     list: &str,
     intake: &mut Intake,
 ) -> Result<(), ImportStop>
-    ensures adds { CallsHeld S.Store store.old store.new halt_reason result
+    ensures adds { CallsStoreWithTables S.Store store.old store.new halt_reason result
         (λ b c _. (a : Archive) (items : List Message) → IsUnderWay list.now a b items intake.old
         → IsUnderWay list.now a c items intake.new)
         (λ b c why. (a : Archive) (items : List Message) → IsUnderWay list.now a b items intake.old
-        → IsHaltedAdd list.now items a c why.0 why.1)
+        → IsAddError list.now items a c why.0 why.1)
         (λ b c stop. (a : Archive) (items : List Message) → IsUnderWay list.now a b items intake.old
         → IsBrokenAdd list.now items a c stop.done stop.fault) }
-    ensures crash { CrashesHeld S.Store store.old store.new result
+    ensures crash { CrashAfterTablesCall S.Store store.old store.new result
         (λ b stop c. (a : Archive) (items : List Message) → IsUnderWay list.now a b items intake.old
         → HasAddedAtLeast list.now items stop.done a c) }
-    ensures kind { IfErr result (λ stop. IsOfStore stop.fault) }
+    ensures kind { IfErr result (λ stop. IsStoreFault stop.fault) }
     ensures none { OnOk result (intake.new.held ≡ []) }
     ensures ends { EndsReading S.Store store.old store.new result
-        (StopsAmid list.now intake.old) }
+        (RowsRefusePending list.now intake.old) }
 {
     match intake.done_after() {
         Ok(_) => {}
         Err(refused) => {
-            store.wants.raise(refused.into());
-            return Err(intake.stop(ImportFault::Store(StoreFault::Memory)));
+            store.wants.increment(refused.into());
+            return Err(intake.stop(ImportError::Store(StoreFault::Memory)));
         }
     }
     match add_owned(store, alloc, list, intake.held()) {
@@ -290,21 +291,21 @@ fn add_owned<S: Alter>(
     alloc: Global,
     list: &str,
     items: &[OwnedItem],
-) -> Result<AddReport, AddStop>
-    ensures step { AddsAll S.Store (held_of store.old)
-        (held_of store.new) result list.now items.now }
-    ensures crash { CrashAll S.Store (held_of store.old) (held_of store.new)
+) -> Result<AddReport, AddError>
+    ensures step { AddsAllMessages S.Store (store_connection store.old)
+        (store_connection store.new) result list.now items.now }
+    ensures crash { CrashAddsAllBatches S.Store (store_connection store.old) (store_connection store.new)
         list.now items.now result }
-    ensures tells { TellsWithin items.now result }
-    ensures ends { EndsBehind S.Store store.old store.new (with_fault (λ stop. stop.fault) result)
+    ensures tells { ReportsWithinItems items.now result }
+    ensures ends { EndsPartialWrite S.Store store.old store.new (map_error_to_fault (λ stop. stop.fault) result)
         (no_list ∷ list_full ∷ [])
-        (StopsAmong list.now (drop (done_in (λ stop. stop.done) result) items.now)) }
+        (RowsRefuseAnItem list.now (drop (done_count_on_error (λ stop. stop.done) result) items.now)) }
 {
     match lend_items(alloc, items) {
         Ok(lent) => store.add_all(alloc, list, &lent),
         Err(refused) => {
-            store.wants.raise(refused.into());
-            Err(AddStop {
+            store.wants.increment(refused.into());
+            Err(AddError {
                 done: 0,
                 fault: StoreFault::Memory,
             })

@@ -1,14 +1,14 @@
 //! Messages that are held, and then added in one call.
 ghost use Rattle.std.specs.Prelude.{◌≡◌, ◌+◌, ◌≤◌, ◌<◌, ◌^◌, ◌∷◌, ◌++◌, [], IsTrue, length, IfErr, IfOk, OnOk, Err};
-ghost use Rattle.archive_desk.specs.declared.importing.ImportFault.TheVariants.{Mbox as NotCut, Store as Stored};
+ghost use Rattle.archive_desk.specs.declared.importing.ImportError.TheVariants.{Mbox as NotCut, Store as Stored};
 ghost use Rattle.mbox_core.specs.declared.faults.MboxFault.TheVariants.{Memory as NoRoom};
-ghost use Rattle.archive_port.specs.Adding.{told_in, tally_of as store_tally};
-ghost use Rattle.archive_port.specs.Wanting.{Raises};
-ghost use Rattle.archive_import.specs.Intake.{IsSmall, is_more};
-ghost use Rattle.archive_import.specs.Streaming.{IsWanting};
+ghost use Rattle.archive_port.specs.Adding.{reported_count, tally_of_report as store_tally};
+ghost use Rattle.archive_port.specs.Wanting.{RaisesRefusalCount};
+ghost use Rattle.archive_import.specs.Intake.{FitsIntakeLimits, ReportGrowsBy};
+ghost use Rattle.archive_import.specs.Streaming.{IsImportMemoryRefusal};
 
-use archive_desk::{ImportFault, ImportStop, Report};
-use archive_store::{AddReport, AddStop, Wants};
+use archive_desk::{ImportError, ImportStop, Report};
+use archive_store::{AddError, AddReport, RefusalCounter};
 use mbox_core::{MboxFault, OwnedItem};
 use std::alloc::{AllocError, Global};
 use std::marker::Model;
@@ -31,14 +31,14 @@ pub(crate) struct Intake {
 
 impl Model for Intake {
     ghost use Rattle.std.specs.Prelude.{◌≡◌};
-    ghost use Rattle.archive_port.specs.Adding.{text_bytes};
-    ghost use Rattle.archive_import.specs.Intake.{IntakeState, IsSmall, sum_of};
+    ghost use Rattle.archive_port.specs.Adding.{total_text_bytes};
+    ghost use Rattle.archive_import.specs.Intake.{IntakeState, FitsIntakeLimits, report_total};
 
     ghost Value = { IntakeState };
 
     ghost view = { λ s. record { held = s.held.items; done = s.done; report = s.report } };
 
-    ghost invariant = { λ s. (sum_of s.report ≡ s.done) × (s.bytes ≡ text_bytes s.held.items) × IsSmall s.held.items };
+    ghost invariant = { λ s. (report_total s.report ≡ s.done) × (s.bytes ≡ total_text_bytes s.held.items) × FitsIntakeLimits s.held.items };
 }
 
 impl Intake {
@@ -78,7 +78,7 @@ impl Intake {
     }
 
     /// A stop before what is held.
-    pub(crate) fn stop(&self, fault: ImportFault) -> ImportStop
+    pub(crate) fn stop(&self, fault: ImportError) -> ImportStop
         ensures { result ≡ record { done = self.now.done; fault = fault } }
     {
         ImportStop {
@@ -88,47 +88,51 @@ impl Intake {
     }
 
     /// The same for a fault of the stream. M3 is counted.
-    pub(crate) fn stop_uncut(&self, wants: &mut Wants, fault: MboxFault) -> ImportStop
+    pub(crate) fn stop_uncut(&self, wants: &mut RefusalCounter, fault: MboxFault) -> ImportStop
         ensures stop { result ≡ record { done = self.now.done; fault = NotCut fault } }
-        ensures counted { Raises {A = Unit {0}} (λ stop. IsWanting stop.fault) wants.old wants.new
+        ensures counted { RaisesRefusalCount {A = Unit {0}} (λ stop. IsImportMemoryRefusal stop.fault) wants.old wants.new
             (Err result) }
     {
         match fault {
             MboxFault::Memory => {
-                wants.raise(AllocError.into());
-                self.stop(ImportFault::Mbox(MboxFault::Memory))
+                wants.increment(AllocError.into());
+                self.stop(ImportError::Mbox(MboxFault::Memory))
             }
-            _ => self.stop(ImportFault::Mbox(fault)),
+            _ => self.stop(ImportError::Mbox(fault)),
         }
     }
 
     /// A stop amid what is held, so far as it was added.
-    pub(crate) fn stop_amid(&self, stop: AddStop) -> ImportStop
+    pub(crate) fn stop_amid(&self, stop: AddError) -> ImportStop
         requires { self.now.done + stop.done < 2 ^ 64 }
         ensures { result ≡ record { done = self.now.done + stop.done; fault = Stored stop.fault } }
     {
         ImportStop {
             done: self.done + stop.done as u64,
-            fault: ImportFault::Store(stop.fault),
+            fault: ImportError::Store(stop.fault),
         }
     }
 
     /// Whether this message can be held too.
     pub(crate) fn has_room(&self, item: &OwnedItem) -> bool
-        ensures { IsTrue result → IsSmall (self.now.held ++ item.now ∷ []) }
+        ensures { IsTrue result → FitsIntakeLimits (self.now.held ++ item.now ∷ []) }
     {
         self.held.len() < MESSAGES_HELD
             && self.bytes.saturating_add(item.text().len()) <= BYTES_HELD
     }
 
     /// Holds a message more. M3, which is counted: memory for it was refused.
-    pub(crate) fn hold(&mut self, wants: &mut Wants, item: OwnedItem) -> Result<(), ImportStop>
-        requires { IsSmall (self.old.held ++ item ∷ []) }
+    pub(crate) fn hold(
+        &mut self,
+        wants: &mut RefusalCounter,
+        item: OwnedItem,
+    ) -> Result<(), ImportStop>
+        requires { FitsIntakeLimits (self.old.held ++ item ∷ []) }
         ensures ok { OnOk result (self.new ≡ record self.old
             { held = self.old.held ++ item ∷ [] }) }
         ensures fault { IfErr result (λ stop. stop ≡ record
             { done = self.old.done; fault = NotCut NoRoom }) }
-        ensures counted { Raises (λ stop. IsWanting stop.fault) wants.old wants.new result }
+        ensures counted { RaisesRefusalCount (λ stop. IsImportMemoryRefusal stop.fault) wants.old wants.new result }
     {
         let bytes = self.bytes.saturating_add(item.text().len());
         match self.held.push(item) {
@@ -137,8 +141,8 @@ impl Intake {
                 Ok(())
             }
             Err(refused) => {
-                wants.raise(refused.into());
-                Err(self.stop(ImportFault::Mbox(MboxFault::Memory)))
+                wants.increment(refused.into());
+                Err(self.stop(ImportError::Mbox(MboxFault::Memory)))
             }
         }
     }
@@ -156,10 +160,10 @@ impl Intake {
     /// Those that were held are done: this became of them.
     pub(crate) fn count(&mut self, alloc: Global, counts: AddReport)
         requires fits { self.old.done + length self.old.held < 2 ^ 64 }
-        requires total { told_in counts ≡ length self.old.held }
+        requires total { reported_count counts ≡ length self.old.held }
         ensures held { self.new.held ≡ [] }
         ensures done { self.new.done ≡ self.old.done + length self.old.held }
-        ensures report { is_more self.old.report (store_tally counts) self.new.report }
+        ensures report { ReportGrowsBy self.old.report (store_tally counts) self.new.report }
     {
         self.done += self.held.len() as u64;
         self.report = Report {

@@ -8,15 +8,15 @@ use Rattle.std.proofs.lemmas.Bool.Decides.{nat_tests}
 use Rattle.std.proofs.lemmas.List.{reverse-append, reverse-reverse, length-reverse}
 use Rattle.httparse.specs.Grammar.{is_ows, skip_ows, trim_ows}
 use Rattle.matchit.specs.Seek.{has_slash}
-use Rattle.policy_core.specs.Names.{is_letter, is_name, is_name_byte}
-use Rattle.archive_machine.specs.Tokens.{is_token, is_b64token, is_padded, is_padding, is_token_byte}
-use Rattle.archive_machine.specs.Keys.{is_key, is_key_digit}
-use Rattle.archive_requests.specs.Bearer.{token, bearer_in, if_token, skip_spaces}
-use Rattle.archive_requests.specs.Requests.{asks, request_of, path_of, asked_by}
-use Rattle.archive_requests.specs.Routes.{message, threads, mbox, segments, given, list_route, route_of_segments, route_of}
+use Rattle.policy_core.specs.Names.{is_lowercase_letter, is_name, is_name_byte}
+use Rattle.archive_model.specs.BearerTokens.{is_token, is_b64token, is_token_bytes_then_padding, is_padding, is_token_byte}
+use Rattle.archive_model.specs.Keys.{is_key, is_key_digit}
+use Rattle.archive_requests.specs.Bearer.{token, bearer_in_field_value, token_if_valid, skip_spaces}
+use Rattle.archive_requests.specs.Requests.{asks, request_of, path_of, request_by_bearer}
+use Rattle.archive_requests.specs.Routes.{message, threads, mbox, segments, some_if_nonempty, list_route, route_of_segments, route_of}
 use Rattle.archive_requests.proofs.SegmentLemmas.{segments-whole, segments-parted}
 use Rattle.archive_html.specs.Links.{list_path}
-use Rattle.archive_laws.specs.Telling.{get_by}
+use Rattle.archive_laws.specs.Telling.{get_request}
 use Rattle.archive_laws.proofs.ByteLemmas.{weaker, backwards}
 
 -- ---- tokens
@@ -32,11 +32,11 @@ padding_byte : (b : ℕ) → (b == 61) ≡ true → is_visible b ≡ true
 unfolding is_visible
 padding_byte b h = grind (arith, nat_tests, h)
 
-padded : (bs : List ℕ) → is_padded bs ≡ true → list_all is_visible bs ≡ true
+padded : (bs : List ℕ) → is_token_bytes_then_padding bs ≡ true → list_all is_visible bs ≡ true
 padded [] h = refl
 padded (b ∷ bs) h = by (is_token_byte b) refl h (padded bs)
   where
-    by : (t : Bool) → is_token_byte b ≡ t → cond t (is_padded bs) (is_padding (b ∷ bs)) ≡ true → (is_padded bs ≡ true → list_all is_visible bs ≡ true)
+    by : (t : Bool) → is_token_byte b ≡ t → cond t (is_token_bytes_then_padding bs) (is_padding (b ∷ bs)) ≡ true → (is_token_bytes_then_padding bs ≡ true → list_all is_visible bs ≡ true)
         → list_all is_visible (b ∷ bs) ≡ true
     by true e h rest = rw (token_byte b e, rest h) refl
     by false e h rest = weaker (λ c. c == 61) is_visible padding_byte (b ∷ bs) h
@@ -44,7 +44,7 @@ padded (b ∷ bs) h = by (is_token_byte b) refl h (padded bs)
 pub visible_token : (t : List ℕ) → is_token t ≡ true → list_all is_visible t ≡ true
 visible_token [] h = refl
 visible_token (b ∷ bs) h =
-    let parts = and_parts (is_token_byte b) (is_padded bs) (and_parts (nat_le 16 (length (b ∷ bs)) && nat_le (length (b ∷ bs)) 64) (is_b64token (b ∷ bs)) h).1 in
+    let parts = and_parts (is_token_byte b) (is_token_bytes_then_padding bs) (and_parts (nat_le 16 (length (b ∷ bs)) && nat_le (length (b ∷ bs)) 64) (is_b64token (b ∷ bs)) h).1 in
     rw (token_byte b parts.0, padded bs parts.1) refl
 
 some_bytes : (t : List ℕ) → is_token t ≡ true → 0 < length t
@@ -77,10 +77,10 @@ no_space_first : (t : List ℕ) → list_all is_visible t ≡ true → skip_spac
 no_space_first [] h = refl
 no_space_first (b ∷ bs) h = rw (not_space b (and_parts (is_visible b) (list_all is_visible bs) h).0) refl
 
-borne : (t : List ℕ) → is_token t ≡ true → bearer_in (trim_ows (codes " Bearer " ++ t)) ≡ token t
+borne : (t : List ℕ) → is_token t ≡ true → bearer_in_field_value (trim_ows (codes " Bearer " ++ t)) ≡ token t
 borne t h =
-    ap bearer_in (trimmed t (visible_token t h) (some_bytes t h))
-    ∙ ap if_token (no_space_first t (visible_token t h))
+    ap bearer_in_field_value (trimmed t (visible_token t h) (some_bytes t h))
+    ∙ ap token_if_valid (no_space_first t (visible_token t h))
     ∙ rw h refl
 
 -- ---- paths
@@ -90,18 +90,18 @@ abbrev pub IsAsking : Option (List ℕ) → Type 0
 IsAsking None = ⊤
 IsAsking (Some t) = is_token t ≡ true
 
-pub asked : (o : Option (List ℕ)) → IsAsking o → (path : List ℕ) → path_of (47 ∷ path) ≡ 47 ∷ path → request_of (get_by o (47 ∷ path)) ≡ asks o (47 ∷ path)
+pub asked : (o : Option (List ℕ)) → IsAsking o → (path : List ℕ) → path_of (47 ∷ path) ≡ 47 ∷ path → request_of (get_request o (47 ∷ path)) ≡ asks o (47 ∷ path)
 asked None is path plain = ap (asks None) plain
-asked (Some t) is path plain = ap (λ b. asked_by b (path_of (47 ∷ path))) (borne t is) ∙ ap (asks (Some t)) plain
+asked (Some t) is path plain = ap (λ b. request_by_bearer b (path_of (47 ∷ path))) (borne t is) ∙ ap (asks (Some t)) plain
 
-letter_byte : (b : ℕ) → is_letter b ≡ true → is_name_byte b ≡ true
+letter_byte : (b : ℕ) → is_lowercase_letter b ≡ true → is_name_byte b ≡ true
 letter_byte b h = rw h refl
 
 pub name_bytes : (name : List ℕ) → is_name name ≡ true → list_all is_name_byte name ≡ true
 name_bytes [] h = absurd (true≢false (sym h))
 name_bytes (b ∷ bs) h =
-    let parts = and_parts (is_letter b && list_all is_name_byte bs) (nat_le (length bs) 39) h in
-    let front = and_parts (is_letter b) (list_all is_name_byte bs) parts.0 in
+    let parts = and_parts (is_lowercase_letter b && list_all is_name_byte bs) (nat_le (length bs) 39) h in
+    let front = and_parts (is_lowercase_letter b) (list_all is_name_byte bs) parts.0 in
     rw (letter_byte b front.0, front.1) refl
 
 key_digit : (b : ℕ) → is_key_digit b ≡ true → is_name_byte b ≡ true
@@ -150,7 +150,7 @@ module _ (name : List ℕ) (is : is_name name ≡ true) where
   threads_routed = routed (codes "threads")
 
   module _ (key : List ℕ) (keyed : is_key key ≡ true) where
-    given_key : (k : List ℕ) → is_key k ≡ true → given k (message name k) ≡ Some (message name k)
+    given_key : (k : List ℕ) → is_key k ≡ true → some_if_nonempty k (message name k) ≡ Some (message name k)
     given_key [] h = absurd (true≢false (sym h))
     given_key (b ∷ bs) h = refl
 

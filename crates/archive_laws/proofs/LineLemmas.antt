@@ -10,17 +10,17 @@ use Rattle.hex.specs.Hex.{encode_with, lower_digits}
 use Rattle.hex.proofs.HexLemmas.{length-encode_with}
 use Rattle.sha2.proofs.Facts256.{length-sha256}
 use Rattle.sha2.specs.Sha256.{sha256}
-use Rattle.mbox_items.specs.Separator.{spaced}
+use Rattle.mbox_items.specs.Separator.{joined_by_spaces}
 use Rattle.civil_time.specs.Digits.{as_two_digits, as_four_digits}
 use Rattle.civil_time.specs.Clock.{second_of_day}
 use Rattle.civil_time.specs.Dates.{Date, date_of_instant}
 use Rattle.civil_time.specs.Texts.{year_month_text, full_date_text, hour_minute_text, instant_text, instant_month_text}
 use Rattle.policy_core.specs.Names.{is_name, is_name_byte}
-use Rattle.archive_machine.specs.Keys.{key_of}
+use Rattle.archive_model.specs.Keys.{key_of}
 use Rattle.archive_results.specs.Shown.{Line}
-use Rattle.archive_html.specs.Texts.{shown_text}
-use Rattle.archive_html.specs.Laws.{is_inert}
-use Rattle.archive_html.specs.Links.{is_unreserved, hex_digit, escaped_byte, escaped, link, list_path, month_link, author_link, subject_text, message_link, thread_link}
+use Rattle.archive_html.specs.Texts.{html_escaped_text}
+use Rattle.archive_html.specs.Laws.{is_html_inert_byte}
+use Rattle.archive_html.specs.Links.{is_unreserved, hex_digit, percent_encoded_byte, percent_encoded, link, list_path, month_link, author_link, subject_text, message_link, thread_link}
 use Rattle.archive_html.proofs.LawLemmas.{shown_is_inert}
 use Rattle.archive_html.proofs.RowLemmas.{two_digits}
 use Rattle.archive_laws.proofs.ByteLemmas.{both, weaker}
@@ -99,11 +99,11 @@ name_line name is = weaker is_name_byte no_lf byte name (name_bytes name is)
     byte : (b : ℕ) → is_name_byte b ≡ true → not (b == 10) ≡ true
     byte b h = grind (arith, nat_tests, h)
 
-shown_line : (text : List ℕ) → IsLine (shown_text text)
+shown_line : (text : List ℕ) → IsLine (html_escaped_text text)
 unfolding no_lf
-shown_line text = weaker is_inert no_lf byte (shown_text text) (shown_is_inert text)
+shown_line text = weaker is_html_inert_byte no_lf byte (html_escaped_text text) (shown_is_inert text)
   where
-    byte : (b : ℕ) → is_inert b ≡ true → not (b == 10) ≡ true
+    byte : (b : ℕ) → is_html_inert_byte b ≡ true → not (b == 10) ≡ true
     byte b h = grind (arith, nat_tests, h)
 
 hex_no_lf : (n : ℕ) → no_lf (hex_digit n) ≡ true
@@ -121,9 +121,9 @@ percent_no_lf : no_lf 37 ≡ true
 unfolding no_lf
 percent_no_lf = refl
 
-escaped_line : (text : List ℕ) → IsLine (escaped text)
+escaped_line : (text : List ℕ) → IsLine (percent_encoded text)
 escaped_line [] = refl
-escaped_line (b ∷ bs) = both no_lf (escaped_byte b) (escaped bs) (by (is_unreserved b) refl) (escaped_line bs)
+escaped_line (b ∷ bs) = both no_lf (percent_encoded_byte b) (percent_encoded bs) (by (is_unreserved b) refl) (escaped_line bs)
   where
     by : (t : Bool) → is_unreserved b ≡ t → IsLine (cond t (b ∷ []) (37 ∷ hex_digit (b / 16) ∷ hex_digit (b % 16) ∷ []))
     by true e = rw (plain_no_lf b e) refl
@@ -181,16 +181,16 @@ author_line : (list author : List ℕ) → IsLine list → IsLine (author_link l
 unfolding author_link no_lf
 author_line list author hl = by (length author == 0)
   where
-    by : (t : Bool) → IsLine (cond t (codes "(none)") (link (list_path list (codes "/by/" ++ escaped author)) (shown_text author)))
+    by : (t : Bool) → IsLine (cond t (codes "(none)") (link (list_path list (codes "/by/" ++ percent_encoded author)) (html_escaped_text author)))
     by true = refl
-    by false = link_line (list_path list (codes "/by/" ++ escaped author)) (shown_text author)
-        (path_line list (codes "/by/" ++ escaped author) hl (both no_lf (codes "/by/") (escaped author) refl (escaped_line author))) (shown_line author)
+    by false = link_line (list_path list (codes "/by/" ++ percent_encoded author)) (html_escaped_text author)
+        (path_line list (codes "/by/" ++ percent_encoded author) hl (both no_lf (codes "/by/") (percent_encoded author) refl (escaped_line author))) (shown_line author)
 
 subject_line : (subject : List ℕ) → IsLine (subject_text subject)
 unfolding subject_text no_lf
 subject_line subject = by (length subject == 0)
   where
-    by : (t : Bool) → IsLine (cond t (codes "(no subject)") (shown_text subject))
+    by : (t : Bool) → IsLine (cond t (codes "(no subject)") (html_escaped_text subject))
     by true = refl
     by false = shown_line subject
 
@@ -207,15 +207,15 @@ thread_line list key hl hk = link_line (list_path list (codes "/t/" ++ key)) (co
 -- ---- a row, without its LF
 
 abbrev pub row_line : (depth : ℕ) → (parts : List (List ℕ)) → List ℕ
-row_line depth parts = codes "<div class=\"d" ++ (decimal depth ++ (codes "\">" ++ (spaced parts ++ codes "</div>")))
+row_line depth parts = codes "<div class=\"d" ++ (decimal depth ++ (codes "\">" ++ (joined_by_spaces parts ++ codes "</div>")))
 
-pub line_is : (depth : ℕ) (parts : List (List ℕ)) → depth ≤ 20 → IsLine (spaced parts) → IsLine (row_line depth parts)
+pub line_is : (depth : ℕ) (parts : List (List ℕ)) → depth ≤ 20 → IsLine (joined_by_spaces parts) → IsLine (row_line depth parts)
 unfolding no_lf
 line_is depth parts low hp =
-    both no_lf (codes "<div class=\"d") (decimal depth ++ (codes "\">" ++ (spaced parts ++ codes "</div>"))) refl
-    (both no_lf (decimal depth) (codes "\">" ++ (spaced parts ++ codes "</div>")) (weaker is_digit no_lf digit_no_lf (decimal depth) (depth_digits depth low))
-    (both no_lf (codes "\">") (spaced parts ++ codes "</div>") refl
-    (both no_lf (spaced parts) (codes "</div>") hp refl)))
+    both no_lf (codes "<div class=\"d") (decimal depth ++ (codes "\">" ++ (joined_by_spaces parts ++ codes "</div>"))) refl
+    (both no_lf (decimal depth) (codes "\">" ++ (joined_by_spaces parts ++ codes "</div>")) (weaker is_digit no_lf digit_no_lf (decimal depth) (depth_digits depth low))
+    (both no_lf (codes "\">") (joined_by_spaces parts ++ codes "</div>") refl
+    (both no_lf (joined_by_spaces parts) (codes "</div>") hp refl)))
 
 abbrev pub parts_of : (list : List ℕ) → Line → List (List ℕ)
 parts_of list line =
@@ -225,7 +225,7 @@ spaced_line : (xs ys : List ℕ) → IsLine xs → IsLine ys → IsLine (xs ++ 3
 unfolding no_lf
 spaced_line xs ys hx hy = both no_lf xs (32 ∷ ys) hx (both no_lf (32 ∷ []) ys refl hy)
 
-pub parts_line : (list : List ℕ) (line : Line) → IsLine list → IsLine line.key → IsLine (spaced (parts_of list line))
+pub parts_line : (list : List ℕ) (line : Line) → IsLine list → IsLine line.key → IsLine (joined_by_spaces (parts_of list line))
 parts_line list line hl hk =
     let last : List ℕ = message_link list line.key line.subject ++ 32 ∷ thread_link list line.key in
     let ends : IsLine last = spaced_line (message_link list line.key line.subject) (thread_link list line.key)

@@ -7,7 +7,7 @@ use Rattle.std.proofs.lemmas.Bool.Decides.{nat_tests}
 use Rattle.std.proofs.lemmas.List.{append_cancel_left, append_cancel_right}
 use Rattle.std.proofs.lemmas.List.Elements.{All-nil, All-cons, All-head, All-tail}
 use Rattle.policy_core.specs.Names.{is_name, is_name_byte}
-use Rattle.archive_machine.specs.Questions.{with_name, in_byte_order}
+use Rattle.archive_model.specs.Questions.{insert_in_byte_order, sort_by_bytes}
 use Rattle.archive_html.specs.Rows.{list_row}
 use Rattle.archive_html.specs.Links.{link, list_path}
 use Rattle.archive_html.specs.Pages.{lists_page, page_head, page_foot}
@@ -19,18 +19,18 @@ IsName name = is_name name ≡ true
 
 -- ---- the names in order are names
 
-all_with : (name : List ℕ) (names : List (List ℕ)) → IsName name → All IsName names → All IsName (with_name name names)
+all_with : (name : List ℕ) (names : List (List ℕ)) → IsName name → All IsName names → All IsName (insert_in_byte_order name names)
 all_with name [] is all = All-cons IsName name [] is all
 all_with name (other ∷ names) is all = by (is_lt (slice_cmp nat_cmp other name)) (all_with name names is (All-tail IsName other names all))
   where
-    by : (t : Bool) → All IsName (with_name name names) → All IsName (cond t (other ∷ with_name name names) (name ∷ other ∷ names))
-    by true more = All-cons IsName other (with_name name names) (All-head IsName other names all) more
+    by : (t : Bool) → All IsName (insert_in_byte_order name names) → All IsName (cond t (other ∷ insert_in_byte_order name names) (name ∷ other ∷ names))
+    by true more = All-cons IsName other (insert_in_byte_order name names) (All-head IsName other names all) more
     by false more = All-cons IsName name (other ∷ names) is all
 
-pub all_in_order : (names : List (List ℕ)) → All IsName names → All IsName (in_byte_order names)
+pub all_in_order : (names : List (List ℕ)) → All IsName names → All IsName (sort_by_bytes names)
 all_in_order [] all = All-nil IsName
 all_in_order (name ∷ names) all =
-    all_with name (in_byte_order names) (All-head IsName name names all) (all_in_order names (All-tail IsName name names all))
+    all_with name (sort_by_bytes names) (All-head IsName name names all) (all_in_order names (All-tail IsName name names all))
 
 -- ---- a row, up to its name
 

@@ -8,21 +8,21 @@ use Rattle.std.proofs.lemmas.Bool.Decides.{nat_tests}
 use Rattle.std.proofs.lemmas.List.{append_cancel_left, append_cancel_right, length-map}
 use Rattle.std.proofs.lemmas.List.Elements.{All-nil, All-cons, All-head, All-tail, All-get_or}
 use Rattle.std.proofs.lemmas.Option.{slice_get-get_or, slice_get-map}
-use Rattle.mbox_items.specs.Separator.{spaced}
-use Rattle.thread_core.specs.PlaceLaws.{HasEachPlaceOnce, rows_at}
-use Rattle.thread_core.specs.RowLaws.{HasFullDummies}
+use Rattle.mbox_items.specs.Separator.{joined_by_spaces}
+use Rattle.thread_core.specs.PlaceLaws.{HasEachPlaceOnce, row_count_of_place}
+use Rattle.thread_core.specs.RowLaws.{DummiesHaveTwoChildren}
 use Rattle.thread_core.specs.Threads.{threads_of}
 use Rattle.thread_core.specs.TopThread.{is_row_of}
 use Rattle.thread_core.specs.declared.row.Row.{Row}
 use Rattle.thread_core.proofs.Depth.{rows_full}
-use Rattle.thread_links.specs.Containers.{count_of}
+use Rattle.thread_links.specs.Containers.{container_count}
 use Rattle.thread_links.specs.Links.{parent_of, links_of}
 use Rattle.thread_links.specs.declared.entry.Entry.{Entry}
-use Rattle.archive_results.specs.Shown.{Shown, Line, entry_of, line_of}
+use Rattle.archive_results.specs.Shown.{ShownMessage, Line, thread_entry_of, line_of}
 use Rattle.archive_results.specs.Results.{tree_line, lines_of}
-use Rattle.archive_html.specs.Rows.{row, message_row, missing_row, tree_row}
+use Rattle.archive_html.specs.Rows.{page_row, message_row, missing_row, tree_row}
 use Rattle.archive_html.specs.Links.{month_link, author_link, message_link, thread_link}
-use Rattle.archive_laws.specs.Seen.{shown_row, shown_rows}
+use Rattle.archive_laws.specs.Seen.{depth_limited_row, depth_limited_rows}
 use Rattle.archive_laws.proofs.ByteLemmas.{cut_alike, ends_alike}
 use Rattle.archive_laws.proofs.LineLemmas.{no_lf, IsLine, is_digit, depth_digits, depth_alike, row_line, line_is, parts_of, parts_line}
 
@@ -34,14 +34,14 @@ pub record IsRow (count : ℕ) (r : Row) : Type 0 where
   pub placed : (p : ℕ) → r.place ≡ Some p → p < count
   pub low : r.depth ≤ 20
 
-first_of : (r : Row) (rows : List Row) (place : ℕ) → rows_at place (r ∷ rows) ≡ 0 → (is_row_of place r ≡ false) × (rows_at place rows ≡ 0)
+first_of : (r : Row) (rows : List Row) (place : ℕ) → row_count_of_place place (r ∷ rows) ≡ 0 → (is_row_of place r ≡ false) × (row_count_of_place place rows ≡ 0)
 first_of r rows place h = by (is_row_of place r) refl h
   where
-    by : (t : Bool) → is_row_of place r ≡ t → cond t 1 0 + rows_at place rows ≡ 0 → (is_row_of place r ≡ false) × (rows_at place rows ≡ 0)
+    by : (t : Bool) → is_row_of place r ≡ t → cond t 1 0 + row_count_of_place place rows ≡ 0 → (is_row_of place r ≡ false) × (row_count_of_place place rows ≡ 0)
     by true e g = absurd (omega (arith, g))
     by false e g = (e, omega (arith, g))
 
-shown_is_row : (count : ℕ) (r : Row) → (r.place ≡ None → r.depth ≡ 0) → ((p : ℕ) → count ≤ p → is_row_of p r ≡ false) → IsRow count (shown_row r)
+shown_is_row : (count : ℕ) (r : Row) → (r.place ≡ None → r.depth ≡ 0) → ((p : ℕ) → count ≤ p → is_row_of p r ≡ false) → IsRow count (depth_limited_row r)
 shown_is_row count r missing other = record {
   missing = λ none. let top : r.depth ≡ 0 = missing none in ap (λ n. min n 20) top;
   placed = λ p is. by p is (cases_lt p count);
@@ -54,25 +54,25 @@ shown_is_row count r missing other = record {
         let found : is_row_of p r ≡ true = ap (λ o. option_map_or (λ at. at == p) o false) is ∙ grind (arith, nat_tests) in
         absurd (true≢false (sym found ∙ other p past))
 
-all_rows : (count : ℕ) (rows : List Row) → HasFullDummies rows → ((p : ℕ) → count ≤ p → rows_at p rows ≡ 0) → All (IsRow count) (map shown_row rows)
+all_rows : (count : ℕ) (rows : List Row) → DummiesHaveTwoChildren rows → ((p : ℕ) → count ≤ p → row_count_of_place p rows ≡ 0) → All (IsRow count) (map depth_limited_row rows)
 all_rows count [] full other = All-nil (IsRow count)
-all_rows count (r ∷ rows) full other = All-cons (IsRow count) (shown_row r) (map shown_row rows)
+all_rows count (r ∷ rows) full other = All-cons (IsRow count) (depth_limited_row r) (map depth_limited_row rows)
     (shown_is_row count r (λ none. (full.0 none).0) (λ p past. (first_of r rows p (other p past)).0))
     (all_rows count rows full.1 (λ p past. (first_of r rows p (other p past)).1))
 
 abbrev pub EachPlaceOnce : Type 0
 EachPlaceOnce = (entries : List Entry) (merge : Bool) → HasEachPlaceOnce (length entries) (threads_of entries merge)
 
-pub rows_are : EachPlaceOnce → (merge : Bool) (view : List Shown) → All (IsRow (length view)) (shown_rows merge view)
+pub rows_are : EachPlaceOnce → (merge : Bool) (view : List ShownMessage) → All (IsRow (length view)) (depth_limited_rows merge view)
 rows_are each merge view =
-    let entries : List Entry = map (λ s. entry_of s.item) view in
-    let long : length entries ≡ length view = length-map view (λ s. entry_of s.item) in
-    all_rows (length view) (threads_of entries merge) (rows_full entries merge (count_of entries) (parent_of (links_of entries)))
+    let entries : List Entry = map (λ s. thread_entry_of s.item) view in
+    let long : length entries ≡ length view = length-map view (λ s. thread_entry_of s.item) in
+    all_rows (length view) (threads_of entries merge) (rows_full entries merge (container_count entries) (parent_of (links_of entries)))
     (λ p past. (each entries merge).no_other p (rw long past))
 
 -- ---- the text of a row
 
-pub nothing : Shown
+pub nothing : ShownMessage
 nothing = record { key = []; item = record { envelope = record { sender = []; arrival = pos 0 }; text = [] } }
 
 -- what stands before the key of a message's last link, and behind it
@@ -83,11 +83,11 @@ before_key list line =
 abbrev behind_key : List ℕ
 behind_key = codes "\">thread</a>"
 
-parts_end : (list : List ℕ) (line : Line) → spaced (parts_of list line) ≡ (before_key list line ++ line.key) ++ behind_key
+parts_end : (list : List ℕ) (line : Line) → joined_by_spaces (parts_of list line) ≡ (before_key list line ++ line.key) ++ behind_key
 unfolding thread_link
 parts_end list line = simp append_assoc
 
-key_alike : (list : List ℕ) (k l : Line) → length k.key ≡ 64 → length l.key ≡ 64 → spaced (parts_of list k) ≡ spaced (parts_of list l) → k.key ≡ l.key
+key_alike : (list : List ℕ) (k l : Line) → length k.key ≡ 64 → length l.key ≡ 64 → joined_by_spaces (parts_of list k) ≡ joined_by_spaces (parts_of list l) → k.key ≡ l.key
 key_alike list k l long too e =
     ends_alike (before_key list k) (before_key list l) k.key l.key (long ∙ sym too)
     (append_cancel_right (before_key list k ++ k.key) (before_key list l ++ l.key) behind_key (sym (parts_end list k) ∙ e ∙ parts_end list l))
@@ -109,24 +109,24 @@ head_of [] = 0
 head_of (x ∷ xs) = x
 
 -- two rows of one text have one depth and the same parts
-line_alike : (d e : ℕ) (xs ys : List (List ℕ)) → d ≤ 20 → e ≤ 20 → row_line d xs ≡ row_line e ys → (d ≡ e) × (spaced xs ≡ spaced ys)
+line_alike : (d e : ℕ) (xs ys : List (List ℕ)) → d ≤ 20 → e ≤ 20 → row_line d xs ≡ row_line e ys → (d ≡ e) × (joined_by_spaces xs ≡ joined_by_spaces ys)
 line_alike d e xs ys low too same =
-    let cut = cut_alike is_digit 34 quote_is_none (decimal d) (decimal e) (62 ∷ (spaced xs ++ codes "</div>")) (62 ∷ (spaced ys ++ codes "</div>"))
+    let cut = cut_alike is_digit 34 quote_is_none (decimal d) (decimal e) (62 ∷ (joined_by_spaces xs ++ codes "</div>")) (62 ∷ (joined_by_spaces ys ++ codes "</div>"))
     (depth_digits d low) (depth_digits e too)
-    (append_cancel_left (codes "<div class=\"d") (decimal d ++ (codes "\">" ++ (spaced xs ++ codes "</div>"))) (decimal e ++ (codes "\">" ++ (spaced ys ++ codes "</div>"))) same) in
-    (depth_alike d e low too cut.0, append_cancel_right (spaced xs) (spaced ys) (codes "</div>") (ap tail_of cut.1))
+    (append_cancel_left (codes "<div class=\"d") (decimal d ++ (codes "\">" ++ (joined_by_spaces xs ++ codes "</div>"))) (decimal e ++ (codes "\">" ++ (joined_by_spaces ys ++ codes "</div>"))) same) in
+    (depth_alike d e low too cut.0, append_cancel_right (joined_by_spaces xs) (joined_by_spaces ys) (codes "</div>") (ap tail_of cut.1))
 
-not_missing : (list : List ℕ) (line : Line) → codes "(missing)" ≢ spaced (parts_of list line)
+not_missing : (list : List ℕ) (line : Line) → codes "(missing)" ≢ joined_by_spaces (parts_of list line)
 unfolding month_link
 not_missing list line e = let first : ◌≡◌ {A = ℕ} 40 60 = ap head_of e in omega (arith, first)
 
-module _ (list : List ℕ) (is_line : IsLine list) (view : List Shown)
-    (keyed : All (λ (s : Shown). IsLine s.key × (length s.key ≡ 64)) view)
+module _ (list : List ℕ) (heading_is_first_line : IsLine list) (view : List ShownMessage)
+    (keyed : All (λ (s : ShownMessage). IsLine s.key × (length s.key ≡ 64)) view)
     (apart : (i j : ℕ) → i < length view → j < length view → (get_or view i nothing).key ≡ (get_or view j nothing).key → i ≡ j) where
   abbrev text : Row → List ℕ
   text r = tree_row list (tree_line (lines_of view) r)
 
-  abbrev at : ℕ → Shown
+  abbrev at : ℕ → ShownMessage
   at p = get_or view p nothing
 
   abbrev missing_line : List ℕ
@@ -142,7 +142,7 @@ module _ (list : List ℕ) (is_line : IsLine list) (view : List Shown)
   line_at : (p : ℕ) → p < length view → slice_get (lines_of view) p ≡ Some (line_of (at p))
   line_at p below = slice_get-map line_of view p ∙ ap (option_map line_of) (slice_get-get_or view p nothing below)
 
-  long_row : (d : ℕ) (parts : List (List ℕ)) → d ≤ 20 → row d parts ≡ row_line d parts ++ 10 ∷ []
+  long_row : (d : ℕ) (parts : List (List ℕ)) → d ≤ 20 → page_row d parts ≡ row_line d parts ++ 10 ∷ []
   long_row d parts low = let least : min d 20 ≡ d = omega (arith, low) in rw least (simp append_assoc)
 
   text_shown : (r : Row) (p : ℕ) → r.place ≡ Some p → p < length view → r.depth ≤ 20 → text r ≡ shown_line r.depth p ++ 10 ∷ []
@@ -158,7 +158,8 @@ module _ (list : List ℕ) (is_line : IsLine list) (view : List Shown)
 
   shown_is_line : (d p : ℕ) → d ≤ 20 → p < length view → IsLine (shown_line d p)
   shown_is_line d p low below =
-      line_is d (parts_of list (line_of (at p))) low (parts_line list (line_of (at p)) is_line (All-get_or (λ (s : Shown). IsLine s.key × (length s.key ≡ 64)) view p nothing below keyed).0)
+      line_is d (parts_of list (line_of (at p))) low (parts_line list (line_of (at p)) heading_is_first_line
+      (All-get_or (λ (s : ShownMessage). IsLine s.key × (length s.key ≡ 64)) view p nothing below keyed).0)
 
   -- up to its LF
   cut_line : (xs ys r s : List ℕ) → IsLine xs → IsLine ys → (xs ++ 10 ∷ []) ++ r ≡ (ys ++ 10 ∷ []) ++ s → (xs ≡ ys) × (r ≡ s)
@@ -183,7 +184,7 @@ module _ (list : List ℕ) (is_line : IsLine list) (view : List Shown)
       not_missing list (line_of (at p)) (line_alike 0 q.depth (codes "(missing)" ∷ []) (parts_of list (line_of (at p))) (omega arith) hq.low cut.0).1
 
   key_long : (p : ℕ) → p < length view → length (at p).key ≡ 64
-  key_long p below = (All-get_or (λ (s : Shown). IsLine s.key × (length s.key ≡ 64)) view p nothing below keyed).1
+  key_long p below = (All-get_or (λ (s : ShownMessage). IsLine s.key × (length s.key ≡ 64)) view p nothing below keyed).1
 
   both_shown : (r q : Row) (n m : ℕ) (x y : List ℕ) → IsRow (length view) r → IsRow (length view) q → r.place ≡ Some n → q.place ≡ Some m → text r ++ x ≡ text q ++ y
       → Alike r q x y

@@ -5,12 +5,12 @@ use Rattle.std.proofs.lemmas.Slice.Eq.{bytes_eq-Decides}
 use Rattle.policy_core.specs.declared.access.Standing.TheVariants.{Public, Member, Subscriber}
 use Rattle.policy_core.specs.declared.access.Withdrawn.TheVariants.{Author, Board}
 use Rattle.policy_core.specs.Rules.{Rule, standings, withdrawn as if_withdrawn, open_rule}
-use Rattle.archive_machine.specs.Records.{Message, Archive}
-use Rattle.archive_machine.specs.Keys.{is_key}
-use Rattle.archive_results.specs.Access.{asked_on, marks_of, reader_marks, ruling_on}
-use Rattle.archive_results.specs.Shown.{Shown, shown_of}
-use Rattle.archive_pages.specs.Answers.{asking}
-use Rattle.archive_laws.specs.Seen.{is_absent, is_shown, is_denied, Seen, SeenList, shown_row, told_by, seen_list, seen_by, seen}
+use Rattle.archive_model.specs.Records.{Message, Archive}
+use Rattle.archive_model.specs.Keys.{is_key}
+use Rattle.archive_results.specs.Access.{asked_of_message, message_facts, reader_facts, ruling_on}
+use Rattle.archive_results.specs.Shown.{ShownMessage, shown_message}
+use Rattle.archive_pages.specs.Answers.{ask_of_reader}
+use Rattle.archive_laws.specs.Seen.{is_absent, is_shown, is_denied, VisibleArchive, VisibleList, depth_limited_row, visibility_of_asked, visible_list, archive_visible_to, archive_visible_by_token}
 
 -- ---- an archive
 
@@ -56,7 +56,7 @@ holding messages = record {
   persons = record { name = codes "mod"; token = token } ∷ [];
   grants = record { person = codes "mod"; list = soc; rank = pos 3; from_day = pos 0; until_day = pos 20000 } ∷ [];
   messages = messages;
-  filings = [];
+  index_columns = [];
   options = [];
   addresses = [];
 }
@@ -78,33 +78,33 @@ rules = record open_rule { name = codes "withdrawn"; allows = false; conditions 
 abbrev day : ℤ
 day = pos 12131
 
-abbrev seen_of : Archive → (reader : Option (List ℕ)) → SeenList
-seen_of archive reader = seen_list archive (asking rules day reader soc)
+abbrev seen_of : Archive → (reader : Option (List ℕ)) → VisibleList
+seen_of archive reader = visible_list archive (ask_of_reader rules day reader soc)
 
 abbrev moderator : Option (List ℕ)
 moderator = Some (codes "mod")
 
 -- ---- what the public sees, and a moderator
 
-shown_to_the_public : (seen_of one None).shown ≡ shown_of kept ∷ []
-unfolding marks_of ruling_on
+shown_to_the_public : (seen_of one None).shown ≡ shown_message kept ∷ []
+unfolding message_facts ruling_on
 shown_to_the_public = refl
 
-shown_to_a_moderator : (seen_of one moderator).shown ≡ shown_of kept ∷ shown_of withdrawn ∷ []
-unfolding marks_of ruling_on
+shown_to_a_moderator : (seen_of one moderator).shown ≡ shown_message kept ∷ shown_message withdrawn ∷ []
+unfolding message_facts ruling_on
 shown_to_a_moderator = refl
 
 told_of_the_shown : (seen_of one None).told first_key ≡ is_shown
-unfolding marks_of ruling_on
+unfolding message_facts ruling_on
 told_of_the_shown = refl
 
 -- that the archive holds the message is told to whoever knows its key, and by which rule it is denied
 told_of_the_withdrawn : (seen_of one None).told second_key ≡ is_denied (codes "withdrawn")
-unfolding marks_of ruling_on
+unfolding message_facts ruling_on
 told_of_the_withdrawn = refl
 
 told_a_moderator : (seen_of one moderator).told second_key ≡ is_shown
-unfolding marks_of ruling_on
+unfolding message_facts ruling_on
 told_a_moderator = refl
 
 told_of_another : (seen_of one None).told third_key ≡ is_absent
@@ -115,61 +115,63 @@ told_where_it_never_came = refl
 
 -- and nothing else of it
 shown_where_it_never_came : (seen_of without_it None).shown ≡ (seen_of one None).shown
-unfolding marks_of ruling_on
+unfolding message_facts ruling_on
 shown_where_it_never_came = refl
 
 threaded_where_it_never_came : (seen_of without_it None).rows ≡ (seen_of one None).rows
-unfolding marks_of ruling_on
+unfolding message_facts ruling_on
 threaded_where_it_never_came = refl
 
-no_such_list : (seen_by one rules day None).of (codes "xyz") ≡ None
+no_such_list : (archive_visible_to one rules day None).of (codes "xyz") ≡ None
 no_such_list = refl
 
-by_a_token_of_nobody : seen one rules day (Some (codes "abcdefghijklmnop")) ≡ None
+by_a_token_of_nobody : archive_visible_by_token one rules day (Some (codes "abcdefghijklmnop")) ≡ None
 by_a_token_of_nobody = refl
 
 -- a page shows no depth above 20
-as_deep_as_a_page : shown_row (record { depth = 25; place = Some 3 }) ≡ record { depth = 20; place = Some 3 }
+as_deep_as_a_page : depth_limited_row (record { depth = 25; place = Some 3 }) ≡ record { depth = 20; place = Some 3 }
 as_deep_as_a_page = refl
 
 -- ---- two archives in which another withdrew another's message
 
 told_alike : (k u v : Bool)
-    → cond k (told_by (asked_on (asking rules day None soc) (reader_marks one (asking rules day None soc)) (cond u (Some kept) (cond v (Some withdrawn) None)))) is_absent
-    ≡ cond k (told_by (asked_on (asking rules day None soc) (reader_marks other (asking rules day None soc)) (cond u (Some kept) (cond v (Some withdrawn_too) None)))) is_absent
-unfolding marks_of ruling_on
+    → cond k (visibility_of_asked (asked_of_message (ask_of_reader rules day None soc) (reader_facts one (ask_of_reader rules day None soc))
+    (cond u (Some kept) (cond v (Some withdrawn) None)))) is_absent
+    ≡ cond k (visibility_of_asked (asked_of_message (ask_of_reader rules day None soc) (reader_facts other (ask_of_reader rules day None soc))
+    (cond u (Some kept) (cond v (Some withdrawn_too) None)))) is_absent
+unfolding message_facts ruling_on
 told_alike false u v = refl
 told_alike true true v = refl
 told_alike true false true = refl
 told_alike true false false = refl
 
 lists_alike : seen_of one None ≡ seen_of other None
-unfolding marks_of ruling_on
+unfolding message_facts ruling_on
 lists_alike = λ i. record {
-  shown = shown_of kept ∷ [];
+  shown = shown_message kept ∷ [];
   rows = (seen_of without_it None).rows;
   told = λ key. told_alike (is_key key) (bytes_eq first_key key) (bytes_eq second_key key) i;
 }
 
 -- the public sees the same of both
-alike_to_the_public : seen one rules day None ≡ seen other rules day None
-alike_to_the_public = ap (λ (of : (name : List ℕ) → Option SeenList). Some (record { names = soc ∷ []; of = of })) (λ i. λ name. by name (bytes_eq soc name) refl i)
+alike_to_the_public : archive_visible_by_token one rules day None ≡ archive_visible_by_token other rules day None
+alike_to_the_public = ap (λ (of : (name : List ℕ) → Option VisibleList). Some (record { names = soc ∷ []; of = of })) (λ i. λ name. by name (bytes_eq soc name) refl i)
   where
-    by : (name : List ℕ) (t : Bool) → bytes_eq soc name ≡ t → (seen_by one rules day None).of name ≡ (seen_by other rules day None).of name
-    by name true e = subst (λ n. (seen_by one rules day None).of n ≡ (seen_by other rules day None).of n) ((bytes_eq-Decides soc name).0 e) (ap Some lists_alike)
+    by : (name : List ℕ) (t : Bool) → bytes_eq soc name ≡ t → (archive_visible_to one rules day None).of name ≡ (archive_visible_to other rules day None).of name
+    by name true e = subst (λ n. (archive_visible_to one rules day None).of n ≡ (archive_visible_to other rules day None).of n) ((bytes_eq-Decides soc name).0 e) (ap Some lists_alike)
     by name false e = rw e refl
 
 -- and a moderator does not
-abbrev senders : Option Seen → List (List ℕ)
+abbrev senders : Option VisibleArchive → List (List ℕ)
 senders None = []
 senders (Some s) = of_list (s.of soc)
   where
-    of_list : Option SeenList → List (List ℕ)
+    of_list : Option VisibleList → List (List ℕ)
     of_list None = []
-    of_list (Some l) = map (λ (m : Shown). m.item.envelope.sender) l.shown
+    of_list (Some l) = map (λ (m : ShownMessage). m.item.envelope.sender) l.shown
 
-other_to_a_moderator : seen one rules day (Some token) ≢ seen other rules day (Some token)
-unfolding marks_of ruling_on
+other_to_a_moderator : archive_visible_by_token one rules day (Some token) ≢ archive_visible_by_token other rules day (Some token)
+unfolding message_facts ruling_on
 other_to_a_moderator same = true≢false (ap (λ s. bytes_eq (last (senders s)) (codes "a@b")) same)
   where
     last : List (List ℕ) → List ℕ

@@ -9,11 +9,11 @@ use Rattle.std.proofs.lemmas.List.Elements.{All-nil, All-cons}
 use Rattle.std.proofs.lemmas.Str.{IsUtf8-from_ascii}
 use Rattle.std.proofs.lemmas.Str.Ascii.{IsAscii-nil, IsAscii-cons}
 use Rattle.httparse.specs.Grammar.{AllPass, Field, IsField, is_token_byte, is_uri_byte, is_value_byte, print_request}
-use Rattle.policy_core.specs.Names.{is_letter, is_name, is_name_byte}
-use Rattle.archive_machine.specs.Keys.{is_key, is_key_digit}
-use Rattle.archive_machine.specs.Tokens.{is_token, is_b64token}
-use Rattle.archive_requests.specs.Heads.{BeginsWith}
-use Rattle.archive_laws.specs.Telling.{token_fields, get_by}
+use Rattle.policy_core.specs.Names.{is_lowercase_letter, is_name, is_name_byte}
+use Rattle.archive_model.specs.Keys.{is_key, is_key_digit}
+use Rattle.archive_model.specs.BearerTokens.{is_token, is_b64token}
+use Rattle.archive_requests.specs.Heads.{BeginsWithHead}
+use Rattle.archive_laws.specs.Telling.{authorization_fields, get_request}
 use Rattle.archive_laws.proofs.ByteLemmas.{both, weaker}
 use Rattle.archive_laws.proofs.AskingLemmas.{IsAsking, is_visible, visible_token, name_bytes, key_bytes}
 
@@ -60,14 +60,14 @@ field_token = passes is_token_byte is_token_byte (λ b h. h) (codes "Authorizati
 raw_bytes : (t : List ℕ) → list_all is_value_byte t ≡ true → list_all is_value_byte (codes " Bearer " ++ t) ≡ true
 raw_bytes t h = both is_value_byte (codes " Bearer ") t refl h
 
-fields : (token : Option (List ℕ)) → IsAsking token → All IsField (token_fields token)
+fields : (token : Option (List ℕ)) → IsAsking token → All IsField (authorization_fields token)
 fields None is = All-nil IsField
 fields (Some t) is = All-cons IsField _ [] (record {
   name = (omega arith, field_token);
   raw = passes is_value_byte is_value_byte (λ b h. h) (codes " Bearer " ++ t) (raw_bytes t (weaker is_visible is_value_byte value_byte t (visible_token t is)));
 }) (All-nil IsField)
 
-few : (token : Option (List ℕ)) → length (token_fields token) ≤ 64
+few : (token : Option (List ℕ)) → length (authorization_fields token) ≤ 64
 few None = omega arith
 few (Some t) = omega arith
 
@@ -76,7 +76,7 @@ token_short t h =
     let low = (and_parts (nat_le 16 (length t)) (nat_le (length t) 64) (and_parts (nat_le 16 (length t) && nat_le (length t) 64) (is_b64token t) h).0).1 in
     grind (arith, nat_tests, low)
 
-short : (token : Option (List ℕ)) → IsAsking token → (path : List ℕ) → length path ≤ 200 → length (print_request (get_by token (47 ∷ path))) ≤ 8192
+short : (token : Option (List ℕ)) → IsAsking token → (path : List ℕ) → length path ≤ 200 → length (print_request (get_request token (47 ∷ path))) ≤ 8192
 unfolding print_request
 short None is path h = simp length-append (omega (arith, h))
 short (Some t) is path h = let low = token_short t is in simp length-append (omega (arith, h, low))
@@ -91,7 +91,7 @@ pub record IsSendable (path : List ℕ) : Type 0 where
   pub low : length path ≤ 200
 
 pub sent : (token : Option (List ℕ)) → IsAsking token → (path : List ℕ) → IsSendable path
-    → BeginsWith (print_request (get_by token (47 ∷ path))) (get_by token (47 ∷ path))
+    → BeginsWithHead (print_request (get_request token (47 ∷ path))) (get_request token (47 ∷ path))
 sent token is path can =
     let all : list_all is_visible (47 ∷ path) ≡ true = rw (slash_visible, can.visible) refl in
     record {
@@ -104,7 +104,7 @@ sent token is path can =
           minor = omega arith;
           fields = fields token is;
         },
-        sym (append-nil (print_request (get_by token (47 ∷ path)))),
+        sym (append-nil (print_request (get_request token (47 ∷ path)))),
       );
       short = short token is path can.low;
       few = few token;
@@ -117,7 +117,7 @@ visible_word w h = weaker is_name_byte is_visible name_visible w h
 
 name_short : (name : List ℕ) → is_name name ≡ true → length name ≤ 40
 name_short [] h = omega arith
-name_short (b ∷ bs) h = let low = (and_parts (is_letter b && list_all is_name_byte bs) (nat_le (length bs) 39) h).1 in grind (arith, nat_tests, low)
+name_short (b ∷ bs) h = let low = (and_parts (is_lowercase_letter b && list_all is_name_byte bs) (nat_le (length bs) 39) h).1 in grind (arith, nat_tests, low)
 
 key_short : (key : List ℕ) → is_key key ≡ true → length key ≤ 64
 key_short key h = let long = (and_parts (length key == 64) (list_all is_key_digit key) h).0 in grind (arith, nat_tests, long)

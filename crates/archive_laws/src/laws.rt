@@ -1,32 +1,32 @@
 //! Laws of what a reader can learn: each contract is a law over the definitions of `specs/` alone, and no call does anything.
 ghost use Rattle.std.specs.Prelude.{List};
 ghost use Rattle.std.specs.List.{All};
-ghost use Rattle.archive_machine.specs.Commands.{Command};
-ghost use Rattle.archive_machine.specs.Records.{Archive};
-ghost use Rattle.archive_machine.specs.Runs.{run};
-ghost use Rattle.archive_machine.specs.Sound.{AddsItem};
+ghost use Rattle.archive_model.specs.Commands.{Command};
+ghost use Rattle.archive_model.specs.Records.{Archive};
+ghost use Rattle.archive_model.specs.Runs.{run};
+ghost use Rattle.archive_model.specs.Sound.{AddsWritableItem};
 ghost use Rattle.archive_tables.specs.Making.{empty_archive};
-ghost use Rattle.archive_laws.specs.Seen.{IsOfWhatIsSeen};
-ghost use Rattle.archive_laws.specs.Telling.{IsInOrder, TellsAllThatIsSeen};
+ghost use Rattle.archive_laws.specs.Seen.{RepliesDependOnVisibleOnly};
+ghost use Rattle.archive_laws.specs.Telling.{IsWellFormedArchive, RepliesRevealAllVisible};
 
-use archive_machine::laws::{commands_keep_soundness, names_and_tokens_are_such, names_stay_apart};
+use archive_model::laws::{commands_keep_soundness, names_and_tokens_are_such, names_stay_unique};
 use thread_core::laws::each_place_stands_in_one_row;
 
 /// The reply to a request is a function of what its reader sees: nothing else of an archive turns up in any reply.
 #[tactic(auto, using(crate::proofs::SeenLemmas::of_what_is_seen))]
 pub fn replies_are_of_what_is_seen()
-    ensures { IsOfWhatIsSeen }
+    ensures { RepliesDependOnVisibleOnly }
 {}
 
 /// All that is seen can be asked for: two archives in order answer every request by one token alike exactly where the same is seen
 /// of them by it. The empty archive is in order, and one in order stays so, whatever is commanded.
 pub fn all_that_is_seen_is_told()
-    ensures exactly { TellsAllThatIsSeen }
-    ensures empty { IsInOrder empty_archive }
-    ensures commands { (archive : Archive) (commands : List Command) → All AddsItem commands → IsInOrder archive → IsInOrder (run archive commands).archive }
+    ensures exactly { RepliesRevealAllVisible }
+    ensures empty { IsWellFormedArchive empty_archive }
+    ensures commands { (archive : Archive) (commands : List Command) → All AddsWritableItem commands → IsWellFormedArchive archive → IsWellFormedArchive (run archive commands).archive }
 {
     each_place_stands_in_one_row();
     commands_keep_soundness();
-    names_stay_apart();
+    names_stay_unique();
     names_and_tokens_are_such();
 }

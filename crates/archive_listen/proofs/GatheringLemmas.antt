@@ -1,7 +1,7 @@
 -- What is still held back.
 use Rattle.std.proofs.Common.{◌≡◌, ◌≤◌, ◌<◌, ℕ, suc, ◌+◌, ◌-◌, List, [], ◌∷◌, ◌++◌, length, take, drop, drop-drop, length-take, min, refl, sym, ap, arith, append_assoc, ◌∙◌, Ok}
 use Rattle.std.proofs.lemmas.List.{drop-take, take-append-drop}
-use Rattle.byte_device.specs.Device.{written_faults}
+use Rattle.byte_device.specs.Device.{failures_of_write}
 use Rattle.byte_device.proofs.DeviceLemmas.{written_faults-some}
 
 -- there are as many as lie between the two places, or fewer
@@ -25,6 +25,6 @@ rest_passed first last k room before now order told =
     ∙ ap (λ (t : List ℕ). before ++ t) (take-append-drop k (take m (drop first room)) ∙ sym piece)
 
 -- a write that takes as many as fit is no failure, where one fits
-pub taken_fits : (E : Type 0) (bytes : List ℕ) (free : ℕ) → 0 < free → written_faults {E = E} bytes (Ok (min (length bytes) free)) ≡ 0
+pub taken_fits : (E : Type 0) (bytes : List ℕ) (free : ℕ) → 0 < free → failures_of_write {E = E} bytes (Ok (min (length bytes) free)) ≡ 0
 taken_fits E [] free some = refl
 taken_fits E (b ∷ bytes) free some = written_faults-some E (b ∷ bytes) (min (suc (length bytes)) free) (λ none. omega (arith, some, none))

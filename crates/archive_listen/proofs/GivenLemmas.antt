@@ -2,16 +2,16 @@
 use Rattle.std.proofs.Common.{◌≡◌, ◌∙◌, ◌+◌, List, [], ◌∷◌, None, Some, Result, Ok, Err, inl, inr, ap, length, length-append, arith}
 use Rattle.std.specs.declared.time.Instant.{Instant}
 use Rattle.std_io.specs.declared.io.kind.ErrorKind.{ErrorKind}
-use Rattle.archive_listen.specs.Asking.{asked_on, fault_by}
-use Rattle.archive_listen.specs.Connections.{Exchange, Outcome, Telling}
-use Rattle.archive_listen.specs.Given.{AnswersGiven, EachGivenIsAnswered}
-use Rattle.archive_listen.specs.Serving.{Served, ServesOne}
-use Rattle.archive_listen.specs.Sockets.{Accepted, Closed, LoopbackState, closed_one}
-use Rattle.archive_listen.specs.declared.faults.AcceptFault.TheVariants.{Peer}
+use Rattle.archive_listen.specs.Asking.{after_accept_call, accept_error_of_result}
+use Rattle.archive_listen.specs.Connections.{Exchange, ConnectionResult, ConnectionTranscript}
+use Rattle.archive_listen.specs.Given.{AccountsForAcceptCalls, EachAcceptedIsAnswered}
+use Rattle.archive_listen.specs.Serving.{ServerState, ServesOneConnection}
+use Rattle.archive_listen.specs.Sockets.{CallsAcceptOnce, ClosesConnection, LoopbackState, close_adds_one_exchange}
+use Rattle.archive_listen.specs.declared.faults.AcceptError.TheVariants.{Peer}
 
 -- one that was given: the system gave no error
-given_one : (answer : Result Instant ErrorKind) (before after : LoopbackState) → after ≡ record before { asked = asked_on answer before.asked }
-    → None ≡ fault_by answer
+given_one : (answer : Result Instant ErrorKind) (before after : LoopbackState) → after ≡ record before { asked = after_accept_call answer before.asked }
+    → None ≡ accept_error_of_result answer
     → (after.asked.times ≡ before.asked.times + 1) × (length after.asked.errors ≡ length before.asked.errors) × (after.exchanges ≡ before.exchanges)
 given_one (Ok at) before after asked none = (
   ap (λ (l : LoopbackState). l.asked.times) asked,
@@ -21,8 +21,8 @@ given_one (Ok at) before after asked none = (
 given_one (Err kind) before after asked none = cc
 
 -- and one that was not
-missed_one : (answer : Result Instant ErrorKind) (before after : LoopbackState) → after ≡ record before { asked = asked_on answer before.asked }
-    → Some Peer ≡ fault_by answer
+missed_one : (answer : Result Instant ErrorKind) (before after : LoopbackState) → after ≡ record before { asked = after_accept_call answer before.asked }
+    → Some Peer ≡ accept_error_of_result answer
     → (after.asked.times ≡ before.asked.times + 1) × (length after.asked.errors ≡ length before.asked.errors + 1) × (after.exchanges ≡ before.exchanges)
 missed_one (Ok at) before after asked some = cc
 missed_one (Err kind) before after asked some = (
@@ -31,13 +31,13 @@ missed_one (Err kind) before after asked some = (
   ap (λ (l : LoopbackState). l.exchanges) asked,
 )
 
-module _ {St : Type 0} (answers : St → St → Telling → Telling → Outcome → Type 0) where
-  one_answered : (outcome : Outcome) (before after : Served LoopbackState St) → ServesOne answers Accepted Closed outcome before after
-      → AnswersGiven before.listener after.listener
+module _ {St : Type 0} (answers : St → St → ConnectionTranscript → ConnectionTranscript → ConnectionResult → Type 0) where
+  one_answered : (outcome : ConnectionResult) (before after : ServerState LoopbackState St) → ServesOneConnection answers CallsAcceptOnce ClosesConnection outcome before after
+      → AccountsForAcceptCalls before.listener after.listener
   one_answered outcome before after (inl takes) =
       let given = given_one takes.accepted.answer before.listener takes.listening takes.accepted.asked takes.accepted.given in
       let more : length after.listener.exchanges ≡ length takes.listening.exchanges + 1 =
-      ap (λ (l : List Exchange). length l) (closed_one takes.listening after.listener _ _ takes.closed) ∙ length-append takes.listening.exchanges (_ ∷ []) in
+      ap (λ (l : List Exchange). length l) (close_adds_one_exchange takes.listening after.listener _ _ takes.closed) ∙ length-append takes.listening.exchanges (_ ∷ []) in
       let times = ap (λ (l : LoopbackState). l.asked.times) takes.closed.noted in
       let errors = ap (λ (l : LoopbackState). length l.asked.errors) takes.closed.noted in
       let before_it = ap (λ (l : List Exchange). length l) given.2 in
@@ -59,13 +59,13 @@ module _ {St : Type 0} (answers : St → St → Telling → Telling → Outcome 
         refused = omega (arith, missed.1);
       }
 
-  pub each_answered : EachGivenIsAnswered answers
+  pub each_answered : EachAcceptedIsAnswered answers
   each_answered [] first last same = record {
     answered = 0;
     errors = 0;
-    asked = omega (arith, ap (λ (s : Served LoopbackState St). s.listener.asked.times) same);
-    written = omega (arith, ap (λ (s : Served LoopbackState St). length s.listener.exchanges) same);
-    refused = omega (arith, ap (λ (s : Served LoopbackState St). length s.listener.asked.errors) same);
+    asked = omega (arith, ap (λ (s : ServerState LoopbackState St). s.listener.asked.times) same);
+    written = omega (arith, ap (λ (s : ServerState LoopbackState St). length s.listener.exchanges) same);
+    refused = omega (arith, ap (λ (s : ServerState LoopbackState St). length s.listener.asked.errors) same);
   }
   each_answered (outcome ∷ outcomes) first last (between, one, rest) =
       let here = one_answered outcome first between one in

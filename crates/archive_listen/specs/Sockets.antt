@@ -9,10 +9,10 @@ use Rattle.std.specs.declared.time.Instant.{Instant}
 use Rattle.std_io.specs.declared.io.kind.ErrorKind.{ErrorKind}
 use Rattle.std.specs.declared.net.ip_addr.IpAddr.TheVariants.{V4, V6}
 use Rattle.std.specs.declared.net.socket_addr.SocketAddr.{SocketAddr}
-use Rattle.archive_listen.specs.Asking.{AskedState, asked_on, fault_by}
+use Rattle.archive_listen.specs.Asking.{AcceptState, after_accept_call, accept_error_of_result}
 use Rattle.archive_listen.specs.Connections.{Exchange}
-use Rattle.archive_listen.specs.declared.connections.Listening.{Listening}
-use Rattle.archive_listen.specs.declared.faults.AcceptFault.{AcceptFault}
+use Rattle.archive_listen.specs.declared.connections.BoundListener.{BoundListener}
+use Rattle.archive_listen.specs.declared.faults.AcceptError.{AcceptError}
 use Rattle.archive_listen.specs.declared.waiting.Span.{Span}
 use Rattle.archive_listen.specs.declared.waiting.Waited.{Waited}
 
@@ -48,7 +48,7 @@ IsLocalhost (V4 ip) = ipv4_octets ip ≡ 127 ∷ 0 ∷ 0 ∷ 1 ∷ []
 IsLocalhost (V6 ip) = ⊥
 
 -- An address that was had is the one that was asked for; but the system picks a port where port 0 was. No port that is had is 0.
-pub record IsHad (asked had : SocketAddr) : Type 0 where
+pub record IsBoundAddress (asked had : SocketAddr) : Type 0 where
   pub ip : socket_ip had ≡ socket_ip asked
   pub port : (socket_port asked ≡ 0) ⊎ (socket_port had ≡ socket_port asked)
   pub some : 0 < socket_port had
@@ -58,37 +58,37 @@ pub record IsHad (asked had : SocketAddr) : Type 0 where
 pub record LoopbackState : Type 0 where
   pub address : SocketAddr
   pub exchanges : List Exchange
-  pub asked : AskedState
+  pub asked : AcceptState
   pub ended : ℕ
   pub waited : Waited
 
 -- It listens on 127.0.0.1 alone, on the port that was asked for, or on one that the system picked where port 0 was. It took no
 -- connection back yet.
-pub record Listens (asked : ℕ) (loopback : LoopbackState) : Type 0 where
+pub record ListensOnLoopback (asked : ℕ) (loopback : LoopbackState) : Type 0 where
   pub local : IsLocalhost (socket_ip loopback.address)
   pub port : (asked ≡ 0) ⊎ (socket_port loopback.address ≡ asked)
   pub some : 0 < socket_port loopback.address
   pub fresh : loopback.exchanges ≡ []
 
 -- it does, and the port that is told is the one that it listens on
-pub record ListensOn (asked : ℕ) (listening : Listening LoopbackState) : Type 0 where
-  pub listens : Listens asked listening.listener
+pub record ListensOnReportedPort (asked : ℕ) (listening : BoundListener LoopbackState) : Type 0 where
+  pub listens : ListensOnLoopback asked listening.listener
   pub told : listening.port ≡ socket_port listening.listener.address
 
 -- It asked the system once. It gives the connection that the system gave, or none, for what the error of the system stands for.
-pub record Accepted (before after : LoopbackState) (fault : Option AcceptFault) : Type 0 where
+pub record CallsAcceptOnce (before after : LoopbackState) (fault : Option AcceptError) : Type 0 where
   pub answer : Result Instant ErrorKind
-  pub asked : after ≡ record before { asked = asked_on answer before.asked }
-  pub given : fault ≡ fault_by answer
+  pub asked : after ≡ record before { asked = after_accept_call answer before.asked }
+  pub given : fault ≡ accept_error_of_result answer
 
 -- what stood written down stands
-pub accepted_none : (before after : LoopbackState) (fault : Option AcceptFault) → Accepted before after fault → after.exchanges ≡ before.exchanges
-accepted_none before after fault accepted = ap (λ (l : LoopbackState). l.exchanges) accepted.asked
+pub accept_keeps_exchanges : (before after : LoopbackState) (fault : Option AcceptError) → CallsAcceptOnce before after fault → after.exchanges ≡ before.exchanges
+accept_keeps_exchanges before after fault accepted = ap (λ (l : LoopbackState). l.exchanges) accepted.asked
 
 -- one more that is ended in order, unless its reply broke off
-abbrev pub ended_after : (broke_off : Bool) → ℕ → ℕ
-ended_after true ended = ended
-ended_after false ended = ended + 1
+abbrev pub graceful_closes_after : (broke_off : Bool) → ℕ → ℕ
+graceful_closes_after true ended = ended
+graceful_closes_after false ended = ended + 1
 
 -- how many seconds a whole reply may take, from its first write on, where so many bytes of it were written: thirty, and one more for each
 -- megabyte (profile)
@@ -97,20 +97,20 @@ reply_seconds written = 30 + written / 1_000_000
 
 -- How long a peer is waited for at most that was sent so many bytes: ten seconds for its head, the time of its reply, and a second for what it
 -- sends past its head.
-pub record IsInTime (sent : ℕ) (waited : Waited) : Type 0 where
+pub record IsWithinTimeLimits (sent : ℕ) (waited : Waited) : Type 0 where
   pub head : as_nanos waited.head ≤ 10 * 1_000_000_000
   pub reply : as_nanos waited.reply ≤ reply_seconds sent * 1_000_000_000
   pub rest : as_nanos waited.rest ≤ 1_000_000_000
 
 -- It takes a connection back: what went over it is written down, it is ended in order unless its reply broke off, and its peer was waited for
 -- within its times.
-pub record Closed (before after : LoopbackState) (over : Exchange) (broke_off : Bool) : Type 0 where
-  pub noted : after ≡ record before { exchanges = before.exchanges ++ over ∷ []; ended = ended_after broke_off before.ended; waited = after.waited }
-  pub waited : IsInTime (length over.sent) after.waited
+pub record ClosesConnection (before after : LoopbackState) (over : Exchange) (broke_off : Bool) : Type 0 where
+  pub noted : after ≡ record before { exchanges = before.exchanges ++ over ∷ []; ended = graceful_closes_after broke_off before.ended; waited = after.waited }
+  pub waited : IsWithinTimeLimits (length over.sent) after.waited
 
-pub closed_one : (before after : LoopbackState) (over : Exchange) (broke_off : Bool) → Closed before after over broke_off
+pub close_adds_one_exchange : (before after : LoopbackState) (over : Exchange) (broke_off : Bool) → ClosesConnection before after over broke_off
     → after.exchanges ≡ before.exchanges ++ over ∷ []
-closed_one before after over broke_off closed = ap (λ (l : LoopbackState). l.exchanges) closed.noted
+close_adds_one_exchange before after over broke_off closed = ap (λ (l : LoopbackState). l.exchanges) closed.noted
 
 -- ---- how long a peer is waited for
 
@@ -120,11 +120,11 @@ wait_seconds false = 2
 wait_seconds true = 5
 
 -- The time that the next bytes of a request may take, which is not past ten seconds of the whole head (profile).
-pub record IsHeadSpan (begun : Bool) (span : Span) : Type 0 where
+pub record IsHeadTimeLimit (begun : Bool) (span : Span) : Type 0 where
   pub most : as_nanos span.most ≡ wait_seconds begun * 1_000_000_000
   pub whole : as_nanos span.whole ≡ 10 * 1_000_000_000
 
 -- The time that the next write of a reply may take, thirty seconds, which is not past the time of the whole reply.
-pub record IsReplySpan (written : ℕ) (span : Span) : Type 0 where
+pub record IsReplyTimeLimit (written : ℕ) (span : Span) : Type 0 where
   pub most : as_nanos span.most ≡ 30 * 1_000_000_000
   pub whole : as_nanos span.whole ≡ reply_seconds written * 1_000_000_000

@@ -1,10 +1,10 @@
 //! What listens for the system, and what its calls gave. No clause says what the toolchain's own calls give, so the bodies here only call
 //! them and write down what came of it.
 ghost use Rattle.std.specs.Prelude.{◌≡◌, Ok, Err, MatchResult};
-ghost use Rattle.archive_listen.specs.Asking.{asked_on, never_asked};
+ghost use Rattle.archive_listen.specs.Asking.{after_accept_call, no_accept_calls};
 
 use crate::errors::Errors;
-use byte_device::Told;
+use byte_device::Transcript;
 use std::io::{self, ErrorKind};
 use std::marker::Model;
 use std::net::{OpenListener, OpenStream};
@@ -37,16 +37,16 @@ fn ask<R: Clock, S: OpenStream + Drop, L: OpenListener<Stream = S>>(
 #[derive(Drop)]
 pub(crate) struct Asked<L> {
     inner: L,
-    times: Told,
+    times: Transcript,
     errors: Errors,
     at: Option<Instant>,
 }
 
 impl<L> Model for Asked<L> {
     ghost use Rattle.std.specs.Prelude.{length};
-    ghost use Rattle.archive_listen.specs.Asking.{AskedState};
+    ghost use Rattle.archive_listen.specs.Asking.{AcceptState};
 
-    ghost Value = { AskedState };
+    ghost Value = { AcceptState };
 
     ghost view = { λ a. record { times = length a.times.bytes; errors = a.errors.kinds; at = a.at } };
 }
@@ -54,11 +54,11 @@ impl<L> Model for Asked<L> {
 impl<L> Asked<L> {
     /// It was not asked yet.
     pub(crate) fn new(inner: L) -> Asked<L>
-        ensures { result ≡ never_asked }
+        ensures { result ≡ no_accept_calls }
     {
         Asked {
             inner,
-            times: Told::new(),
+            times: Transcript::new(),
             errors: Errors::new(),
             at: None,
         }
@@ -73,8 +73,8 @@ impl<L> Asked<L> {
     ) -> Result<Given<S>, ErrorKind>
     where
         L: OpenListener<Stream = S>,
-        ensures { MatchResult result (λ given. self.new ≡ asked_on (Ok given.at) self.old)
-            (λ kind. self.new ≡ asked_on (Err kind) self.old) }
+        ensures { MatchResult result (λ given. self.new ≡ after_accept_call (Ok given.at) self.old)
+            (λ kind. self.new ≡ after_accept_call (Err kind) self.old) }
     {
         self.times.note(&[0]);
         match ask(&self.inner, clock) {

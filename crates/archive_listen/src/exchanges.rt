@@ -3,7 +3,7 @@ ghost use Rattle.std.specs.Prelude.{◌≡◌, ◌++◌, List, [], ◌∷◌};
 ghost use Rattle.std.specs.Borrow.{ftrue};
 ghost use Rattle.archive_listen.specs.Connections.{Exchange, exchange};
 
-use byte_device::Told;
+use byte_device::Transcript;
 use std::marker::{Model, PhantomData};
 
 /// Of each connection that was given back, in their order, what was read of its peer and what was sent to it. It takes no room,
@@ -29,7 +29,7 @@ impl Exchanges {
     }
 
     /// One more, behind those before.
-    pub(crate) fn with(_before: &Exchanges, _read: &Told, _sent: &Told) -> Exchanges
+    pub(crate) fn with(_before: &Exchanges, _read: &Transcript, _sent: &Transcript) -> Exchanges
         ensures { result.all ≡ _before.now.all ++ exchange _read.now.bytes _sent.now.bytes ∷ [] }
     {
         Exchanges {

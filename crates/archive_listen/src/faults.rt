@@ -1,13 +1,13 @@
 //! Why a connection is not answered.
 ghost use Rattle.std.specs.Prelude.{◌≡◌};
-ghost use Rattle.archive_listen.specs.Connections.{fault_line};
+ghost use Rattle.archive_listen.specs.Connections.{connection_error_line};
 
 use std::error::Error;
 use std::fmt;
 
 /// Why a connection was not answered, or not to its end. It prints its number and its name.
 #[derive(Clone, Copy, Debug, PartialEq, Eq, Drop)]
-pub enum ConnectionFault {
+pub enum ConnectionError {
     /// S1: a read failed or waited too long before the head of the request was whole, or the peer was gone before its
     /// connection was taken. Nothing was written.
     Read,
@@ -17,34 +17,34 @@ pub enum ConnectionFault {
     Broken,
 }
 
-impl fmt::Display for ConnectionFault {
+impl fmt::Display for ConnectionError {
     fn fmt<W: fmt::Write>(&self, f: &mut fmt::Formatter<W>) -> fmt::Result {
         f.write_str(match self {
-            ConnectionFault::Read => "S1 Read",
-            ConnectionFault::Write => "S2 Write",
-            ConnectionFault::Broken => "S3 Broken",
+            ConnectionError::Read => "S1 Read",
+            ConnectionError::Write => "S2 Write",
+            ConnectionError::Broken => "S3 Broken",
         })
     }
 }
 
-impl Error for ConnectionFault {}
+impl Error for ConnectionError {}
 
-impl ConnectionFault {
+impl ConnectionError {
     /// The line that tells of it, which takes no memory.
     pub fn line(self) -> &'static [u8]
-        ensures { result.now ≡ fault_line self }
+        ensures { result.now ≡ connection_error_line self }
     {
         match self {
-            ConnectionFault::Read => b"archive: S1 Read\n",
-            ConnectionFault::Write => b"archive: S2 Write\n",
-            ConnectionFault::Broken => b"archive: S3 Broken\n",
+            ConnectionError::Read => b"archive: S1 Read\n",
+            ConnectionError::Write => b"archive: S2 Write\n",
+            ConnectionError::Broken => b"archive: S3 Broken\n",
         }
     }
 }
 
 /// Why a listener gave no connection.
 #[derive(Clone, Copy, Debug, PartialEq, Eq, Drop)]
-pub enum AcceptFault {
+pub enum AcceptError {
     /// The connection's own: its peer was gone, or the network between. Another one may follow.
     Peer,
     /// The listener's: no descriptor, no memory, or it listens no more. To ask again could go on for ever.
@@ -53,12 +53,12 @@ pub enum AcceptFault {
 
 /// F4: there is no listening, or no more of it.
 #[derive(Clone, Copy, Debug, PartialEq, Eq, Drop)]
-pub struct ListenFault;
+pub struct ListenError;
 
-impl fmt::Display for ListenFault {
+impl fmt::Display for ListenError {
     fn fmt<W: fmt::Write>(&self, f: &mut fmt::Formatter<W>) -> fmt::Result {
         f.write_str("F4 Net")
     }
 }
 
-impl Error for ListenFault {}
+impl Error for ListenError {}

@@ -1,10 +1,10 @@
 //! Gathering what is written into large pieces.
-ghost use Rattle.archive_listen.specs.Gathering.{rest_of};
-ghost use Rattle.byte_device.specs.Device.{written_faults};
+ghost use Rattle.archive_listen.specs.Gathering.{slice_between};
+ghost use Rattle.byte_device.specs.Device.{failures_of_write};
 ghost use Rattle.std.specs.Prelude.{◌≡◌, ◌≤◌, ◌<◌, ◌+◌, ◌-◌, ◌++◌, [], length, min, take, refl, true, IfOk, IfErr, OnOk, OnErr, MatchResult};
 
-use crate::connections::Outgoing;
-use byte_device::{DeviceFailure, Sink, Told, WriteFault, write_bytes};
+use crate::connections::BufferedSink;
+use byte_device::{DeviceFailure, Sink, Transcript, WriteFault, write_bytes};
 use std::marker::Model;
 
 /// How many bytes of a reply are held back at most.
@@ -12,24 +12,24 @@ pub const ROOM: usize = 16_384;
 
 /// A sink whose bytes are passed on to another one in pieces of `N` bytes, and by `flush`. It takes no memory of its own.
 #[derive(Drop)]
-pub struct Gathered<W, const N: usize> {
+pub struct WriteBuffer<W, const N: usize> {
     inner: W,
     held: [u8; N],
     // Those from the first up to the last wait in `held`.
     first: usize,
     last: usize,
-    faults: Told,
+    faults: Transcript,
 }
 
-impl<W, const N: usize> Model for Gathered<W, N> {
+impl<W, const N: usize> Model for WriteBuffer<W, N> {
     ghost use Rattle.std.specs.Prelude.{◌≤◌, ◌<◌, ◌-◌, length};
-    ghost use Rattle.archive_listen.specs.Gathering.{GatheredState, rest_of};
+    ghost use Rattle.archive_listen.specs.Gathering.{WriteBufferState, slice_between};
 
-    ghost Value = { GatheredState W };
+    ghost Value = { WriteBufferState W };
 
     ghost view = { λ g. record {
       inner = g.inner;
-      held = rest_of g.first g.last g.held;
+      held = slice_between g.first g.last g.held;
       free = N - g.last;
       failures = length g.faults.bytes;
     } };
@@ -58,9 +58,9 @@ fn write_rest<W: Sink>(
 ) -> Result<(), WriteFault>
     requires order { first ≤ last }
     requires within { last ≤ length room.now }
-    ensures ok { OnOk result (W.told out.new ≡ W.told out.old ++ rest_of first last room.now) }
+    ensures ok { OnOk result (W.told out.new ≡ W.told out.old ++ slice_between first last room.now) }
     ensures fault { IfErr result (λ e. (e.written ≤ last - first)
-        × (W.told out.new ++ rest_of (first + e.written) last room.now ≡ W.told out.old ++ rest_of first last room.now)) }
+        × (W.told out.new ++ slice_between (first + e.written) last room.now ≡ W.told out.old ++ slice_between first last room.now)) }
 {
     match write_bytes(out, &room[first..last]) {
         Ok(()) => Ok(()),
@@ -68,18 +68,18 @@ fn write_rest<W: Sink>(
     }
 }
 
-impl<W, const N: usize> Gathered<W, N> {
+impl<W, const N: usize> WriteBuffer<W, N> {
     /// Nothing is held back yet, and some room is there.
-    pub fn new(inner: W) -> Gathered<W, N>
+    pub fn new(inner: W) -> WriteBuffer<W, N>
         requires { 0 < N }
         ensures { result ≡ record { inner = inner; held = []; free = N; failures = 0 } }
     {
-        Gathered {
+        WriteBuffer {
             inner,
             held: [0; N],
             first: 0,
             last: 0,
-            faults: Told::new(),
+            faults: Transcript::new(),
         }
     }
 
@@ -91,7 +91,7 @@ impl<W, const N: usize> Gathered<W, N> {
     }
 }
 
-impl<W: Sink, const N: usize> Gathered<W, N> {
+impl<W: Sink, const N: usize> WriteBuffer<W, N> {
     /// Passes on what is held back, or a beginning of it where that fails.
     fn pass_on(&mut self) -> Result<(), DeviceFailure>
         ensures told { W.told self.new.inner ++ self.new.held ≡ W.told self.old.inner ++ self.old.held }
@@ -114,7 +114,7 @@ impl<W: Sink, const N: usize> Gathered<W, N> {
     }
 }
 
-impl<W: Sink, const N: usize> Gathered<W, N> {
+impl<W: Sink, const N: usize> WriteBuffer<W, N> {
     /// Sees to it that one byte more can be held back.
     fn make_room(&mut self) -> Result<(), DeviceFailure>
         ensures told { W.told self.new.inner ++ self.new.held ≡ W.told self.old.inner ++ self.old.held }
@@ -130,7 +130,7 @@ impl<W: Sink, const N: usize> Gathered<W, N> {
     }
 }
 
-impl<W: Sink, const N: usize> Gathered<W, N> {
+impl<W: Sink, const N: usize> WriteBuffer<W, N> {
     /// Whether nothing is held back.
     fn is_empty(&self) -> bool
         ensures { result ≡ true → self.now.held ≡ [] }
@@ -145,7 +145,7 @@ impl<W: Sink, const N: usize> Gathered<W, N> {
             (λ n. W.told self.new.inner ≡ W.told self.old.inner ++ take n bytes.now)
             (λ _. W.told self.new.inner ≡ W.told self.old.inner) }
         ensures held { self.new.held ≡ self.old.held }
-        ensures faults { self.new.failures ≡ self.old.failures + written_faults bytes.now result }
+        ensures faults { self.new.failures ≡ self.old.failures + failures_of_write bytes.now result }
     {
         let written = self.inner.write(bytes);
         if !matches!(written, Ok(count) if count > 0 || bytes.is_empty()) {
@@ -155,7 +155,7 @@ impl<W: Sink, const N: usize> Gathered<W, N> {
     }
 }
 
-impl<W: Sink, const N: usize> Sink for Gathered<W, N> {
+impl<W: Sink, const N: usize> Sink for WriteBuffer<W, N> {
     ghost told = { λ g. W.told g.inner ++ g.held };
 
     ghost failures = { λ g. g.failures };
@@ -171,7 +171,7 @@ impl<W: Sink, const N: usize> Sink for Gathered<W, N> {
     }
 }
 
-impl<W: Sink, const N: usize> Outgoing for Gathered<W, N> {
+impl<W: Sink, const N: usize> BufferedSink for WriteBuffer<W, N> {
     ghost sent = { λ g. W.told g.inner };
 
     fn flush(&mut self) -> Result<(), DeviceFailure> {

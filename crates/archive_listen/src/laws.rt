@@ -1,10 +1,10 @@
 //! Laws of a run of connections: each contract is a law over the definitions of `specs/` alone, and the call does nothing.
-ghost use Rattle.archive_listen.specs.Given.{EachGivenIsAnswered};
-ghost use Rattle.archive_listen.specs.Serving.{law_of};
+ghost use Rattle.archive_listen.specs.Given.{EachAcceptedIsAnswered};
+ghost use Rattle.archive_listen.specs.Serving.{service_answer_law};
 
 use crate::connections::Service;
 
 /// Each connection that the system gives a `Loopback` is answered and taken back, in any run of any service.
 pub fn each_connection_that_is_given_is_answered<St, V: Service<St>>()
-    ensures { EachGivenIsAnswered (law_of V.answers) }
+    ensures { EachAcceptedIsAnswered (service_answer_law V.answers) }
 {}

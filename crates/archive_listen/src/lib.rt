@@ -15,8 +15,8 @@ mod sockets;
 mod streams;
 mod waiting;
 
-pub use connections::{Connection, Listener, Listening, Outgoing, Ports, Service};
-pub use faults::{AcceptFault, ConnectionFault, ListenFault};
-pub use gathered::{Gathered, ROOM};
+pub use connections::{BoundListener, BufferedSink, Connection, Listener, Ports, Service};
+pub use faults::{AcceptError, ConnectionError, ListenError};
+pub use gathered::{ROOM, WriteBuffer};
 pub use serving::serve_each;
-pub use sockets::{Loopback, LoopbackPorts, SocketInput};
+pub use sockets::{DeadlineReader, Loopback, LoopbackPorts};

@@ -1,12 +1,12 @@
 //! A socket in which the bytes that were read last stay until they are taken.
 ghost use Rattle.std.specs.Prelude.{◌≡◌, ◌≤◌, ◌+◌, length, take, IfOk, OnOk, MatchResult};
 ghost use Rattle.std.specs.Duration.{as_nanos};
-ghost use Rattle.archive_listen.specs.Streams.{TakesSeen, seen_by};
+ghost use Rattle.archive_listen.specs.Streams.{DrainsSeenBytes, after_peek};
 ghost use Rattle.archive_listen.specs.Waits.{WaitsWithin};
 
 use crate::streams::{Ends, Reading, Taken};
 use crate::waiting::{Span, Timed};
-use byte_device::{DeviceFailure, Told};
+use byte_device::{DeviceFailure, Transcript};
 use std::io::Read;
 use std::net::OpenStream;
 use std::rt::Clock;
@@ -42,7 +42,7 @@ impl<'a, R: Clock, S: Read + OpenStream> Peeked<'a, R, S> {
         ensures waits { WaitsWithin (as_nanos span.whole) self.old.stream self.new.stream }
         ensures taken { OnOk result (self.new.taken.bytes ≡ self.old.taken.bytes + self.old.unread) }
         ensures unread { IfOk result (λ n. self.new.unread ≡ n) }
-        ensures given { MatchResult result (λ n. self.new.stream.stream ≡ seen_by (take n buffer.new) self.old.stream.stream)
+        ensures given { MatchResult result (λ n. self.new.stream.stream ≡ after_peek (take n buffer.new) self.old.stream.stream)
             (λ _. self.new.stream.stream ≡ self.old.stream.stream) }
     {
         self.take_seen()?;
@@ -68,7 +68,7 @@ impl<'a, R: Clock, S: Read + OpenStream> Peeked<'a, R, S> {
     /// socket failed. No wait.
     pub(crate) fn end(&mut self, ended: &mut Ends) -> Option<bool>
         ensures counted { ended.new ≡ ended.old + 1 }
-        ensures taken { TakesSeen self.old.unread self.old.taken self.new.taken }
+        ensures taken { DrainsSeenBytes self.old.unread self.old.taken self.new.taken }
     {
         let shut = self.stream.end(ended);
         let mut taken = [0; TAKEN];
@@ -89,7 +89,7 @@ impl<'a, R: Clock, S: Read + OpenStream> Peeked<'a, R, S> {
     }
 
     /// What looks at it gave.
-    pub(crate) fn given(&self) -> &Told
+    pub(crate) fn given(&self) -> &Transcript
         ensures { result.now.bytes ≡ self.now.stream.stream.given }
     {
         self.stream.given()

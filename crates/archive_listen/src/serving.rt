@@ -1,25 +1,25 @@
 //! Answering connections one after the other.
 ghost use Rattle.std.specs.Prelude.{◌≡◌, ◌≤◌, Some, IfOk, OnOk, OnErr};
-ghost use Rattle.archive_listen.specs.declared.faults.AcceptFault.TheVariants as accepting;
-ghost use Rattle.archive_listen.specs.Connections.{IsTold, telling, breaks_off, noted};
-ghost use Rattle.archive_listen.specs.Serving.{Answers, ServesAll, ServesFewer, ServesOne, at_work, law_of, served};
+ghost use Rattle.archive_listen.specs.declared.faults.AcceptError.TheVariants as accepting;
+ghost use Rattle.archive_listen.specs.Connections.{WritesOutcomeLine, connection_transcript, is_reply_incomplete, error_stream_state};
+ghost use Rattle.archive_listen.specs.Serving.{AnswersConnection, ServesAllConnections, ServesFewerConnections, ServesOneConnection, running_service, service_answer_law, server_state};
 
-use crate::connections::{Connection, Listener, Outgoing, Service};
-use crate::faults::{AcceptFault, ConnectionFault, ListenFault};
+use crate::connections::{BufferedSink, Connection, Listener, Service};
+use crate::faults::{AcceptError, ConnectionError, ListenError};
 use byte_device::{Sink, Source, write_bytes};
 
 /// One answer on a connection, which is passed on to its peer whole. S2 where that fails.
-fn answer_connection<St, V: Service<St>, I: Source, O: Outgoing>(
+fn answer_connection<St, V: Service<St>, I: Source, O: BufferedSink>(
     service: &mut V,
     state: &mut St,
     connection: &mut Connection<I, O>,
-) -> Result<u16, ConnectionFault>
-    ensures { Answers (law_of V.answers) (at_work service.old state.old)
-        (at_work service.new state.new)
-        (telling (I.told connection.old.input) (I.ends connection.old.input)
+) -> Result<u16, ConnectionError>
+    ensures { AnswersConnection (service_answer_law V.answers) (running_service service.old state.old)
+        (running_service service.new state.new)
+        (connection_transcript (I.told connection.old.input) (I.ends connection.old.input)
         (I.failures connection.old.input)
         (O.told connection.old.output) (O.failures connection.old.output))
-        (telling (I.told connection.new.input) (I.ends connection.new.input)
+        (connection_transcript (I.told connection.new.input) (I.ends connection.new.input)
         (I.failures connection.new.input)
         (O.told connection.new.output) (O.failures connection.new.output))
         (O.sent connection.new.output) result }
@@ -27,17 +27,17 @@ fn answer_connection<St, V: Service<St>, I: Source, O: Outgoing>(
     let status = service.answer(state, &mut connection.input, &mut connection.output)?;
     match connection.output.flush() {
         Ok(()) => Ok(status),
-        Err(_) => Err(ConnectionFault::Write),
+        Err(_) => Err(ConnectionError::Write),
     }
 }
 
 /// Whether a reply broke off: behind S2 and S3.
-fn breaks_off(outcome: &Result<u16, ConnectionFault>) -> bool
-    ensures { result ≡ breaks_off outcome.now }
+fn breaks_off(outcome: &Result<u16, ConnectionError>) -> bool
+    ensures { result ≡ is_reply_incomplete outcome.now }
 {
     match outcome {
-        Ok(_) | Err(ConnectionFault::Read) => false,
-        Err(ConnectionFault::Write | ConnectionFault::Broken) => true,
+        Ok(_) | Err(ConnectionError::Read) => false,
+        Err(ConnectionError::Write | ConnectionError::Broken) => true,
     }
 }
 
@@ -47,17 +47,17 @@ fn serve_next<St, V: Service<St>, L: Listener>(
     service: &mut V,
     state: &mut St,
     listener: &mut L,
-) -> Result<Result<u16, ConnectionFault>, ListenFault>
-    ensures served { IfOk result (λ outcome. ServesOne (law_of V.answers) L.accepts L.closes outcome
-        (served listener.old (at_work service.old state.old))
-        (served listener.new (at_work service.new state.new))) }
-    ensures stopped { OnErr result ((at_work service.new state.new ≡ at_work service.old state.old)
+) -> Result<Result<u16, ConnectionError>, ListenError>
+    ensures served { IfOk result (λ outcome. ServesOneConnection (service_answer_law V.answers) L.accepts L.closes outcome
+        (server_state listener.old (running_service service.old state.old))
+        (server_state listener.new (running_service service.new state.new))) }
+    ensures stopped { OnErr result ((running_service service.new state.new ≡ running_service service.old state.old)
         × L.accepts listener.old listener.new (Some accepting.Listener)) }
 {
     let mut connection = match listener.accept() {
         Ok(connection) => connection,
-        Err(AcceptFault::Peer) => return Ok(Err(ConnectionFault::Read)),
-        Err(AcceptFault::Listener) => return Err(ListenFault),
+        Err(AcceptError::Peer) => return Ok(Err(ConnectionError::Read)),
+        Err(AcceptError::Listener) => return Err(ListenError),
     };
     let outcome = answer_connection(service, state, &mut connection);
     listener.close(connection, breaks_off(&outcome));
@@ -65,8 +65,8 @@ fn serve_next<St, V: Service<St>, L: Listener>(
 }
 
 /// Tells a fault in one line, and a reply in none.
-fn tell_outcome<E: Sink>(faults: &mut E, outcome: &Result<u16, ConnectionFault>)
-    ensures told { IsTold outcome.now (noted E.Sink faults.old) (noted E.Sink faults.new) }
+fn tell_outcome<E: Sink>(faults: &mut E, outcome: &Result<u16, ConnectionError>)
+    ensures told { WritesOutcomeLine outcome.now (error_stream_state E.Sink faults.old) (error_stream_state E.Sink faults.new) }
     ensures failures { E.failures faults.old ≤ E.failures faults.new }
 {
     if let Err(fault) = outcome {
@@ -82,15 +82,15 @@ pub fn serve_each<St, V: Service<St>, L: Listener, E: Sink>(
     listener: &mut L,
     count: u32,
     faults: &mut E,
-) -> Result<(), ListenFault>
-    ensures served { OnOk result (ServesAll (law_of V.answers) L.accepts L.closes
-        (served listener.old (at_work service.old state.old))
-        (noted E.Sink faults.old) (noted E.Sink faults.new) count
-        (served listener.new (at_work service.new state.new))) }
-    ensures stopped { OnErr result (ServesFewer (law_of V.answers) L.accepts L.closes
-        (served listener.old (at_work service.old state.old))
-        (noted E.Sink faults.old) (noted E.Sink faults.new) count
-        (served listener.new (at_work service.new state.new))) }
+) -> Result<(), ListenError>
+    ensures served { OnOk result (ServesAllConnections (service_answer_law V.answers) L.accepts L.closes
+        (server_state listener.old (running_service service.old state.old))
+        (error_stream_state E.Sink faults.old) (error_stream_state E.Sink faults.new) count
+        (server_state listener.new (running_service service.new state.new))) }
+    ensures stopped { OnErr result (ServesFewerConnections (service_answer_law V.answers) L.accepts L.closes
+        (server_state listener.old (running_service service.old state.old))
+        (error_stream_state E.Sink faults.old) (error_stream_state E.Sink faults.new) count
+        (server_state listener.new (running_service service.new state.new))) }
     ensures failures { E.failures faults.old ≤ E.failures faults.new }
 {
     let mut taken = 0;

@@ -1,23 +1,23 @@
 //! Connections over the loopback interface.
 ghost use Rattle.std.specs.Prelude.{◌≡◌, ◌≤◌, ◌+◌, ◌++◌, [], ◌∷◌, length, take, true, Some, None, IfOk, IfSome, IsNone, MatchResult};
 ghost use Rattle.std.specs.Net.Socket.{socket_port};
-ghost use Rattle.byte_device.specs.Device.{read_ends, read_faults, written_faults};
+ghost use Rattle.byte_device.specs.Device.{ends_met_by_read, failures_of_read, failures_of_write};
 ghost use Rattle.std.specs.Duration.{as_nanos};
-ghost use Rattle.archive_listen.specs.Asking.{accept_fault};
-ghost use Rattle.archive_listen.specs.Connections.{exchange, telling, untold};
-ghost use Rattle.archive_listen.specs.Streams.{EndsOver};
-ghost use Rattle.archive_listen.specs.Sockets.{IsHad, IsHeadSpan, IsReplySpan, Listens, ended_after, nothing_read, nothing_written};
+ghost use Rattle.archive_listen.specs.Asking.{accept_error_of_kind};
+ghost use Rattle.archive_listen.specs.Connections.{exchange, connection_transcript, empty_transcript};
+ghost use Rattle.archive_listen.specs.Streams.{DrainsOrResets};
+ghost use Rattle.archive_listen.specs.Sockets.{IsBoundAddress, IsHeadTimeLimit, IsReplyTimeLimit, ListensOnLoopback, graceful_closes_after, nothing_read, nothing_written};
 
 use crate::asking::{Asked, Given};
-use crate::connections::{Connection, Listener, Listening, Ports};
+use crate::connections::{BoundListener, Connection, Listener, Ports};
 use crate::exchanges::Exchanges;
-use crate::faults::{AcceptFault, ListenFault};
-use crate::gathered::{Gathered, ROOM};
+use crate::faults::{AcceptError, ListenError};
+use crate::gathered::{ROOM, WriteBuffer};
 use crate::open::StillOpen;
 use crate::peeked::Peeked;
 use crate::streams::{Ends, Reading};
 use crate::waiting::{Span, Timed, Waited};
-use byte_device::{DeviceFailure, Sink, Source, Told};
+use byte_device::{DeviceFailure, Sink, Source, Transcript};
 use std::alloc::Global;
 use std::io::{ErrorKind, Read, Write};
 use std::marker::Model;
@@ -52,14 +52,14 @@ const LINGER_BYTES: usize = 1_048_576;
 /// What is read of a peer, within the times that a request may take. A read past them fails. What the last read told stays in the
 /// socket, so that the system resets the connection if it is closed before its end.
 #[derive(Drop)]
-pub struct SocketInput<'a, R, S> {
+pub struct DeadlineReader<'a, R, S> {
     stream: Peeked<'a, R, S>,
     begun: bool,
-    ends: Told,
-    faults: Told,
+    ends: Transcript,
+    faults: Transcript,
 }
 
-impl<'a, R, S> Model for SocketInput<'a, R, S> {
+impl<'a, R, S> Model for DeadlineReader<'a, R, S> {
     ghost use Rattle.std.specs.Prelude.{◌≤◌, ◌*◌, length};
     ghost use Rattle.archive_listen.specs.Sockets.{InputState};
 
@@ -76,23 +76,23 @@ impl<'a, R, S> Model for SocketInput<'a, R, S> {
     ghost invariant = { λ i. i.stream.stream.latest ≤ 10 * 1_000_000_000 };
 }
 
-impl<'a, R: Clock, S: Read + OpenStream> SocketInput<'a, R, S> {
+impl<'a, R: Clock, S: Read + OpenStream> DeadlineReader<'a, R, S> {
     /// Nothing was read yet. The time that a request may take begins.
-    fn new(clock: &'a R, stream: S, since: Instant) -> SocketInput<'a, R, S>
+    fn new(clock: &'a R, stream: S, since: Instant) -> DeadlineReader<'a, R, S>
         ensures { result ≡ nothing_read since }
     {
-        SocketInput {
+        DeadlineReader {
             stream: Peeked::new(Timed::new(clock, stream, Some(since))),
             begun: false,
-            ends: Told::new(),
-            faults: Told::new(),
+            ends: Transcript::new(),
+            faults: Transcript::new(),
         }
     }
 }
 
 /// The time that the next bytes of a request may take.
 fn head_span(begun: bool) -> Span
-    ensures { IsHeadSpan begun result }
+    ensures { IsHeadTimeLimit begun result }
 {
     let most = if begun { NEXT_SECONDS } else { FIRST_SECONDS };
     Span {
@@ -101,7 +101,7 @@ fn head_span(begun: bool) -> Span
     }
 }
 
-impl<'a, R: Clock, S: Read + OpenStream> Source for SocketInput<'a, R, S> {
+impl<'a, R: Clock, S: Read + OpenStream> Source for DeadlineReader<'a, R, S> {
     ghost told = { λ i. i.told };
 
     ghost failures = { λ i. i.failures };
@@ -112,8 +112,8 @@ impl<'a, R: Clock, S: Read + OpenStream> Source for SocketInput<'a, R, S> {
         ensures count { IfOk result (λ n. n ≤ length buffer.old) }
         ensures bytes { MatchResult result (λ n. self.new.told ≡ self.old.told ++ take n buffer.new)
             (λ _. self.new.told ≡ self.old.told) }
-        ensures faults { self.new.failures ≡ self.old.failures + read_faults result }
-        ensures end { self.new.ends ≡ self.old.ends + read_ends buffer.old result }
+        ensures faults { self.new.failures ≡ self.old.failures + failures_of_read result }
+        ensures end { self.new.ends ≡ self.old.ends + ends_met_by_read buffer.old result }
         ensures since { IfSome self.old.since (λ at. self.new.since ≡ Some at) }
     {
         match self.stream.look_on(head_span(self.begun), buffer) {
@@ -134,7 +134,7 @@ impl<'a, R: Clock, S: Read + OpenStream> Source for SocketInput<'a, R, S> {
 
 /// The time that the next write of a reply may take, of which so many bytes were written.
 fn reply_span(written: u64) -> Span
-    ensures { IsReplySpan written result }
+    ensures { IsReplyTimeLimit written result }
 {
     let whole = REPLY_SECONDS + written / BYTES_A_SECOND;
     Span {
@@ -145,13 +145,13 @@ fn reply_span(written: u64) -> Span
 
 /// What is written to a peer, within the times that a reply may take. A write past them fails.
 #[derive(Drop)]
-pub struct SocketOutput<'a, R, S> {
+pub struct DeadlineWriter<'a, R, S> {
     stream: Timed<'a, R, S>,
     written: u64,
-    faults: Told,
+    faults: Transcript,
 }
 
-impl<'a, R, S> Model for SocketOutput<'a, R, S> {
+impl<'a, R, S> Model for DeadlineWriter<'a, R, S> {
     ghost use Rattle.std.specs.Prelude.{◌≤◌, ◌*◌, length};
     ghost use Rattle.archive_listen.specs.Sockets.{OutputState, reply_seconds};
 
@@ -167,20 +167,20 @@ impl<'a, R, S> Model for SocketOutput<'a, R, S> {
         × (o.stream.latest ≤ reply_seconds o.written * 1_000_000_000) };
 }
 
-impl<'a, R: Clock, S: Write + OpenStream> SocketOutput<'a, R, S> {
+impl<'a, R: Clock, S: Write + OpenStream> DeadlineWriter<'a, R, S> {
     /// Nothing was written yet.
-    fn new(clock: &'a R, stream: S) -> SocketOutput<'a, R, S>
+    fn new(clock: &'a R, stream: S) -> DeadlineWriter<'a, R, S>
         ensures { result ≡ nothing_written }
     {
-        SocketOutput {
+        DeadlineWriter {
             stream: Timed::new(clock, stream, None),
             written: 0,
-            faults: Told::new(),
+            faults: Transcript::new(),
         }
     }
 }
 
-impl<'a, R: Clock, S: Write + OpenStream> Sink for SocketOutput<'a, R, S> {
+impl<'a, R: Clock, S: Write + OpenStream> Sink for DeadlineWriter<'a, R, S> {
     ghost told = { λ o. o.told };
 
     ghost failures = { λ o. o.failures };
@@ -221,8 +221,8 @@ fn read_on<R: Clock, S: Read + OpenStream + Drop>(clock: &R, stream: S) -> Durat
 }
 
 /// What an error in place of a connection stands for.
-fn accept_fault(kind: ErrorKind) -> AcceptFault
-    ensures { result ≡ accept_fault kind }
+fn accept_fault(kind: ErrorKind) -> AcceptError
+    ensures { result ≡ accept_error_of_kind kind }
 {
     match kind {
         ErrorKind::ConnectionAborted
@@ -231,28 +231,28 @@ fn accept_fault(kind: ErrorKind) -> AcceptFault
         | ErrorKind::TimedOut
         | ErrorKind::NetworkDown
         | ErrorKind::NetworkUnreachable
-        | ErrorKind::HostUnreachable => AcceptFault::Peer,
-        _ => AcceptFault::Listener,
+        | ErrorKind::HostUnreachable => AcceptError::Peer,
+        _ => AcceptError::Listener,
     }
 }
 
 /// Whether an address is the one that was asked for, with a port that the system picked where it has none.
 fn is_had(asked: SocketAddr, had: SocketAddr) -> bool
-    ensures { result ≡ true → IsHad asked had }
+    ensures { result ≡ true → IsBoundAddress asked had }
 {
     had.ip() == asked.ip() && (asked.port() == 0 || had.port() == asked.port()) && had.port() > 0
 }
 
 /// Listens on an address, and tells the one that the system gives in its place, which differs by a port that it picked alone.
-fn listen_at<R: Net>(rt: &R, asked: SocketAddr) -> Result<(R::Listener, SocketAddr), ListenFault>
-    ensures { IfOk result (λ it. IsHad asked it.1) }
+fn listen_at<R: Net>(rt: &R, asked: SocketAddr) -> Result<(R::Listener, SocketAddr), ListenError>
+    ensures { IfOk result (λ it. IsBoundAddress asked it.1) }
 {
     let Ok(listener) = TcpListener::bind(rt, asked) else {
-        return Err(ListenFault);
+        return Err(ListenError);
     };
     match listener.local_addr() {
         Ok(had) if is_had(asked, had) => Ok((listener, had)),
-        Ok(_) | Err(_) => Err(ListenFault),
+        Ok(_) | Err(_) => Err(ListenError),
     }
 }
 
@@ -285,8 +285,8 @@ impl<'a, R: Net> Model for Loopback<'a, R> {
 
 impl<'a, R: Net> Loopback<'a, R> {
     /// Listens on a port; 0 stands for one that the system picks. F4: the port is taken, or may not be used.
-    pub fn bind(rt: &'a R, alloc: Global, port: u16) -> Result<Loopback<'a, R>, ListenFault>
-        ensures { IfOk result (Listens port) }
+    pub fn bind(rt: &'a R, alloc: Global, port: u16) -> Result<Loopback<'a, R>, ListenError>
+        ensures { IfOk result (ListensOnLoopback port) }
     {
         let asked = SocketAddr::new(IpAddr::V4(Ipv4Addr::LOCALHOST), port);
         let (listener, address) = listen_at(rt, asked)?;
@@ -345,20 +345,20 @@ impl<'a, R> LoopbackPorts<'a, R> {
 
 impl<'a, R: Net + Clock> Ports for LoopbackPorts<'a, R> {
     ghost use Rattle.std.specs.Prelude.{IfOk};
-    ghost use Rattle.archive_listen.specs.Sockets.{ListensOn};
+    ghost use Rattle.archive_listen.specs.Sockets.{ListensOnReportedPort};
 
     type Listener = Loopback<'a, R>;
 
     ghost went = { λ ports. ports };
 
-    ghost listens = { λ old new port result. (new ≡ old) × IfOk result (ListensOn port) };
+    ghost listens = { λ old new port result. (new ≡ old) × IfOk result (ListensOnReportedPort port) };
 
     ghost listens_none = { λ old new port listening given. (given.0, given.1.listens.fresh) };
 
-    fn listen(&mut self, port: u16) -> Result<Listening<Loopback<'a, R>>, ListenFault> {
+    fn listen(&mut self, port: u16) -> Result<BoundListener<Loopback<'a, R>>, ListenError> {
         let listener = Loopback::bind(self.rt, self.alloc, port)?;
         let port = listener.port();
-        Ok(Listening { listener, port })
+        Ok(BoundListener { listener, port })
     }
 
     fn end(&mut self, listener: Loopback<'a, R>) {
@@ -370,13 +370,13 @@ impl<'a, R: Net + Clock> Ports for LoopbackPorts<'a, R> {
 fn connection_of<'a, R: Clock, S: Read + Write + OpenStream + Drop>(
     clock: &'a R,
     given: Given<S>,
-) -> Connection<SocketInput<'a, R, S>, Gathered<SocketOutput<'a, R, S>, ROOM>>
+) -> Connection<DeadlineReader<'a, R, S>, WriteBuffer<DeadlineWriter<'a, R, S>, ROOM>>
     ensures input { result.input ≡ nothing_read given.at }
     ensures output { result.output ≡ record { inner = nothing_written; held = []; free = 16_384; failures = 0 } }
 {
     Connection {
-        input: SocketInput::new(clock, given.read, given.at),
-        output: Gathered::new(SocketOutput::new(clock, given.written)),
+        input: DeadlineReader::new(clock, given.read, given.at),
+        output: WriteBuffer::new(DeadlineWriter::new(clock, given.written)),
     }
 }
 
@@ -387,8 +387,8 @@ fn finish<R: Clock, S: Read + OpenStream>(
     ended: &mut Ends,
     breaks_off: bool,
 ) -> Option<bool>
-    ensures counted { ended.new ≡ ended_after breaks_off ended.old }
-    ensures taken { EndsOver breaks_off peeked.old.unread peeked.old.taken peeked.new.taken }
+    ensures counted { ended.new ≡ graceful_closes_after breaks_off ended.old }
+    ensures taken { DrainsOrResets breaks_off peeked.old.unread peeked.old.taken peeked.new.taken }
     ensures dropped { breaks_off ≡ true → IsNone result }
 {
     if breaks_off {
@@ -418,32 +418,35 @@ fn let_go<R: Clock, S: Read + OpenStream + Drop>(
 }
 
 impl<'a, R: Net + Clock> Listener for Loopback<'a, R> {
-    ghost use Rattle.archive_listen.specs.Sockets.{Accepted, Closed, accepted_none, closed_one};
+    ghost use Rattle.archive_listen.specs.Sockets.{CallsAcceptOnce, ClosesConnection, accept_keeps_exchanges, close_adds_one_exchange};
 
-    type Input = SocketInput<'a, R, R::Stream>;
+    type Input = DeadlineReader<'a, R, R::Stream>;
 
-    type Output = Gathered<SocketOutput<'a, R, R::Stream>, ROOM>;
+    type Output = WriteBuffer<DeadlineWriter<'a, R, R::Stream>, ROOM>;
 
     ghost over = { λ l. l.exchanges };
 
-    ghost accepts = { Accepted };
+    ghost accepts = { CallsAcceptOnce };
 
-    ghost accepts_none = { accepted_none };
+    ghost accepts_none = { accept_keeps_exchanges };
 
-    ghost closes = { Closed };
+    ghost closes = { ClosesConnection };
 
-    ghost closes_one = { closed_one };
+    ghost closes_one = { close_adds_one_exchange };
 
     fn accept(
         &mut self,
     ) -> Result<
-        Connection<SocketInput<'a, R, R::Stream>, Gathered<SocketOutput<'a, R, R::Stream>, ROOM>>,
-        AcceptFault,
+        Connection<
+            DeadlineReader<'a, R, R::Stream>,
+            WriteBuffer<DeadlineWriter<'a, R, R::Stream>, ROOM>,
+        >,
+        AcceptError,
     >
-        ensures untold { IfOk result (λ c. telling c.input.told c.input.ends c.input.failures
-            (c.output.inner.told ++ c.output.held) c.output.failures ≡ untold) }
-        ensures accepts { MatchResult result (λ _. Accepted self.old self.new None)
-            (λ fault. Accepted self.old self.new (Some fault)) }
+        ensures untold { IfOk result (λ c. connection_transcript c.input.told c.input.ends c.input.failures
+            (c.output.inner.told ++ c.output.held) c.output.failures ≡ empty_transcript) }
+        ensures accepts { MatchResult result (λ _. CallsAcceptOnce self.old self.new None)
+            (λ fault. CallsAcceptOnce self.old self.new (Some fault)) }
         ensures since { IfOk result (λ c. c.input.since ≡ self.new.asked.at) }
     {
         let given = match self.listener.next(self.rt) {
@@ -456,12 +459,12 @@ impl<'a, R: Net + Clock> Listener for Loopback<'a, R> {
     fn close(
         &mut self,
         connection: Connection<
-            SocketInput<'a, R, R::Stream>,
-            Gathered<SocketOutput<'a, R, R::Stream>, ROOM>,
+            DeadlineReader<'a, R, R::Stream>,
+            WriteBuffer<DeadlineWriter<'a, R, R::Stream>, ROOM>,
         >,
         breaks_off: bool,
     )
-        ensures closes { Closed self.old self.new
+        ensures closes { ClosesConnection self.old self.new
             (exchange connection.entry.input.told connection.entry.output.inner.told) breaks_off }
         ensures head { as_nanos self.new.waited.head ≡ connection.entry.input.latest }
         ensures reply { as_nanos self.new.waited.reply ≡ connection.entry.output.inner.latest }

@@ -1,9 +1,9 @@
 //! A stream of the system, and what its calls gave. No clause says what the toolchain's own calls give, so the bodies here only call them
 //! and write down what came of it.
 ghost use Rattle.std.specs.Prelude.{◌≡◌, ◌≤◌, ◌<◌, ◌+◌, length, take, IfOk, MatchResult};
-ghost use Rattle.archive_listen.specs.Streams.{nothing_taken, nothing_went, read_by, taken_by, taken_not, written_by};
+ghost use Rattle.archive_listen.specs.Streams.{nothing_drained, empty_stream, after_read, after_drain, after_failed_drain, after_write};
 
-use byte_device::{DeviceFailure, Told};
+use byte_device::{DeviceFailure, Transcript};
 use std::io::{self, Read, Write};
 use std::marker::Model;
 use std::net::{OpenStream, Shutdown};
@@ -21,7 +21,7 @@ pub(crate) enum Reading {
 /// How often the system was asked to end a connection in order. Only `Stream::end` counts.
 #[derive(Drop)]
 pub(crate) struct Ends {
-    told: Told,
+    told: Transcript,
 }
 
 impl Model for Ends {
@@ -37,22 +37,24 @@ impl Ends {
     pub(crate) fn new() -> Ends
         ensures { result ≡ 0 }
     {
-        Ends { told: Told::new() }
+        Ends {
+            told: Transcript::new(),
+        }
     }
 }
 
 /// How many bytes left a socket, and how often none could be taken. Only `Stream::take` counts.
 #[derive(Drop)]
 pub(crate) struct Taken {
-    bytes: Told,
-    failed: Told,
+    bytes: Transcript,
+    failed: Transcript,
 }
 
 impl Model for Taken {
     ghost use Rattle.std.specs.Prelude.{length};
-    ghost use Rattle.archive_listen.specs.Streams.{TakenState};
+    ghost use Rattle.archive_listen.specs.Streams.{DrainState};
 
-    ghost Value = { TakenState };
+    ghost Value = { DrainState };
 
     ghost view = { λ t. record { bytes = length t.bytes.bytes; failures = length t.failed.bytes } };
 }
@@ -60,11 +62,11 @@ impl Model for Taken {
 impl Taken {
     /// None yet.
     pub(crate) fn new() -> Taken
-        ensures { result ≡ nothing_taken }
+        ensures { result ≡ nothing_drained }
     {
         Taken {
-            bytes: Told::new(),
-            failed: Told::new(),
+            bytes: Transcript::new(),
+            failed: Transcript::new(),
         }
     }
 }
@@ -73,8 +75,8 @@ impl Taken {
 #[derive(Drop)]
 pub(crate) struct Stream<S> {
     inner: S,
-    given: Told,
-    took: Told,
+    given: Transcript,
+    took: Transcript,
 }
 
 impl<S> Model for Stream<S> {
@@ -88,24 +90,24 @@ impl<S> Model for Stream<S> {
 impl<S> Stream<S> {
     /// Nothing went over it yet.
     pub(crate) fn new(inner: S) -> Stream<S>
-        ensures { result ≡ nothing_went }
+        ensures { result ≡ empty_stream }
     {
         Stream {
             inner,
-            given: Told::new(),
-            took: Told::new(),
+            given: Transcript::new(),
+            took: Transcript::new(),
         }
     }
 
     /// What looks at it gave.
-    pub(crate) fn given(&self) -> &Told
+    pub(crate) fn given(&self) -> &Transcript
         ensures { result.now.bytes ≡ self.now.given }
     {
         &self.given
     }
 
     /// What it took.
-    pub(crate) fn took(&self) -> &Told
+    pub(crate) fn took(&self) -> &Transcript
         ensures { result.now.bytes ≡ self.now.took }
     {
         &self.took
@@ -126,7 +128,7 @@ impl<S: Read + OpenStream> Stream<S> {
         buffer: &mut [u8],
     ) -> io::Result<usize>
         ensures count { IfOk result (λ n. n ≤ length buffer.old) }
-        ensures given { MatchResult result (λ n. self.new ≡ read_by reading (take n buffer.new) self.old)
+        ensures given { MatchResult result (λ n. self.new ≡ after_read reading (take n buffer.new) self.old)
             (λ _. self.new ≡ self.old) }
     {
         self.inner.set_read_timeout(Some(wait))?;
@@ -148,8 +150,8 @@ impl<S: Read + OpenStream> Stream<S> {
     ) -> Result<usize, DeviceFailure>
         ensures count { IfOk result (λ n. (0 < n) × (n ≤ length buffer.old)) }
         ensures same { self.new ≡ self.old }
-        ensures taken { MatchResult result (λ n. taken.new ≡ taken_by n taken.old)
-            (λ _. taken.new ≡ taken_not taken.old) }
+        ensures taken { MatchResult result (λ n. taken.new ≡ after_drain n taken.old)
+            (λ _. taken.new ≡ after_failed_drain taken.old) }
     {
         match self.inner.read(buffer) {
             Ok(count) if count > 0 => {
@@ -168,7 +170,7 @@ impl<S: Write + OpenStream> Stream<S> {
     /// One write, which may wait so long.
     pub(crate) fn write(&mut self, wait: Duration, bytes: &[u8]) -> io::Result<usize>
         ensures count { IfOk result (λ n. n ≤ length bytes.now) }
-        ensures took { MatchResult result (λ n. self.new ≡ written_by (take n bytes.now) self.old)
+        ensures took { MatchResult result (λ n. self.new ≡ after_write (take n bytes.now) self.old)
             (λ _. self.new ≡ self.old) }
     {
         self.inner.set_write_timeout(Some(wait))?;

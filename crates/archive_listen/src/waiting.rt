@@ -1,11 +1,11 @@
 //! How long reads may wait.
 ghost use Rattle.std.specs.Prelude.{◌≡◌, ◌≤◌, ◌<◌, ◌+◌, ◌-◌, max, min, length, take, Some, IfOk, IfSome, IsNone, MatchResult, ◌↔◌};
-ghost use Rattle.archive_listen.specs.Streams.{nothing_went, read_by, taken_by, taken_not, written_by};
+ghost use Rattle.archive_listen.specs.Streams.{empty_stream, after_read, after_drain, after_failed_drain, after_write};
 ghost use Rattle.archive_listen.specs.Waits.{WaitsWithin};
 ghost use Rattle.std.specs.Duration.{as_nanos};
 
 use crate::streams::{Ends, Reading, Stream, Taken};
-use byte_device::{DeviceFailure, Told};
+use byte_device::{DeviceFailure, Transcript};
 use std::io::{ErrorKind, Read, Write};
 use std::marker::Model;
 use std::net::OpenStream;
@@ -62,9 +62,9 @@ pub(crate) struct Timed<'a, R, S> {
 
 impl<'a, R, S> Model for Timed<'a, R, S> {
     ghost use Rattle.std.specs.Duration.{as_nanos};
-    ghost use Rattle.archive_listen.specs.Waits.{TimedState};
+    ghost use Rattle.archive_listen.specs.Waits.{TimedStreamState};
 
-    ghost Value = { TimedState };
+    ghost Value = { TimedStreamState };
 
     ghost view = { λ t. record { since = t.since; latest = as_nanos t.latest; stream = t.stream } };
 }
@@ -72,7 +72,7 @@ impl<'a, R, S> Model for Timed<'a, R, S> {
 impl<'a, R: Clock, S> Timed<'a, R, S> {
     /// Nothing was waited for yet.
     pub(crate) fn new(clock: &'a R, stream: S, since: Option<Instant>) -> Timed<'a, R, S>
-        ensures { result ≡ record { since = since; latest = 0; stream = nothing_went } }
+        ensures { result ≡ record { since = since; latest = 0; stream = empty_stream } }
     {
         Timed {
             clock,
@@ -90,14 +90,14 @@ impl<'a, R: Clock, S> Timed<'a, R, S> {
     }
 
     /// What looks at the stream gave.
-    pub(crate) fn given(&self) -> &Told
+    pub(crate) fn given(&self) -> &Transcript
         ensures { result.now.bytes ≡ self.now.stream.given }
     {
         self.stream.given()
     }
 
     /// What the stream took.
-    pub(crate) fn took(&self) -> &Told
+    pub(crate) fn took(&self) -> &Transcript
         ensures { result.now.bytes ≡ self.now.stream.took }
     {
         self.stream.took()
@@ -165,7 +165,7 @@ impl<'a, R: Clock, S: Read + OpenStream> Timed<'a, R, S> {
     ) -> Result<usize, DeviceFailure>
         ensures count { IfOk result (λ n. n ≤ length buffer.old) }
         ensures waits { WaitsWithin (as_nanos span.whole) self.old self.new }
-        ensures given { MatchResult result (λ n. self.new.stream ≡ read_by reading (take n buffer.new) self.old.stream)
+        ensures given { MatchResult result (λ n. self.new.stream ≡ after_read reading (take n buffer.new) self.old.stream)
             (λ _. self.new.stream ≡ self.old.stream) }
     {
         for _ in 0..u64::MAX {
@@ -187,8 +187,8 @@ impl<'a, R: Clock, S: Read + OpenStream> Timed<'a, R, S> {
     ) -> Result<usize, DeviceFailure>
         ensures count { IfOk result (λ n. (0 < n) × (n ≤ length buffer.old)) }
         ensures same { self.new ≡ self.old }
-        ensures taken { MatchResult result (λ n. taken.new ≡ taken_by n taken.old)
-            (λ _. taken.new ≡ taken_not taken.old) }
+        ensures taken { MatchResult result (λ n. taken.new ≡ after_drain n taken.old)
+            (λ _. taken.new ≡ after_failed_drain taken.old) }
     {
         self.stream.take(buffer, taken)
     }
@@ -207,7 +207,7 @@ impl<'a, R: Clock, S: Write + OpenStream> Timed<'a, R, S> {
     pub(crate) fn write_within(&mut self, span: Span, bytes: &[u8]) -> Result<usize, DeviceFailure>
         ensures count { IfOk result (λ n. n ≤ length bytes.now) }
         ensures waits { WaitsWithin (as_nanos span.whole) self.old self.new }
-        ensures took { MatchResult result (λ n. self.new.stream ≡ written_by (take n bytes.now) self.old.stream)
+        ensures took { MatchResult result (λ n. self.new.stream ≡ after_write (take n bytes.now) self.old.stream)
             (λ _. self.new.stream ≡ self.old.stream) }
     {
         for _ in 0..u64::MAX {

@@ -5,30 +5,30 @@ use Rattle.httparse.specs.Grammar.{RequestHead, Field, crlf, trim_ows}
 use Rattle.policy_core.specs.Rules.{standings, withdrawn, Rule, open_rule}
 use Rattle.policy_core.specs.declared.access.Standing.TheVariants.{Public}
 use Rattle.policy_core.specs.declared.access.Withdrawn.TheVariants.{Author, Board}
-use Rattle.archive_machine.specs.Records.{Archive}
-use Rattle.archive_results.specs.Access.{marks_of, ruling_on}
-use Rattle.archive_results.specs.Promise.{without}
-use Rattle.civil_time.specs.Dates.{year_after, month_after, date_after}
+use Rattle.archive_model.specs.Records.{Archive}
+use Rattle.archive_results.specs.Access.{message_facts, ruling_on}
+use Rattle.archive_results.specs.Promise.{without_message}
+use Rattle.civil_time.specs.Dates.{year_and_day_after, month_and_day_after, date_of_days_since_1900}
 use Rattle.civil_time.specs.Texts.{month_text, instant_text, instant_month_text}
 use Rattle.mail_core.specs.Lines.{lines, is_empty_line, content}
 use Rattle.mail_core.specs.Fields.{fields_of, header_blocks, unfolded}
-use Rattle.mail_core.specs.Tokens.{tokens_of, tokens_from, token_at, kind_of}
+use Rattle.mail_core.specs.DateTokens.{tokens_of, tokens_from, token_at, token_byte_kind}
 use Rattle.mail_core.specs.Sent.{date_at}
 use Rattle.mail_core.specs.MsgIds.{ids_from}
-use Rattle.subject_core.specs.BaseSubject.{rest_within, next_of}
-use Rattle.subject_core.specs.Spaces.{spaced}
-use Rattle.subject_core.specs.Removal.{without_trailer, after, after_closing, without_leader, after_leader, after_refwd, without_blob, without_pair, after_spaces}
-use Rattle.subject_core.specs.Front.{without_front}
+use Rattle.subject_core.specs.BaseSubject.{after_bounded_removals, after_one_removal}
+use Rattle.subject_core.specs.Spaces.{with_single_spaces}
+use Rattle.subject_core.specs.Removal.{without_trailer, after_literal, after_closing_bracket, without_leader, after_leader, after_refwd, without_blob, without_fwd_brackets, after_spaces}
+use Rattle.subject_core.specs.Front.{without_front_piece}
 use Rattle.mbox_core.specs.Written.{time_text}
 use Rattle.archive_html.specs.Links.{month_link, author_link, subject_text, message_link, thread_link}
 use Rattle.archive_html.specs.Rows.{list_row, message_row, tree_row}
 use Rattle.archive_html.specs.Pages.{page_head, page_foot}
-use Rattle.archive_pages.specs.Replies.{Reply, head_bytes, reply_bytes, bad_request, unauthorized, not_allowed, not_found}
+use Rattle.archive_pages.specs.Replies.{Reply, head_bytes, reply_bytes, bad_request, unauthorized, method_not_allowed, not_found}
 use Rattle.archive_pages.specs.Answers.{reply_of}
 
 -- an archive with one list and one person, no message, and the open policy
 abbrev soc : Archive
-soc = record { lists = codes "soc" ∷ []; persons = record { name = codes "mo"; token = codes "0123456789abcdef" } ∷ []; grants = []; messages = []; filings = []; options = []; addresses = [] }
+soc = record { lists = codes "soc" ∷ []; persons = record { name = codes "mo"; token = codes "0123456789abcdef" } ∷ []; grants = []; messages = []; index_columns = []; options = []; addresses = [] }
 
 abbrev opened : List Rule
 opened = open_rule ∷ []
@@ -62,7 +62,7 @@ not_a_path : reply_of soc opened (pos 12131) (asks (codes "OPTIONS") (codes "*")
 not_a_path = refl
 
 -- the method is looked at before the path
-a_post : reply_of soc opened (pos 12131) (asks (codes "POST") (codes "/nope") []) ≡ not_allowed
+a_post : reply_of soc opened (pos 12131) (asks (codes "POST") (codes "/nope") []) ≡ method_not_allowed
 a_post = refl
 
 -- the token is looked at before the path
@@ -126,34 +126,37 @@ example = record open_rule { name = codes "withdrawn"; allows = false; condition
 
 a_withdrawn_message : reply_bytes (reply_of two example (pos 12131) (asks (codes "GET") (codes "/l/soc/m/1111111111111111111111111111111111111111111111111111111111111111") []))
     ≡ codes "HTTP/1.1 403 Forbidden\r\nContent-Type: text/plain; charset=us-ascii\r\nContent-Length: 25\r\nConnection: close\r\n\r\n403 Forbidden: withdrawn\n"
-unfolding digits head_bytes marks_of ruling_on
+unfolding digits head_bytes message_facts ruling_on
 a_withdrawn_message = refl
 
 a_message : reply_bytes (reply_of two example (pos 12131) (asks (codes "GET") (codes "/l/soc/m/2222222222222222222222222222222222222222222222222222222222222222") []))
     ≡ codes "HTTP/1.1 200 OK\r\nContent-Type: message/rfc822\r\nContent-Length: 25\r\nConnection: close\r\n\r\nSubject: Re: Hello\n\nTwo.\n"
-unfolding digits head_bytes marks_of ruling_on
+unfolding digits head_bytes message_facts ruling_on
 a_message = refl
 
 -- the threads show nothing of it, as if it had never come
 its_threads : reply_bytes (reply_of two example (pos 12131) (asks (codes "GET") (codes "/l/soc/threads") []))
     ≡ codes "HTTP/1.1 200 OK\r\nContent-Type: text/html; charset=us-ascii\r\nContent-Length: 380\r\nConnection: close\r\n\r\n<!DOCTYPE html>\n<html><head><title>soc: threads</title></head><body>\n<h1>soc: threads</h1>\n<div class=\"d0\"><a href=\"/l/soc/month/2003-03\">2003-03-12 10:30</a> (none) <a href=\"/l/soc/m/2222222222222222222222222222222222222222222222222222222222222222\">Re: Hello</a> <a href=\"/l/soc/t/2222222222222222222222222222222222222222222222222222222222222222\">thread</a></div>\n</body></html>\n"
-unfolding head_bytes lines is_empty_line content fields_of header_blocks unfolded tokens_of tokens_from token_at kind_of date_at ids_from rest_within spaced
-    next_of without_trailer after after_closing without_leader after_leader after_refwd without_blob without_pair after_spaces without_front page_head page_foot
-    tree_row message_row month_link author_link subject_text message_link thread_link instant_text instant_month_text date_after year_after month_after digits marks_of ruling_on
+unfolding head_bytes lines is_empty_line content fields_of header_blocks unfolded tokens_of tokens_from token_at token_byte_kind date_at ids_from after_bounded_removals with_single_spaces
+    after_one_removal without_trailer after_literal after_closing_bracket without_leader after_leader after_refwd without_blob without_fwd_brackets after_spaces without_front_piece page_head page_foot
+    tree_row message_row month_link author_link subject_text message_link thread_link instant_text instant_month_text date_of_days_since_1900 year_and_day_after month_and_day_after digits
+    message_facts ruling_on
 its_threads = refl
 
 -- a moderator reads both, the second below the first: it has no reference, but the subject of a reply
 its_threads_for_a_moderator : reply_bytes (reply_of moderated example (pos 12131) (asks (codes "GET") (codes "/l/soc/threads") (authorization (codes "Bearer 0123456789abcdef") ∷ [])))
     ≡ codes "HTTP/1.1 200 OK\r\nContent-Type: text/html; charset=us-ascii\r\nContent-Length: 703\r\nConnection: close\r\n\r\n<!DOCTYPE html>\n<html><head><title>soc: threads</title></head><body>\n<h1>soc: threads</h1>\n<div class=\"d0\"><a href=\"/l/soc/month/2003-03\">2003-03-04 10:00</a> <a href=\"/l/soc/by/anna%40example.org\">anna@example.org</a> <a href=\"/l/soc/m/1111111111111111111111111111111111111111111111111111111111111111\">Hello</a> <a href=\"/l/soc/t/1111111111111111111111111111111111111111111111111111111111111111\">thread</a></div>\n<div class=\"d1\"><a href=\"/l/soc/month/2003-03\">2003-03-12 10:30</a> (none) <a href=\"/l/soc/m/2222222222222222222222222222222222222222222222222222222222222222\">Re: Hello</a> <a href=\"/l/soc/t/2222222222222222222222222222222222222222222222222222222222222222\">thread</a></div>\n</body></html>\n"
-unfolding trim_ows head_bytes lines is_empty_line content fields_of header_blocks unfolded tokens_of tokens_from token_at kind_of date_at ids_from rest_within
-    spaced next_of without_trailer after after_closing without_leader after_leader after_refwd without_blob without_pair after_spaces without_front page_head
-    page_foot tree_row message_row month_link author_link subject_text message_link thread_link instant_text instant_month_text date_after year_after month_after digits marks_of ruling_on
+unfolding trim_ows head_bytes lines is_empty_line content fields_of header_blocks unfolded tokens_of tokens_from token_at token_byte_kind date_at ids_from after_bounded_removals
+    with_single_spaces after_one_removal without_trailer after_literal after_closing_bracket without_leader after_leader after_refwd without_blob without_fwd_brackets after_spaces
+    without_front_piece page_head
+    page_foot tree_row message_row month_link author_link subject_text message_link thread_link instant_text instant_month_text date_of_days_since_1900 year_and_day_after month_and_day_after
+    digits message_facts ruling_on
 its_threads_for_a_moderator = refl
 
 -- nor does the mbox hold it
 its_mbox : reply_bytes (reply_of two example (pos 12131) (asks (codes "GET") (codes "/l/soc/mbox") []))
     ≡ codes "HTTP/1.1 200 OK\r\nContent-Type: application/mbox\r\nConnection: close\r\n\r\nFrom bob@example.org Wed Mar 12 10:30:00 2003\nSubject: Re: Hello\n\nTwo.\n\n"
-unfolding digits head_bytes marks_of ruling_on date_after year_after month_after time_text
+unfolding digits head_bytes message_facts ruling_on date_of_days_since_1900 year_and_day_after month_and_day_after time_text
 its_mbox = refl
 
 -- ---- what is withheld leaves no trace: the first of the two, under a policy that names authors alone
@@ -165,7 +168,7 @@ abbrev mbox_of : Archive → Reply
 mbox_of archive = reply_of archive of_authors (pos 12131) (asks (codes "GET") (codes "/l/soc/mbox") [])
 
 abbrev never : Archive
-never = without two (codes "soc") (codes "1111111111111111111111111111111111111111111111111111111111111111")
+never = without_message two (codes "soc") (codes "1111111111111111111111111111111111111111111111111111111111111111")
 
 one_never_came : never ≡ record two {
   messages = record {
@@ -181,5 +184,5 @@ one_never_came : never ≡ record two {
 one_never_came = refl
 
 without_a_trace : mbox_of two ≡ mbox_of never
-unfolding marks_of ruling_on
+unfolding message_facts ruling_on
 without_a_trace = refl

@@ -10,33 +10,34 @@ use Rattle.sqlite.proofs.Callers.{memory_is_clean}
 use Rattle.sqlite_disk.specs.Disk.{MoreFaults}
 use Rattle.sqlite_trees.specs.declared.memory.MemStore.{MemStore}
 use Rattle.policy_core.specs.Rules.{Rule}
-use Rattle.archive_machine.specs.Records.{Archive, Person}
-use Rattle.archive_machine.specs.Commands.{Refusal}
-use Rattle.archive_machine.specs.Questions.{has_list, has_person, person_of_token}
+use Rattle.archive_model.specs.Records.{Archive, Person}
+use Rattle.archive_model.specs.Commands.{Refusal}
+use Rattle.archive_model.specs.Questions.{has_list, has_person, person_of_token}
 use Rattle.sqlite.specs.Held.{state}
-use Rattle.archive_store.specs.Held.{held_of, wants_of}
+use Rattle.archive_store.specs.Held.{store_connection, memory_refusal_count}
 use Rattle.archive_store.proofs.CauseLemmas.{more_since}
-use Rattle.archive_port.specs.Replies.{RefusedFor, refusal}
-use Rattle.archive_store.specs.Told.{CausedOr as StoreCausedOr, Counts, HasFailed, HasNoLimit, HoldsTables, Lasts, WasRefused, archive_in}
-use Rattle.archive_desk.specs.Holding.{GoesHeld, GoesHeldIfOpen}
-use Rattle.archive_port.specs.Wanting.{IsWant}
+use Rattle.archive_port.specs.Replies.{IsRefusedOnlyFor, refusal_of_fault}
+use Rattle.archive_store.specs.Told.{E15MeansDiskFailedOr as StoreCausedOr, CountsRefusals, DiskHasFailed, HasNoStepLimit, HoldsTables, StaysOpenUnlessDiskFails, MemoryWasRefused, archive_in}
+use Rattle.archive_desk.specs.Holding.{RelatesTableArchives, RelatesTableArchivesIfOpen}
+use Rattle.archive_port.specs.Wanting.{IsMemoryRefusal}
 use Rattle.archive_store.specs.declared.store.Store.{Store}
 use Rattle.archive_port.specs.declared.faults.StoreFault.{StoreFault}
 use Rattle.archive_port.specs.declared.faults.StoreFault.TheVariants as faults
 use Rattle.archive_results.specs.Access.{Ask, no_list, no_person}
-use Rattle.archive_desk.specs.Causes.{HasCause, IsBroken, IsWanting}
+use Rattle.archive_desk.specs.Causes.{HasCause, IsDeskDatabaseFault, IsDeskMemoryRefusal}
 use Rattle.archive_desk.specs.Walking.{IsWalkStop}
-use Rattle.archive_desk.specs.Faults.{IsAskFault, ask_reason, reason, refused}
+use Rattle.archive_desk.specs.Faults.{IsAskFault, ask_reason, refusal_reason, refused}
 use Rattle.archive_desk.specs.Readable.{CanBeRead}
 use Rattle.archive_desk.proofs.UnbrokenLemmas.{holder_read, list_read, lists_read, message_or_reader_read}
-use Rattle.archive_desk.specs.declared.faults.DeskFault.{DeskFault}
-use Rattle.archive_desk.specs.declared.faults.DeskFault.TheVariants as desk
-use Rattle.archive_kept.specs.Views.{KeptView, Keeping, outline_at}
+use Rattle.archive_desk.specs.declared.faults.DeskError.{DeskError}
+use Rattle.archive_desk.specs.declared.faults.DeskError.TheVariants as desk
+use Rattle.archive_cache.specs.Views.{CachedView, CacheState, cached_index_at}
 use Rattle.archive_requests.specs.Requests.{Request, bad as no_request, other_method, unauthorized, asks as asking_for, request_of}
 use Rattle.archive_requests.specs.Routes.{Route, lists, message, month, threads, thread, author, mbox, route_of}
-use Rattle.archive_pages.specs.Answers.{asking}
-use Rattle.archive_pages.specs.Causes.{FindsOr, HasServeCause, IsHolderUnread, IsPathUnread, IsRequestUnread, IsRouteUnread, IsUnreadBy, IsUnreadIn, IsUnserved, SendsOr, ServesOr}
-use Rattle.archive_pages.specs.Replies.{Reply, Sends}
+use Rattle.archive_pages.specs.Answers.{ask_of_reader}
+use Rattle.archive_pages.specs.Causes.{FindsOrHasCause, Has503Cause, IsTokenDataUnreadable, IsPathDataUnreadable, IsRequestDataUnreadable}
+use Rattle.archive_pages.specs.Causes.{IsRouteDataUnreadable, IsUnreadableOrReaderUnknown, IsInputDataUnreadable, Sent503OrBrokeOff, SendsOr503, ServesOr503}
+use Rattle.archive_pages.specs.Replies.{Reply, SendsReply}
 use Rattle.archive_pages.specs.declared.faults.ServeFault.{ServeFault}
 use Rattle.archive_pages.specs.declared.faults.ServeFault.TheVariants.{Read, Write, Broken}
 
@@ -80,16 +81,16 @@ pub known : (a : Archive) (token name : List ℕ) → person_of_token a token �
 known a token name is = one_named (λ p. bytes_eq p.token token) name a.persons is
 
 pub holder_unread : (rules : List Rule) (day : ℤ) (a : Archive) (token path name : List ℕ) → person_of_token a token ≡ Some name
-    → IsUnreadBy (IsPathUnread rules day path (Some name)) (Some name) a → IsHolderUnread rules day token path a
+    → IsUnreadableOrReaderUnknown (IsPathDataUnreadable rules day path (Some name)) (Some name) a → IsTokenDataUnreadable rules day token path a
 holder_unread rules day a token path name is bad = elim bad [
-  | inl unread ↦ inr (subst (λ o. IsSomeAnd o (λ who. IsPathUnread rules day path (Some who) a)) (sym is) unread)
+  | inl unread ↦ inr (subst (λ o. IsSomeAnd o (λ who. IsPathDataUnreadable rules day path (Some who) a)) (sym is) unread)
   | inr none ↦ absurd (let no : true ≡ false = sym (known a token name is) ∙ none in cc)
 ]
 
 -- ---- where an archive can be read
 
 module _ (a : Archive) (can : CanBeRead a) (rules : List Rule) (day : ℤ) where
-  route_read : (ask_of : List ℕ → Ask) (route : Route) → ¬ IsRouteUnread ask_of route a
+  route_read : (ask_of : List ℕ → Ask) (route : Route) → ¬ IsRouteDataUnreadable ask_of route a
   route_read ask_of lists = lists_read a can
   route_read ask_of (message list key) = message_or_reader_read a can (ask_of list) key
   route_read ask_of (month list text) = list_read a can (ask_of list)
@@ -102,36 +103,36 @@ module _ (a : Archive) (can : CanBeRead a) (rules : List Rule) (day : ℤ) where
   none_so P None never = λ bad. bad
   none_so P (Some x) never = never x
 
-  path_read : (path : List ℕ) (reader : Option (List ℕ)) → ¬ IsPathUnread rules day path reader a
-  path_read path reader = none_so (λ route. IsRouteUnread (asking rules day reader) route a) (route_of path) (route_read (asking rules day reader))
+  path_read : (path : List ℕ) (reader : Option (List ℕ)) → ¬ IsPathDataUnreadable rules day path reader a
+  path_read path reader = none_so (λ route. IsRouteDataUnreadable (ask_of_reader rules day reader) route a) (route_of path) (route_read (ask_of_reader rules day reader))
 
-  request_read : (request : Request) → ¬ IsRequestUnread rules day request a
+  request_read : (request : Request) → ¬ IsRequestDataUnreadable rules day request a
   request_read no_request = λ never. never
   request_read other_method = λ never. never
   request_read unauthorized = λ never. never
   request_read (asking_for None path) = path_read path None
   request_read (asking_for (Some token) path) = λ never. elim never [
     | inl name ↦ holder_read a can token name
-    | inr path' ↦ none_so (λ name. IsPathUnread rules day path (Some name) a) (person_of_token a token) (λ name. path_read path (Some name)) path'
+    | inr path' ↦ none_so (λ name. IsPathDataUnreadable rules day path (Some name) a) (person_of_token a token) (λ name. path_read path (Some name)) path'
   ]
 
-  pub nothing_unread : (told_before told_after : List ℕ) → ¬ IsUnreadIn told_before told_after rules day a
+  pub nothing_unread : (told_before told_after : List ℕ) → ¬ IsInputDataUnreadable told_before told_after rules day a
   nothing_unread told_before told_after = λ it. request_read (request_of it.head) it.unread
 
 -- ---- at a place that is kept stands an outline
 
-kept_at : (views : List KeptView) (place : ℕ) → place < length views → option_map (λ (v : KeptView). v.outline) (slice_get views place) ≡ None → ⊥
+kept_at : (views : List CachedView) (place : ℕ) → place < length views → option_map (λ (v : CachedView). v.outline) (slice_get views place) ≡ None → ⊥
 kept_at [] place less none = absurd (omega (arith, less))
 kept_at (v ∷ vs) zero less none = absurd (cc)
 kept_at (v ∷ vs) (suc n) less none = kept_at vs n (omega (arith, less)) none
 
-pub no_outline : {X : Type 0} (kept : Keeping) (place : ℕ) → place < length kept.views → outline_at kept place ≡ None → X
+pub no_outline : {X : Type 0} (kept : CacheState) (place : ℕ) → place < length kept.views → cached_index_at kept place ≡ None → X
 no_outline kept place less none = absurd (kept_at kept.views place less none)
 
 -- ---- a reply that is not 503
 
-pub other_status : (P : Reply → Type 0) (before after : List ℕ) (result : Result ℕ ServeFault) {X : Type 0} → ((r : Reply) → P r → r.status ≢ 503) → Sends P before after result
-    → IsUnserved result → X
+pub other_status : (P : Reply → Type 0) (before after : List ℕ) (result : Result ℕ ServeFault) {X : Type 0} → ((r : Reply) → P r → r.status ≢ 503) → SendsReply P before after result
+    → Sent503OrBrokeOff result → X
 other_status P before after (Ok status) other sent it = absurd (other sent.0 sent.1 (sym sent.2.0 ∙ it))
 other_status P before after (Err Read) other sent it = absurd it
 other_status P before after (Err (Write written)) other sent it = absurd it
@@ -140,24 +141,24 @@ other_status P before after (Err (Broken written)) other sent it = absurd sent.2
 module _ {S : Type 0} (g : Ghosts S) where
   -- ---- a cause of which more is known
 
-  pub cause_as : (old new : Store S) (P Q : Archive → Type 0) → ((a : Archive) → P a → Q a) → HasServeCause g old new P → HasServeCause g old new Q
+  pub cause_as : (old new : Store S) (P Q : Archive → Type 0) → ((a : Archive) → P a → Q a) → Has503Cause g old new P → Has503Cause g old new Q
   cause_as old new P Q implies it = elim it [
     | inl more ↦ inl more
     | inr why ↦ inr (λ returned held free. elim (why returned held free) [ inl more ↦ inl more | inr bad ↦ inr (implies _ bad) ])
   ]
 
-  pub serves_or_as : (old new : Store S) (result : Result ℕ ServeFault) (P Q : Archive → Type 0) → ((a : Archive) → P a → Q a) → ServesOr g old new result P → ServesOr g old new result Q
+  pub serves_or_as : (old new : Store S) (result : Result ℕ ServeFault) (P Q : Archive → Type 0) → ((a : Archive) → P a → Q a) → ServesOr503 g old new result P → ServesOr503 g old new result Q
   serves_or_as old new result P Q implies it = (it.0, λ bad. cause_as old new P Q implies (it.1 bad))
 
   module _ (old new : Store S) where
     -- ---- of a fault of the store
 
-    of_store : (fault : StoreFault) (Unread : Archive → Type 0) → fault ≡ faults.Store → StoreCausedOr g old new {A = Unit {0}} (Err fault) Unread → HasServeCause g old new Unread
+    of_store : (fault : StoreFault) (Unread : Archive → Type 0) → fault ≡ faults.Store → StoreCausedOr g old new {A = Unit {0}} (Err fault) Unread → Has503Cause g old new Unread
     of_store fault Unread it why = inr (λ returned held free. why returned held free it)
 
     -- none of a question that is never refused
-    pub store_unfound : (fault : StoreFault) (Unread : Archive → Type 0) → RefusedFor {A = Unit {0}} (Err fault) []
-        → Counts {A = Unit {0}} IsWant old new (Err fault) → StoreCausedOr g old new {A = Unit {0}} (Err fault) Unread → HasServeCause g old new Unread
+    pub store_unfound : (fault : StoreFault) (Unread : Archive → Type 0) → IsRefusedOnlyFor {A = Unit {0}} (Err fault) []
+        → CountsRefusals {A = Unit {0}} IsMemoryRefusal old new (Err fault) → StoreCausedOr g old new {A = Unit {0}} (Err fault) Unread → Has503Cause g old new Unread
     store_unfound faults.Memory Unread kind counts why = inl (counts.1 refl)
     store_unfound faults.Store Unread kind counts why = of_store faults.Store Unread refl why
     store_unfound faults.BadName Unread kind counts why = absurd kind
@@ -177,15 +178,15 @@ module _ {S : Type 0} (g : Ghosts S) where
     -- ---- of a fault of the desk
 
     module _ (ask : Ask) (Unread : Archive → Type 0) where
-      broken_desk : (fault : DeskFault) → IsBroken fault → (IsBroken fault → HasCause g old new Unread) → HasServeCause g old new (IsUnreadBy Unread ask.reader)
+      broken_desk : (fault : DeskError) → IsDeskDatabaseFault fault → (IsDeskDatabaseFault fault → HasCause g old new Unread) → Has503Cause g old new (IsUnreadableOrReaderUnknown Unread ask.reader)
       broken_desk fault it why = inr (λ returned held free. elim (why it returned held free) [ inl more ↦ inl more | inr bad ↦ inr (inl bad) ])
 
-      unasked : GoesHeld g old new (λ a b. (b ≡ a) × (ask_reason a ask ≡ Some (refused no_person))) → HasServeCause g old new (IsUnreadBy Unread ask.reader)
+      unasked : RelatesTableArchives g old new (λ a b. (b ≡ a) × (ask_reason a ask ≡ Some (refused no_person))) → Has503Cause g old new (IsUnreadableOrReaderUnknown Unread ask.reader)
       unasked goes = inr (λ returned held free. inr (inr (stranger (archive_in g old) ask (goes.1 returned held).1.1)))
 
       -- of a refusal of the store, which carries no other than E14 and E15
-      by_store : (fault : StoreFault) → refusal fault ≡ None → (IsWanting (desk.Store fault) → WasRefused old new)
-          → (IsBroken (desk.Store fault) → HasCause g old new Unread) → HasServeCause g old new (IsUnreadBy Unread ask.reader)
+      by_store : (fault : StoreFault) → refusal_of_fault fault ≡ None → (IsDeskMemoryRefusal (desk.Store fault) → MemoryWasRefused old new)
+          → (IsDeskDatabaseFault (desk.Store fault) → HasCause g old new Unread) → Has503Cause g old new (IsUnreadableOrReaderUnknown Unread ask.reader)
       by_store faults.Memory none counts why = inl (counts (inr refl))
       by_store faults.Store none counts why = broken_desk (desk.Store faults.Store) refl why
       by_store faults.BadName none counts why = absurd (cc)
@@ -202,9 +203,9 @@ module _ {S : Type 0} (g : Ghosts S) where
       by_store faults.ListFull none counts why = absurd (cc)
       by_store faults.TooLarge none counts why = absurd (cc)
 
-      pub desk_unfound : (fault : DeskFault) → fault ≢ desk.NoList → IsAskFault fault → (IsWanting fault → WasRefused old new) → (IsBroken fault → HasCause g old new Unread)
-          → MatchOption (reason fault) (GoesHeldIfOpen g old new (λ a b. b ≡ a)) (λ why. GoesHeld g old new (λ a b. (b ≡ a) × (ask_reason a ask ≡ Some why)))
-          → HasServeCause g old new (IsUnreadBy Unread ask.reader)
+      pub desk_unfound : (fault : DeskError) → fault ≢ desk.NoList → IsAskFault fault → (IsDeskMemoryRefusal fault → MemoryWasRefused old new) → (IsDeskDatabaseFault fault → HasCause g old new Unread)
+          → MatchOption (refusal_reason fault) (RelatesTableArchivesIfOpen g old new (λ a b. b ≡ a)) (λ why. RelatesTableArchives g old new (λ a b. (b ≡ a) × (ask_reason a ask ≡ Some why)))
+          → Has503Cause g old new (IsUnreadableOrReaderUnknown Unread ask.reader)
       desk_unfound desk.NoList other kind counts why asks = absurd (other refl)
       desk_unfound desk.NoPerson other kind counts why asks = unasked asks
       desk_unfound desk.NotInView other kind counts why asks = absurd kind
@@ -213,8 +214,8 @@ module _ {S : Type 0} (g : Ghosts S) where
       desk_unfound (desk.Store fault) other kind counts why asks = by_store fault kind counts why
 
       -- an mbox that stopped for no writer
-      pub mbox_unserved : (before after : List ℕ) (failed fails written : ℕ) (fault : DeskFault) → fault ≢ desk.Write → IsWalkStop before after failed fails written fault
-          → (IsWanting fault → WasRefused old new) → (IsBroken fault → HasCause g old new Unread) → HasServeCause g old new (IsUnreadBy Unread ask.reader)
+      pub mbox_unserved : (before after : List ℕ) (failed fails written : ℕ) (fault : DeskError) → fault ≢ desk.Write → IsWalkStop before after failed fails written fault
+          → (IsDeskMemoryRefusal fault → MemoryWasRefused old new) → (IsDeskDatabaseFault fault → HasCause g old new Unread) → Has503Cause g old new (IsUnreadableOrReaderUnknown Unread ask.reader)
       mbox_unserved before after failed fails written desk.NoList other stop counts why = absurd stop
       mbox_unserved before after failed fails written desk.NoPerson other stop counts why = absurd stop
       mbox_unserved before after failed fails written desk.NotInView other stop counts why = absurd stop
@@ -225,9 +226,9 @@ module _ {S : Type 0} (g : Ghosts S) where
   -- ---- a reply of what was found
 
   module _ (old mid : Store S) (wants : ℕ) (result : Result ℕ ServeFault) (Unread : Archive → Type 0) where
-    pub found_served : {A F : Type 0} (found : Result A F) (made : A → Reply) → FindsOr g old mid found Unread → IfOk found (λ x. (made x).status ≢ 503)
-        → MatchResult found (λ x. SendsOr (wants_of mid) wants (made x) result) (λ _. wants_of mid ≤ wants)
-        → ServesOr g old (record mid { wants = wants }) result Unread
+    pub found_served : {A F : Type 0} (found : Result A F) (made : A → Reply) → FindsOrHasCause g old mid found Unread → IfOk found (λ x. (made x).status ≢ 503)
+        → MatchResult found (λ x. SendsOr503 (memory_refusal_count mid) wants (made x) result) (λ _. memory_refusal_count mid ≤ wants)
+        → ServesOr503 g old (record mid { wants = wants }) result Unread
     found_served (Ok x) made finds other sends = (
       omega (arith, finds.0, sends.0),
       (λ bad. elim (sends.1 bad) [ inl more ↦ inl (omega (arith, finds.0, more)) | inr is ↦ absurd (other is) ]),
@@ -239,9 +240,10 @@ module _ {S : Type 0} (g : Ghosts S) where
 
   -- ---- behind a question
 
-  module _ (old mid new : Store S) (P : Archive → Type 0) (first : GoesHeld g old mid (λ a b. (b ≡ a) × P a)) (grows : wants_of old ≤ wants_of mid) (last : Lasts g mid new) where
-    pub served_after : (result : Result ℕ ServeFault) (Unread Unread' : Archive → Type 0) → ((a : Archive) → P a → Unread a → Unread' a) → ServesOr g mid new result Unread
-        → ServesOr g old new result Unread'
+  module _ (old mid new : Store S) (P : Archive → Type 0) (first : RelatesTableArchives g old mid (λ a b. (b ≡ a) × P a)) (grows : memory_refusal_count old ≤ memory_refusal_count mid)
+      (last : StaysOpenUnlessDiskFails g mid new) where
+    pub served_after : (result : Result ℕ ServeFault) (Unread Unread' : Archive → Type 0) → ((a : Archive) → P a → Unread a → Unread' a) → ServesOr503 g mid new result Unread
+        → ServesOr503 g old new result Unread'
     served_after result Unread Unread' implies it = (
       omega (arith, grows, it.0),
       (λ bad. elim (it.1 bad) [
@@ -255,17 +257,17 @@ module _ {S : Type 0} (g : Ghosts S) where
       ]),
     )
       where
-        failed_since : HasFailed g mid new → HasFailed g old new
-        failed_since more = more_since (state g (held_of old)) (state g (held_of mid)) (state g (held_of new)) first.0 more
+        failed_since : DiskHasFailed g mid new → DiskHasFailed g old new
+        failed_since more = more_since (state g (store_connection old)) (state g (store_connection mid)) (state g (store_connection new)) first.0 more
 
 -- ---- in memory
 
 never_more : MoreFaults 0 0 → ⊥
 never_more more = absurd (omega (arith, more))
 
-pub memory_refused : (old new : Store MemStore) → HoldsTables over_memory old → HasNoLimit over_memory old → (Unread : Archive → Type 0) → ¬ Unread (archive_in over_memory old)
-    → HasServeCause over_memory old new Unread → WasRefused old new
+pub memory_refused : (old new : Store MemStore) → HoldsTables over_memory old → HasNoStepLimit over_memory old → (Unread : Archive → Type 0) → ¬ Unread (archive_in over_memory old)
+    → Has503Cause over_memory old new Unread → MemoryWasRefused old new
 memory_refused old new held free Unread read it = elim it [
   | inl more ↦ more
-  | inr why ↦ elim (why (memory_is_clean (held_of new)) held free) [ inl more ↦ absurd (never_more more) | inr bad ↦ absurd (read bad) ]
+  | inr why ↦ elim (why (memory_is_clean (store_connection new)) held free) [ inl more ↦ absurd (never_more more) | inr bad ↦ absurd (read bad) ]
 ]

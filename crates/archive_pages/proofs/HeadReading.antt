@@ -6,23 +6,23 @@ use Rattle.httparse.specs.Grammar.{RequestHead}
 use Rattle.httparse.specs.Spans.{RequestExceeds}
 use Rattle.httparse.proofs.GrammarLemmas.{ReadsRequest-append}
 use Rattle.policy_core.specs.Rules.{Rule}
-use Rattle.archive_machine.specs.Records.{Archive}
+use Rattle.archive_model.specs.Records.{Archive}
 use Rattle.archive_store.specs.declared.store.Store.{Store}
 use Rattle.archive_store.specs.Told.{HoldsTables}
 use Rattle.archive_store.proofs.Joins.{stays_there_in}
-use Rattle.archive_requests.specs.Asked.{named_request}
-use Rattle.archive_requests.specs.Heads.{BeginsWith}
-use Rattle.archive_requests.specs.Reading.{IsBegunBy, IsRequestAs, IsSettled}
+use Rattle.archive_requests.specs.Asked.{model_request}
+use Rattle.archive_requests.specs.Heads.{BeginsWithHead}
+use Rattle.archive_requests.specs.Reading.{IsRequestOfGivenHead, IsRequestReadOfInput, IsRequestReadFinal}
 use Rattle.archive_requests.specs.declared.requests.Request.{Request as Asked}
 use Rattle.archive_requests.specs.declared.reading.RequestRead.{RequestRead}
 use Rattle.archive_requests.specs.declared.reading.RequestRead.TheVariants.{Whole, Malformed, TooLarge}
-use Rattle.archive_pages.specs.Replies.{Sends, IsReplyStop, IsServeStop, bad_request, head_too_large}
-use Rattle.archive_pages.specs.Answers.{request_reply, direct_reply}
-use Rattle.archive_pages.specs.Answered.{ByOutcome, IsAnswered}
-use Rattle.archive_pages.specs.Causes.{IsReadUnread, IsRequestUnread, IsUnreadIn}
+use Rattle.archive_pages.specs.Replies.{SendsReply, HasReplyFaultCause, HasServeFaultCause, bad_request, head_too_large}
+use Rattle.archive_pages.specs.Answers.{request_reply, pathless_reply}
+use Rattle.archive_pages.specs.Answered.{IfAnsweredOrUnread, IsAnsweredFromStore}
+use Rattle.archive_pages.specs.Causes.{IsReadRequestDataUnreadable, IsRequestDataUnreadable, IsInputDataUnreadable}
 use Rattle.archive_pages.specs.declared.faults.ServeFault.{ServeFault}
 use Rattle.archive_pages.specs.declared.faults.ServeFault.TheVariants.{Read, Write, Broken}
-use Rattle.archive_pages.specs.Serving.{Serves}
+use Rattle.archive_pages.specs.Serving.{ServesFromArchive}
 use Rattle.archive_pages.proofs.ServingLemmas.{sends_as}
 
 whole_large : (request : Asked) → Whole request ≡ TooLarge → ⊥
@@ -33,7 +33,7 @@ bad_large is = absurd (cc)
 
 module _ {S : Type 0} (g : Ghosts S) (rules : List Rule) (day : ℤ) (given all before after : List ℕ) (result : Result ℕ ServeFault) where
   module _ (store : Store S) where
-    pub to_bad : IsRequestAs given all Malformed → Sends (λ r. r ≡ bad_request) before after result → IsAnswered g store store rules day given all before after result
+    pub to_bad : IsRequestReadOfInput given all Malformed → SendsReply (λ r. r ≡ bad_request) before after result → IsAnsweredFromStore g store store rules day given all before after result
     to_bad is sent = record {
       head = λ h begins. absurd (is.head h begins);
       direct = λ h begins. absurd (is.head h begins);
@@ -47,7 +47,7 @@ module _ {S : Type 0} (g : Ghosts S) (rules : List Rule) (day : ℤ) (given all 
     large_cases less fields (inl enough) = omega arith
     large_cases less fields (inr many) = fields many
 
-    pub to_large : IsRequestAs given all TooLarge → Sends (λ r. r ≡ head_too_large) before after result → IsAnswered g store store rules day given all before after result
+    pub to_large : IsRequestReadOfInput given all TooLarge → SendsReply (λ r. r ≡ head_too_large) before after result → IsAnsweredFromStore g store store rules day given all before after result
     to_large is sent = record {
       head = λ h begins. absurd (is.head h begins);
       direct = λ h begins. absurd (is.head h begins);
@@ -57,7 +57,7 @@ module _ {S : Type 0} (g : Ghosts S) (rules : List Rule) (day : ℤ) (given all 
       few = λ nothing less fields. absurd (large_cases less fields (is.large refl));
     }
 
-begins_still : (given more : List ℕ) (h : RequestHead) → BeginsWith given h → BeginsWith (given ++ more) h
+begins_still : (given more : List ℕ) (h : RequestHead) → BeginsWithHead given h → BeginsWithHead (given ++ more) h
 begins_still given more h it = record {
   rest = it.rest ++ more;
   reads = ReadsRequest-append given h it.rest more it.reads;
@@ -66,13 +66,13 @@ begins_still given more h it = record {
 }
 
 module _ {S : Type 0} (g : Ghosts S) (rules : List Rule) (day : ℤ) (given more before after : List ℕ) (result : Result ℕ ServeFault) where
-  pub to_whole : (old new : Store S) (request : Asked) → IsRequestAs given (given ++ more) (Whole request)
-      → Serves g old new (λ a reply. reply ≡ request_reply a rules day (named_request request)) before after result
-      → IfSome (direct_reply (named_request request)) (λ wanted. Sends (λ reply. reply ≡ wanted) before after result)
-      → IsAnswered g old new rules day given (given ++ more) before after result
+  pub to_whole : (old new : Store S) (request : Asked) → IsRequestReadOfInput given (given ++ more) (Whole request)
+      → ServesFromArchive g old new (λ a reply. reply ≡ request_reply a rules day (model_request request)) before after result
+      → IfSome (pathless_reply (model_request request)) (λ wanted. SendsReply (λ reply. reply ≡ wanted) before after result)
+      → IsAnsweredFromStore g old new rules day given (given ++ more) before after result
   to_whole old new request is sent direct = record {
-    head = λ h begins. subst (λ q. Serves g old new (λ a reply. reply ≡ request_reply a rules day q) before after result) (is.head h begins) sent;
-    direct = λ h begins. subst (λ q. IfSome (direct_reply q) (λ wanted. Sends (λ reply. reply ≡ wanted) before after result)) (is.head h begins) direct;
+    head = λ h begins. subst (λ q. ServesFromArchive g old new (λ a reply. reply ≡ request_reply a rules day q) before after result) (is.head h begins) sent;
+    direct = λ h begins. subst (λ q. IfSome (pathless_reply q) (λ wanted. SendsReply (λ reply. reply ≡ wanted) before after result)) (is.head h begins) direct;
     none = λ nothing. absurd (nothing is.whole.0 (begins_still given more is.whole.0 is.whole.1));
     many = λ h exceeds. absurd (whole_large request (is.many h exceeds));
     long = λ enough nothing could. absurd (whole_large request (is.long enough nothing could));
@@ -80,44 +80,45 @@ module _ {S : Type 0} (g : Ghosts S) (rules : List Rule) (day : ℤ) (given more
   }
 
 -- what of an archive cannot be read that is asked for
-pub unread_in : (told_before told_after given : List ℕ) (rules : List Rule) (day : ℤ) (a : Archive) (read : RequestRead) → told_after ≡ told_before ++ given → IsBegunBy given read
-    → IsReadUnread rules day read a → IsUnreadIn told_before told_after rules day a
+pub unread_in : (told_before told_after given : List ℕ) (rules : List Rule) (day : ℤ) (a : Archive) (read : RequestRead) → told_after ≡ told_before ++ given → IsRequestOfGivenHead given read
+    → IsReadRequestDataUnreadable rules day read a → IsInputDataUnreadable told_before told_after rules day a
 unread_in told_before told_after given rules day a (Whole request) told begun it = record {
   given = given;
   told = told;
   head = begun.0;
   begins = begun.1;
-  unread = subst (λ q. IsRequestUnread rules day q a) begun.2 it;
+  unread = subst (λ q. IsRequestDataUnreadable rules day q a) begun.2 it;
 }
 unread_in told_before told_after given rules day a Malformed told begun it = absurd it
 unread_in told_before told_after given rules day a TooLarge told begun it = absurd it
 
 -- ---- what the input told
 
-pub begun_by : (given : List ℕ) (read : RequestRead) (Ended None Open : Type 0) → (Ended × None × IsRequestAs given given read) ⊎ (Open × IsSettled given read) → IsBegunBy given read
+pub begun_by : (given : List ℕ) (read : RequestRead) (Ended None Open : Type 0) → (Ended × None × IsRequestReadOfInput given given read) ⊎ (Open × IsRequestReadFinal given read)
+    → IsRequestOfGivenHead given read
 begun_by given read Ended None Open (inl (ended, none, is)) = is.whole
 begun_by given read Ended None Open (inr (still, settled)) = (settled []).whole
 
 pub said_either : (given : List ℕ) (read : RequestRead) (Ended None Open : Type 0) (Says : List ℕ → Type 0)
-    → ((more : List ℕ) → IsRequestAs given (given ++ more) read → Says (given ++ more))
-    → (Ended × None × IsRequestAs given given read) ⊎ (Open × IsSettled given read)
+    → ((more : List ℕ) → IsRequestReadOfInput given (given ++ more) read → Says (given ++ more))
+    → (Ended × None × IsRequestReadOfInput given given read) ⊎ (Open × IsRequestReadFinal given read)
     → (Ended × Says given) ⊎ (Open × ((more : List ℕ) → Says (given ++ more)))
 said_either given read Ended None Open Says says (inl (ended, none, is)) =
-    inl (ended, subst Says (append-nil given) (says [] (subst (λ all. IsRequestAs given all read) (sym (append-nil given)) is)))
+    inl (ended, subst Says (append-nil given) (says [] (subst (λ all. IsRequestReadOfInput given all read) (sym (append-nil given)) is)))
 said_either given read Ended None Open Says says (inr (still, settled)) = inr (still, λ more. says more (settled more))
 
 -- ---- what was answered, whole or in part
 
 pub outcome_answered : (result : Result ℕ ServeFault) (before after : List ℕ) (failed fails : ℕ) (answered unread : Type 0)
-    → IfErr result (λ fault. IsReplyStop before after failed fails fault) → answered → ByOutcome result answered unread
+    → IfErr result (λ fault. HasReplyFaultCause before after failed fails fault) → answered → IfAnsweredOrUnread result answered unread
 outcome_answered (Ok status) before after failed fails answered unread why it = it
 outcome_answered (Err Read) before after failed fails answered unread why it = absurd why
 outcome_answered (Err (Write written)) before after failed fails answered unread why it = it
 outcome_answered (Err (Broken written)) before after failed fails answered unread why it = it
 
 pub outcome_cause : (result : Result ℕ ServeFault) (before after : List ℕ) (read_failed read_fails failed fails : ℕ) → read_fails ≡ read_failed
-    → IfErr result (λ fault. IsReplyStop before after failed fails fault)
-    → IfErr result (λ fault. IsServeStop before after read_failed read_fails failed fails fault)
+    → IfErr result (λ fault. HasReplyFaultCause before after failed fails fault)
+    → IfErr result (λ fault. HasServeFaultCause before after read_failed read_fails failed fails fault)
 outcome_cause (Ok status) before after read_failed read_fails failed fails same why = tt
 outcome_cause (Err Read) before after read_failed read_fails failed fails same why = absurd why
 outcome_cause (Err (Write written)) before after read_failed read_fails failed fails same why = (same, why)

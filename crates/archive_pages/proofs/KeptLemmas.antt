@@ -2,29 +2,29 @@
 use Rattle.std.proofs.Common.{◌≡◌, inl, inr, ℕ, List, Result, Ok, Err, refl, sym, subst}
 use Rattle.std.specs.Prelude.{◌⊎◌, ⊤, MatchResult}
 use Rattle.sqlite.specs.Store.{Ghosts}
-use Rattle.archive_machine.specs.Records.{Archive}
-use Rattle.archive_store.specs.Told.{HasReturned, HoldsTables, Lasts, archive_in}
-use Rattle.archive_desk.specs.Holding.{GoesHeld}
+use Rattle.archive_model.specs.Records.{Archive}
+use Rattle.archive_store.specs.Told.{StoreHasCleanDisk, HoldsTables, StaysOpenUnlessDiskFails, archive_in}
+use Rattle.archive_desk.specs.Holding.{RelatesTableArchives}
 use Rattle.archive_store.specs.declared.store.Store.{Store}
 use Rattle.archive_store.proofs.Joins.{goes_in_as}
-use Rattle.archive_pages.specs.Replies.{Reply, Sends, Breaks, Is, unavailable}
-use Rattle.archive_pages.specs.Serving.{OfEvery, Sent, Serves, Stays}
-use Rattle.archive_pages.specs.KeptServing.{OfRemembered, FindsIf, ServesIf}
-use Rattle.archive_pages.specs.Calls.{KeepsOn}
+use Rattle.archive_pages.specs.Replies.{Reply, SendsReply, BreaksOffMbox, IsReplyOr503, unavailable}
+use Rattle.archive_pages.specs.Serving.{IsTrueOfEveryArchive, SendsFromArchive, ServesFromArchive, StoreKeepsArchive}
+use Rattle.archive_pages.specs.KeptServing.{IsTrueOfRememberedArchive, FindsInArchiveIf, ServesFromArchiveIf}
+use Rattle.archive_pages.specs.Calls.{ChangesOnlyPagesCache}
 use Rattle.archive_pages.specs.declared.faults.ServeFault.{ServeFault}
 use Rattle.archive_pages.specs.declared.pages.Pages.{Pages}
 use Rattle.archive_pages.proofs.ServingLemmas.{sends_as, broken_as, breaks_as, found_sent, of_shut_when, sent_after, serves_lasts, serves_none, stays_served}
 
 -- pages that nothing was done to
-pub keeps_still : {S T : Type 0} (g : Ghosts S) (old new : Store S) (pages : Pages T) → KeepsOn g old new pages pages
+pub keeps_still : {S T : Type 0} (g : Ghosts S) (old new : Store S) (pages : Pages T) → ChangesOnlyPagesCache g old new pages pages
 keeps_still g old new pages = record { same = refl; keeps = record { held = λ returned held of. of; shut = λ returned shut. refl; most = refl; bounded = λ within. within } }
 
 module _ {S : Type 0} (g : Ghosts S) (before after : List ℕ) (result : Result ℕ ServeFault) where
   module _ (old new : Store S) where
     -- a reply of which more is known, where its tables were an archive's
     sent_as : (Says Says' : Archive → Reply → Type 0)
-        → (HasReturned g new → HoldsTables g old → (r : Reply) → Says (archive_in g old) r → Says' (archive_in g old) r)
-        → Sent g old new Says before after result → Sent g old new Says' before after result
+        → (StoreHasCleanDisk g new → HoldsTables g old → (r : Reply) → Says (archive_in g old) r → Says' (archive_in g old) r)
+        → SendsFromArchive g old new Says before after result → SendsFromArchive g old new Says' before after result
     sent_as Says Says' weaker (inl goes) = inl (
       goes.0,
       (λ returned held.
@@ -34,32 +34,32 @@ module _ {S : Type 0} (g : Ghosts S) (before after : List ℕ) (result : Result 
     sent_as Says Says' weaker (inr (inl none)) = inr (inl none)
     sent_as Says Says' weaker (inr (inr (goes, broken))) = inr (inr (
       goes,
-      broken_as result (λ n. HasReturned g new → HoldsTables g old → Breaks (Says (archive_in g old)) before after n)
-          (λ n. HasReturned g new → HoldsTables g old → Breaks (Says' (archive_in g old)) before after n)
+      broken_as result (λ n. StoreHasCleanDisk g new → HoldsTables g old → BreaksOffMbox (Says (archive_in g old)) before after n)
+          (λ n. StoreHasCleanDisk g new → HoldsTables g old → BreaksOffMbox (Says' (archive_in g old)) before after n)
           (λ n breaks returned held. breaks_as (Says (archive_in g old)) (Says' (archive_in g old)) before after n (weaker returned held) (breaks returned held)) broken,
     ))
 
     module _ (If : Archive → Type 0) (Says : Archive → Reply → Type 0) where
       -- one of which it holds whatever is kept
-      pub serves_whatever : Serves g old new Says before after result → ServesIf g old new If Says before after result
+      pub serves_whatever : ServesFromArchive g old new Says before after result → ServesFromArchiveIf g old new If Says before after result
       serves_whatever serves = record { sent = sent_as Says (λ a r. If a → Says a r) (λ returned held r it is. it) serves.sent; shut = serves.shut }
 
       -- and one of which nothing is said
-      pub serves_some : ServesIf g old new If Says before after result → Serves g old new (λ a r. ⊤) before after result
+      pub serves_some : ServesFromArchiveIf g old new If Says before after result → ServesFromArchive g old new (λ a r. ⊤) before after result
       serves_some serves = record {
         sent = sent_as (λ a r. If a → Says a r) (λ a r. ⊤) (λ returned held r it. tt) serves.sent;
         shut = λ returned shut. sends_as (λ r. (r ≡ unavailable) ⊎ ((a : Archive) → Says a r)) (λ r. (r ≡ unavailable) ⊎ ((a : Archive) → ⊤)) before after result
             (λ r it. inr (λ a. tt)) (serves.shut returned shut);
       }
 
-      pub stays_kept : ServesIf g old new If Says before after result → Stays g old new result
+      pub stays_kept : ServesFromArchiveIf g old new If Says before after result → StoreKeepsArchive g old new result
       stays_kept serves = stays_served g before after old new (λ a r. ⊤) result (serves_some serves)
 
-      pub lasts_kept : ServesIf g old new If Says before after result → Lasts g old new
+      pub lasts_kept : ServesFromArchiveIf g old new If Says before after result → StaysOpenUnlessDiskFails g old new
       lasts_kept serves = serves_lasts g before after result old new (λ a r. ⊤) (serves_some serves)
 
       -- where what is kept is of the archive that the store remembers, it is served out of that archive
-      pub serves_of_remembered : OfRemembered g old new If → ServesIf g old new If Says before after result → Serves g old new Says before after result
+      pub serves_of_remembered : IsTrueOfRememberedArchive g old new If → ServesFromArchiveIf g old new If Says before after result → ServesFromArchive g old new Says before after result
       serves_of_remembered of serves = record {
         sent = sent_as (λ a r. If a → Says a r) Says (λ returned held r says. says (of returned held)) serves.sent;
         shut = serves.shut;
@@ -68,13 +68,13 @@ module _ {S : Type 0} (g : Ghosts S) (before after : List ℕ) (result : Result 
     -- ---- what was found, or 503
 
     pub finds_serves : {A F : Type 0} (search_result : Result A F) (made : A → Reply) (If : Archive → Type 0) (Holds : Archive → A → Type 0)
-        (Says : Archive → Reply → Type 0) → FindsIf g old new If search_result Holds → ((a : Archive) (x : A) → Holds a x → Says a (made x))
-        → MatchResult search_result (λ x. Sends (Is (made x)) before after result) (λ _. Sends (λ r. r ≡ unavailable) before after result)
-        → ServesIf g old new If Says before after result
+        (Says : Archive → Reply → Type 0) → FindsInArchiveIf g old new If search_result Holds → ((a : Archive) (x : A) → Holds a x → Says a (made x))
+        → MatchResult search_result (λ x. SendsReply (IsReplyOr503 (made x)) before after result) (λ _. SendsReply (λ r. r ≡ unavailable) before after result)
+        → ServesFromArchiveIf g old new If Says before after result
     finds_serves (Ok x) made If Holds Says finds says sent = record {
       sent = found_sent g before after result old new (made x) (λ a r. If a → Says a r)
           (goes_in_as g (HoldsTables g) old new (λ a b. (b ≡ a) × (If a → Holds a x)) (λ a b. (b ≡ a) × (If a → Says a (made x))) (λ a b h. (h.0, (λ is. says a x (h.1 is)))) finds.0) sent;
-      shut = λ returned shut. sends_as (Is (made x)) (λ r. (r ≡ unavailable) ⊎ ((a : Archive) → Says a r)) before after result
+      shut = λ returned shut. sends_as (IsReplyOr503 (made x)) (λ r. (r ≡ unavailable) ⊎ ((a : Archive) → Says a r)) before after result
           (λ r it. elim it [ inl is ↦ inr (λ a. subst (Says a) (sym is) (says a x (finds.1 returned shut a))) | inr none ↦ inl none ]) sent;
     }
     finds_serves (Err e) made If Holds Says finds says sent = serves_whatever If Says (serves_none g before after result old new Says finds sent)
@@ -82,8 +82,8 @@ module _ {S : Type 0} (g : Ghosts S) (before after : List ℕ) (result : Result 
   -- ---- a question before
 
   module _ (old mid new : Store S) (P : Archive → Type 0) (If : Archive → Type 0) (Says Says' : Archive → Reply → Type 0)
-      (first : GoesHeld g old mid (λ a b. (b ≡ a) × P a)) (says : (a : Archive) (r : Reply) → P a → Says a r → Says' a r) where
-    pub serves_if_after : OfEvery g old mid P → ServesIf g mid new If Says before after result → ServesIf g old new If Says' before after result
+      (first : RelatesTableArchives g old mid (λ a b. (b ≡ a) × P a)) (says : (a : Archive) (r : Reply) → P a → Says a r → Says' a r) where
+    pub serves_if_after : IsTrueOfEveryArchive g old mid P → ServesFromArchiveIf g mid new If Says before after result → ServesFromArchiveIf g old new If Says' before after result
     serves_if_after every second = record {
       sent = sent_after g before after result old mid new P (λ a r. If a → Says a r) (λ a r. If a → Says' a r) first (λ a r p it is. says a r p (it is)) second.sent;
       shut = λ returned shut.

@@ -1,7 +1,7 @@
 -- Worked examples of replies: those that no request changes, byte for byte.
 use Rattle.std.proofs.Common.{◌≡◌, refl, codes}
 use Rattle.std.specs.Fmt.{digits}
-use Rattle.archive_pages.specs.Replies.{head_bytes, reply_bytes, page_reply, mbox_reply, forbidden, bad_request, unauthorized, not_found, not_allowed, head_too_large, unavailable}
+use Rattle.archive_pages.specs.Replies.{head_bytes, reply_bytes, page_reply, mbox_reply, forbidden, bad_request, unauthorized, not_found, method_not_allowed, head_too_large, unavailable}
 
 pub of_bad_request : codes "HTTP/1.1 400 Bad Request\r\nContent-Type: text/plain; charset=us-ascii\r\nContent-Length: 16\r\nConnection: close\r\n\r\n400 Bad Request\n"
     ≡ reply_bytes bad_request
@@ -19,7 +19,7 @@ unfolding digits head_bytes
 of_not_found = refl
 
 pub of_not_allowed : codes "HTTP/1.1 405 Method Not Allowed\r\nContent-Type: text/plain; charset=us-ascii\r\nContent-Length: 23\r\nAllow: GET\r\nConnection: close\r\n\r\n405 Method Not Allowed\n"
-    ≡ reply_bytes not_allowed
+    ≡ reply_bytes method_not_allowed
 unfolding digits head_bytes
 of_not_allowed = refl
 

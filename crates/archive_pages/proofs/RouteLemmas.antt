@@ -1,28 +1,28 @@
 -- What is found for a question is found for a route.
 use Rattle.std.proofs.Common.{◌≡◌, refl, subst, Bool, true, false, ℕ, List, Result, Ok, Err}
 use Rattle.sqlite.specs.Store.{Ghosts}
-use Rattle.archive_machine.specs.Records.{Archive}
+use Rattle.archive_model.specs.Records.{Archive}
 use Rattle.archive_store.specs.declared.store.Store.{Store}
 use Rattle.archive_store.specs.Told.{HoldsTables}
 use Rattle.archive_store.proofs.Joins.{goes_in_as}
 use Rattle.archive_results.specs.Access.{Ask}
 use Rattle.archive_requests.specs.Routes.{Route}
-use Rattle.archive_requests.specs.Routing.{named_route}
+use Rattle.archive_requests.specs.Routing.{model_route}
 use Rattle.archive_requests.specs.declared.routes.Route.{Route as Named}
 use Rattle.archive_requests.specs.declared.routes.Route.TheVariants.{Lists, Message, Month, Threads, Thread, Author, Mbox}
-use Rattle.archive_kept.specs.Kept.{Keeps}
-use Rattle.archive_kept.specs.Views.{Keeping}
-use Rattle.archive_pages.specs.Answers.{is_mbox, made_reply, route_reply}
+use Rattle.archive_cache.specs.Coherence.{KeepsCacheCoherent}
+use Rattle.archive_cache.specs.Views.{CacheState}
+use Rattle.archive_pages.specs.Answers.{is_mbox_route, reply_unless_mbox, route_reply}
 use Rattle.archive_pages.specs.Replies.{Reply}
-use Rattle.archive_pages.specs.Calls.{AreFor, FindsMade, FindsReply, FindsReplyIf}
-use Rattle.archive_pages.specs.Causes.{IsUnreadBy}
-use Rattle.archive_pages.specs.Seen.{reply_made}
+use Rattle.archive_pages.specs.Calls.{IsCacheCoherentForAsk, EndsFindingReply, FindsReply, FindsReplyIf}
+use Rattle.archive_pages.specs.Causes.{IsUnreadableOrReaderUnknown}
+use Rattle.archive_pages.specs.Seen.{model_reply}
 use Rattle.archive_pages.specs.declared.replies.Reply.{Reply as Made}
 use Rattle.archive_pages.proofs.CauseLemmas.{cause_as}
 
 -- a route that is no mbox
-pub other_route : (route : Named) → is_mbox (named_route route) ≡ false → (a : Archive) (ask_of : List ℕ → Ask)
-    → made_reply a ask_of (named_route route) ≡ route_reply a ask_of (named_route route)
+pub other_route : (route : Named) → is_mbox_route (model_route route) ≡ false → (a : Archive) (ask_of : List ℕ → Ask)
+    → reply_unless_mbox a ask_of (model_route route) ≡ route_reply a ask_of (model_route route)
 other_route Lists is a ask_of = refl
 other_route (Message list key) is a ask_of = refl
 other_route (Month list month) is a ask_of = refl
@@ -35,25 +35,25 @@ module _ {S F : Type 0} (g : Ghosts S) (old new : Store S) where
   -- found whatever is kept
   pub found_whatever : (result : Result Made F) (If : Archive → Type 0) (made : Archive → Reply) → FindsReply g old new result made → FindsReplyIf g old new result If made
   found_whatever (Ok x) If made found = (
-    goes_in_as g (HoldsTables g) old new (λ a b. (b ≡ a) × (reply_made x ≡ made a)) (λ a b. (b ≡ a) × (If a → reply_made x ≡ made a)) (λ a b h. (h.0, λ is. h.1)) found.0,
+    goes_in_as g (HoldsTables g) old new (λ a b. (b ≡ a) × (model_reply x ≡ made a)) (λ a b. (b ≡ a) × (If a → model_reply x ≡ made a)) (λ a b h. (h.0, λ is. h.1)) found.0,
     found.1,
   )
   found_whatever (Err e) If made found = found
 
   -- for a reason of which more is known
-  pub why_as : (result : Result Made F) (P Q : Archive → Type 0) → ((a : Archive) → P a → Q a) → FindsMade g old new result P → FindsMade g old new result Q
+  pub why_as : (result : Result Made F) (P Q : Archive → Type 0) → ((a : Archive) → P a → Q a) → EndsFindingReply g old new result P → EndsFindingReply g old new result Q
   why_as (Ok x) P Q implies why = record { caused = why.caused; served = why.served }
   why_as (Err e) P Q implies why = record { caused = (why.caused.0, cause_as g old new P Q implies why.caused.1); served = why.served }
 
   module _ (result : Result Made F) {asked known : Ask} (is : asked ≡ known) where
     -- found for what is asked
-    pub found_for : (kept : Keeping) (made : Ask → Archive → Reply) → FindsReplyIf g old new result (AreFor asked kept) (made asked)
-        → FindsReplyIf g old new result (AreFor known kept) (made known)
-    found_for kept made found = subst (λ (q : Ask). FindsReplyIf g old new result (AreFor q kept) (made q)) is found
+    pub found_for : (kept : CacheState) (made : Ask → Archive → Reply) → FindsReplyIf g old new result (IsCacheCoherentForAsk asked kept) (made asked)
+        → FindsReplyIf g old new result (IsCacheCoherentForAsk known kept) (made known)
+    found_for kept made found = subst (λ (q : Ask). FindsReplyIf g old new result (IsCacheCoherentForAsk q kept) (made q)) is found
 
-    pub why_for : (Unread : Ask → Archive → Type 0) → FindsMade g old new result (IsUnreadBy (Unread asked) asked.reader)
-        → FindsMade g old new result (IsUnreadBy (Unread known) known.reader)
-    why_for Unread why = subst (λ (q : Ask). FindsMade g old new result (IsUnreadBy (Unread q) q.reader)) is why
+    pub why_for : (Unread : Ask → Archive → Type 0) → EndsFindingReply g old new result (IsUnreadableOrReaderUnknown (Unread asked) asked.reader)
+        → EndsFindingReply g old new result (IsUnreadableOrReaderUnknown (Unread known) known.reader)
+    why_for Unread why = subst (λ (q : Ask). EndsFindingReply g old new result (IsUnreadableOrReaderUnknown (Unread q) q.reader)) is why
 
-    pub keeps_for : (kept later : Keeping) → Keeps g old new asked.rules asked.day kept later → Keeps g old new known.rules known.day kept later
-    keeps_for kept later keeps = subst (λ (q : Ask). Keeps g old new q.rules q.day kept later) is keeps
+    pub keeps_for : (kept later : CacheState) → KeepsCacheCoherent g old new asked.rules asked.day kept later → KeepsCacheCoherent g old new known.rules known.day kept later
+    keeps_for kept later keeps = subst (λ (q : Ask). KeepsCacheCoherent g old new q.rules q.day kept later) is keeps

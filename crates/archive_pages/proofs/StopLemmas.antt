@@ -12,41 +12,41 @@ use Rattle.sqlite.specs.Effect.{Database}
 use Rattle.sqlite.specs.Held.{Held}
 use Rattle.sqlite.specs.State.{State}
 use Rattle.sqlite.specs.Files.{over_files, file_state, IsOpened}
-use Rattle.archive_machine.specs.Records.{Archive}
-use Rattle.archive_machine.specs.Commands.{Reply}
-use Rattle.archive_machine.specs.Machine.{Outcome}
-use Rattle.archive_tables.specs.Crashes.{CrashLeaves, IsSafe, IsStored}
-use Rattle.archive_tables.specs.Tables.{IsKept, AreTables, archive_in, archive_of}
-use Rattle.archive_store.specs.Crashes.{CrashSteps, StopsIn}
-use Rattle.archive_store.specs.Replies.{Does}
+use Rattle.archive_model.specs.Records.{Archive}
+use Rattle.archive_model.specs.Commands.{CommandReply}
+use Rattle.archive_model.specs.Machine.{StepOutcome}
+use Rattle.archive_tables.specs.Crashes.{CrashLeavesArchiveWhere, IsCrashSafe, IsArchiveStored}
+use Rattle.archive_tables.specs.Tables.{IsArchiveAtRest, AreArchiveTables, archive_in_trees, archive_of}
+use Rattle.archive_store.specs.Crashes.{CrashSteps, CrashAfterCommand}
+use Rattle.archive_store.specs.Replies.{PerformsModelStep}
 use Rattle.archive_store.specs.declared.store.Store.{Store}
-use Rattle.archive_pages.specs.Stopped.{AnswersBehindStop}
+use Rattle.archive_pages.specs.Stopped.{AnswersAfterCrash}
 use Rattle.archive_pages.proofs.RunningLemmas.{answers_from}
 
 -- the archive that is in a database which a stop leaves
-left_by : (cut : State) (before after : Archive) (reply : Option Reply) (db : Trees) → cut.may_leave db
-    → MatchOption reply (CrashLeaves cut (λ a. (a ≡ before) ⊎ (a ≡ after))) (λ _. (archive_of cut ≡ after) × IsSafe cut)
-    → (a : Archive) × MatchOption reply ((a ≡ before) ⊎ (a ≡ after)) (λ _. a ≡ after) × IsStored a db
+left_by : (cut : State) (before after : Archive) (reply : Option CommandReply) (db : Trees) → cut.may_leave db
+    → MatchOption reply (CrashLeavesArchiveWhere cut (λ a. (a ≡ before) ⊎ (a ≡ after))) (λ _. (archive_of cut ≡ after) × IsCrashSafe cut)
+    → (a : Archive) × MatchOption reply ((a ≡ before) ⊎ (a ≡ after)) (λ _. a ≡ after) × IsArchiveStored a db
 left_by cut before after None db may leaves = leaves db may
 left_by cut before after (Some told) db may stops = (archive_of cut, stops.0, stops.1 db may)
 
 module _ {D : Type 0} {g : Ghosts D} where
   -- a connection that was opened from files which hold it
-  kept_of : (opened : Held (FileStore D g)) (db : Trees) (a : Archive) → IsOpened opened → (file_state opened).now.trees ≡ db → IsStored a db
-      → IsKept (file_state opened)
+  kept_of : (opened : Held (FileStore D g)) (db : Trees) (a : Archive) → IsOpened opened → (file_state opened).now.trees ≡ db → IsArchiveStored a db
+      → IsArchiveAtRest (file_state opened)
   kept_of opened db a opens is stored =
       let lists = (opens.1 opens.0.is_open).0.lists in record {
         is_open = opens.0.is_open;
         autocommit = opens.0.autocommit;
         settled = sym opens.0.clean;
         schema = lists_once _ _ _ (subst (λ (t : Trees). Lists (t catalog_tree) (file_state opened).now.schema) is lists) stored.lists;
-        tables = subst AreTables (sym is) stored.tables;
+        tables = subst AreArchiveTables (sym is) stored.tables;
         whole = tt;
       }
 
-  pub answers_behind : (old cut opened : Held (FileStore D g)) (files : Files D) (store : Store (FileStore D g)) (step : Archive → Outcome) (reply : Option Reply)
-      → (Does over_files old cut step reply → CrashSteps over_files old cut step → StopsIn over_files old cut step reply)
-      → AnswersBehindStop old cut opened files store step reply
+  pub answers_behind : (old cut opened : Held (FileStore D g)) (files : Files D) (store : Store (FileStore D g)) (step : Archive → StepOutcome) (reply : Option CommandReply)
+      → (PerformsModelStep over_files old cut step reply → CrashSteps over_files old cut step → CrashAfterCommand over_files old cut step reply)
+      → AnswersAfterCrash old cut opened files store step reply
   answers_behind old cut opened files store step reply stops kept safe does crash clean it =
       let before = archive_of (file_state old) in
       let there = left_by (file_state cut) before (step before).0 reply it.db it.may (stops does crash clean kept safe) in
@@ -56,6 +56,6 @@ module _ {D : Type 0} {g : Ghosts D} where
         there.1,
         λ new returned rules day read_before read_after ends_before ends_after told_before told_after result said.
             answers_from over_files store new there.0 returned
-            (λ was. let found = it.adopted.found was held in (found.0, found.1 ∙ ap archive_in is ∙ there.2.remembers)) rules day
+            (λ was. let found = it.adopted.found was held in (found.0, found.1 ∙ ap archive_in_trees is ∙ there.2.remembers)) rules day
             result read_before read_after ends_before ends_after told_before told_after said,
       )

@@ -2,15 +2,15 @@
 use Rattle.std.proofs.Common.{◌≡◌, ◌++◌, refl, subst, ℕ, true, false, List, Result, Option, Some, None}
 use Rattle.std.specs.Prelude.{IfSome, if◌then◌else◌}
 use Rattle.std.specs.Option.{is_none}
-use Rattle.archive_requests.specs.Asked.{named_request}
-use Rattle.archive_requests.specs.Reading.{IsRequestAs}
+use Rattle.archive_requests.specs.Asked.{model_request}
+use Rattle.archive_requests.specs.Reading.{IsRequestReadOfInput}
 use Rattle.archive_requests.specs.Requests.{asks}
 use Rattle.archive_requests.specs.Routes.{Route, route_of}
 use Rattle.archive_requests.specs.declared.requests.Request.{Request as Asked}
 use Rattle.archive_requests.specs.declared.reading.RequestRead.TheVariants.{Whole, Malformed, TooLarge}
-use Rattle.archive_pages.specs.Replies.{Reply, Sends, not_found}
+use Rattle.archive_pages.specs.Replies.{Reply, SendsReply, not_found}
 use Rattle.archive_pages.specs.Answers.{unrouted_reply}
-use Rattle.archive_pages.specs.Answered.{IsUnrouted}
+use Rattle.archive_pages.specs.Answered.{Sends404IfUnrouted}
 use Rattle.archive_pages.specs.declared.faults.ServeFault.{ServeFault}
 
 -- ---- where routes are given
@@ -44,13 +44,13 @@ unrouted_nobody P path says = by_route P (route_of path) says
 -- ---- what was read of a head
 
 module _ (given more before after : List ℕ) (result : Result ℕ ServeFault) where
-  pub unrouted_whole : (request : Asked) → IsRequestAs given (given ++ more) (Whole request)
-      → IfSome (unrouted_reply (named_request request)) (λ wanted. Sends (λ reply. reply ≡ wanted) before after result) → IsUnrouted (given ++ more) before after result
+  pub unrouted_whole : (request : Asked) → IsRequestReadOfInput given (given ++ more) (Whole request)
+      → IfSome (unrouted_reply (model_request request)) (λ wanted. SendsReply (λ reply. reply ≡ wanted) before after result) → Sends404IfUnrouted (given ++ more) before after result
   unrouted_whole request is sent =
-      λ h begins. subst (λ q. IfSome (unrouted_reply q) (λ wanted. Sends (λ reply. reply ≡ wanted) before after result)) (is.head h begins) sent
+      λ h begins. subst (λ q. IfSome (unrouted_reply q) (λ wanted. SendsReply (λ reply. reply ≡ wanted) before after result)) (is.head h begins) sent
 
-  pub unrouted_bad : IsRequestAs given (given ++ more) Malformed → IsUnrouted (given ++ more) before after result
+  pub unrouted_bad : IsRequestReadOfInput given (given ++ more) Malformed → Sends404IfUnrouted (given ++ more) before after result
   unrouted_bad is = λ h begins. absurd (is.head h begins)
 
-  pub unrouted_large : IsRequestAs given (given ++ more) TooLarge → IsUnrouted (given ++ more) before after result
+  pub unrouted_large : IsRequestReadOfInput given (given ++ more) TooLarge → Sends404IfUnrouted (given ++ more) before after result
   unrouted_large is = λ h begins. absurd (is.head h begins)

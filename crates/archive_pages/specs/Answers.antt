@@ -5,16 +5,16 @@ use Rattle.std.specs.Option.{is_none, option_map_or}
 use Rattle.httparse.specs.Grammar.{RequestHead}
 use Rattle.civil_time.specs.Calendar.{month_of_text}
 use Rattle.policy_core.specs.Rules.{Rule}
-use Rattle.archive_machine.specs.Records.{Archive}
-use Rattle.archive_machine.specs.Questions.{has_list, list_names, merge_of, person_of_token}
-use Rattle.archive_machine.specs.Keys.{is_key}
-use Rattle.archive_results.specs.Access.{Ask, Asked, served, denied_by, absent, asked_of, view_of}
-use Rattle.archive_results.specs.Shown.{Shown, shown_of}
+use Rattle.archive_model.specs.Records.{Archive}
+use Rattle.archive_model.specs.Questions.{has_list, list_names, merge_of, person_of_token}
+use Rattle.archive_model.specs.Keys.{is_key}
+use Rattle.archive_results.specs.Access.{Ask, Asked, served, denied_by, absent, asked_for_key, view_of}
+use Rattle.archive_results.specs.Shown.{ShownMessage, shown_message}
 use Rattle.archive_results.specs.Results.{month_lines, author_lines, tree_lines, thread_lines, export_text}
 use Rattle.archive_html.specs.Pages.{lists_page, month_page, author_page, threads_page, thread_page}
 use Rattle.archive_requests.specs.Requests.{Request, bad, other_method, unauthorized as no_token, asks, request_of}
 use Rattle.archive_requests.specs.Routes.{Route, lists, message, month, threads, thread, author, mbox, route_of}
-use Rattle.archive_pages.specs.Replies.{Reply, page_reply, message_reply, mbox_reply, bad_request, unauthorized, forbidden, not_found, not_allowed}
+use Rattle.archive_pages.specs.Replies.{Reply, page_reply, message_reply, mbox_reply, bad_request, unauthorized, forbidden, not_found, method_not_allowed}
 
 -- ---- who asks
 
@@ -23,33 +23,33 @@ abbrev pub reader_of : Archive → (token : Option (List ℕ)) → Option (Optio
 reader_of archive None = Some None
 reader_of archive (Some token) = option_map Some (person_of_token archive token)
 
-abbrev pub asking : List Rule → ℤ → (reader : Option (List ℕ)) → (list : List ℕ) → Ask
-asking rules day reader list = record { rules = rules; reader = reader; list = list; day = day }
+abbrev pub ask_of_reader : List Rule → ℤ → (reader : Option (List ℕ)) → (list : List ℕ) → Ask
+ask_of_reader rules day reader list = record { rules = rules; reader = reader; list = list; day = day }
 
 -- what the reader is shown of the list: the messages that the policy allows, in mailbox order
-abbrev pub shown_view : Archive → Ask → List Shown
-shown_view archive ask = map shown_of (view_of archive ask)
+abbrev pub shown_view : Archive → Ask → List ShownMessage
+shown_view archive ask = map shown_message (view_of archive ask)
 
 -- ---- the answer of a route
 
 -- of one message, asked for by its key
-abbrev pub asked_reply : Asked → Reply
-asked_reply (served text) = message_reply text
-asked_reply (denied_by rule) = forbidden rule
-asked_reply absent = not_found
+abbrev pub lookup_reply : Asked → Reply
+lookup_reply (served text) = message_reply text
+lookup_reply (denied_by rule) = forbidden rule
+lookup_reply absent = not_found
 
-abbrev pub keyed_reply : Archive → Ask → (key : List ℕ) → Reply
-keyed_reply archive ask key = if is_key key then asked_reply (asked_of archive ask key) else not_found
+abbrev pub reply_by_key : Archive → Ask → (key : List ℕ) → Reply
+reply_by_key archive ask key = if is_key key then lookup_reply (asked_for_key archive ask key) else not_found
 
-abbrev pub month_reply : (list text : List ℕ) → List Shown → Reply
+abbrev pub month_reply : (list text : List ℕ) → List ShownMessage → Reply
 month_reply list text view = option_map_or (λ m. page_reply (month_page list m (month_lines m view))) (month_of_text text) not_found
 
-abbrev pub thread_reply : (merge : Bool) (list key : List ℕ) → List Shown → Reply
+abbrev pub thread_reply : (merge : Bool) (list key : List ℕ) → List ShownMessage → Reply
 thread_reply merge list key view =
     option_map_or (λ rows. page_reply (thread_page list rows)) (if is_key key then thread_lines merge key view else None) not_found
 
 -- of every other route on a list: a function of what the reader is shown and of the list's way of threading, alone
-abbrev pub view_reply : (merge : Bool) → Route → List Shown → Reply
+abbrev pub view_reply : (merge : Bool) → Route → List ShownMessage → Reply
 view_reply merge lists view = not_found
 view_reply merge (message list key) view = not_found
 view_reply merge (month list text) view = month_reply list text view
@@ -59,16 +59,16 @@ view_reply merge (author list key) view = page_reply (author_page list key (auth
 view_reply merge (mbox list) view = mbox_reply (export_text view)
 
 -- where the list is there
-abbrev pub listed_reply : Archive → (list : List ℕ) → Reply → Reply
-listed_reply archive list reply = if has_list archive list then reply else not_found
+abbrev pub reply_if_list_exists : Archive → (list : List ℕ) → Reply → Reply
+reply_if_list_exists archive list reply = if has_list archive list then reply else not_found
 
 -- of one message of a list
-abbrev pub message_for : Ask → (key : List ℕ) → Archive → Reply
-message_for ask key archive = listed_reply archive ask.list (keyed_reply archive ask key)
+abbrev pub reply_for_message : Ask → (key : List ℕ) → Archive → Reply
+reply_for_message ask key archive = reply_if_list_exists archive ask.list (reply_by_key archive ask key)
 
 -- of every other route on a list
 abbrev pub list_reply : Archive → Ask → Route → Reply
-list_reply archive ask route = listed_reply archive ask.list (view_reply (merge_of archive ask.list) route (shown_view archive ask))
+list_reply archive ask route = reply_if_list_exists archive ask.list (view_reply (merge_of archive ask.list) route (shown_view archive ask))
 
 -- of all lists
 abbrev pub lists_reply : Archive → Reply
@@ -76,7 +76,7 @@ lists_reply archive = page_reply (lists_page (list_names archive))
 
 abbrev pub route_reply : Archive → (ask_of : List ℕ → Ask) → Route → Reply
 route_reply archive ask_of lists = page_reply (lists_page (list_names archive))
-route_reply archive ask_of (message list key) = listed_reply archive list (keyed_reply archive (ask_of list) key)
+route_reply archive ask_of (message list key) = reply_if_list_exists archive list (reply_by_key archive (ask_of list) key)
 route_reply archive ask_of (month list text) = list_reply archive (ask_of list) (month list text)
 route_reply archive ask_of (threads list) = list_reply archive (ask_of list) (threads list)
 route_reply archive ask_of (thread list key) = list_reply archive (ask_of list) (thread list key)
@@ -84,34 +84,34 @@ route_reply archive ask_of (author list key) = list_reply archive (ask_of list) 
 route_reply archive ask_of (mbox list) = list_reply archive (ask_of list) (mbox list)
 
 -- an mbox is written message by message, any other reply is made before it is written
-abbrev pub is_mbox : Route → Bool
-is_mbox (mbox list) = true
-is_mbox _ = false
+abbrev pub is_mbox_route : Route → Bool
+is_mbox_route (mbox list) = true
+is_mbox_route _ = false
 
 -- what is made for a route; for an mbox nothing is, and that is 404
-abbrev pub made_reply : Archive → (ask_of : List ℕ → Ask) → Route → Reply
-made_reply archive ask_of route = if is_mbox route then not_found else route_reply archive ask_of route
+abbrev pub reply_unless_mbox : Archive → (ask_of : List ℕ → Ask) → Route → Reply
+reply_unless_mbox archive ask_of route = if is_mbox_route route then not_found else route_reply archive ask_of route
 
 -- ---- the checks, in their order
 
 -- no route fits the path: 404
 abbrev pub path_reply : Archive → List Rule → ℤ → (path : List ℕ) → (reader : Option (List ℕ)) → Reply
-path_reply archive rules day path reader = option_map_or (route_reply archive (asking rules day reader)) (route_of path) not_found
+path_reply archive rules day path reader = option_map_or (route_reply archive (ask_of_reader rules day reader)) (route_of path) not_found
 
 -- the token is looked at before the path
 abbrev pub request_reply : Archive → List Rule → ℤ → Request → Reply
 request_reply archive rules day bad = bad_request
-request_reply archive rules day other_method = not_allowed
+request_reply archive rules day other_method = method_not_allowed
 request_reply archive rules day no_token = unauthorized
 request_reply archive rules day (asks token path) =
     option_map_or (path_reply archive rules day path) (reader_of archive token) unauthorized
 
 -- The reply to a request that asks for no path: neither the archive nor memory is needed for it. None: it asks for one.
-abbrev pub direct_reply : Request → Option Reply
-direct_reply bad = Some bad_request
-direct_reply other_method = Some not_allowed
-direct_reply no_token = Some unauthorized
-direct_reply (asks token path) = None
+abbrev pub pathless_reply : Request → Option Reply
+pathless_reply bad = Some bad_request
+pathless_reply other_method = Some method_not_allowed
+pathless_reply no_token = Some unauthorized
+pathless_reply (asks token path) = None
 
 -- The reply to nobody who asks for a path that no route fits: the archive is not needed for it. None: another request; where it
 -- has a token, the person is looked for before the path.

@@ -6,7 +6,7 @@ pub mod Serving
 pub mod Causes
 pub mod KeptServing
 pub mod Answered
-pub mod Running
+pub mod Headline
 pub mod Reopened
 pub mod Stopped
 pub mod Calls

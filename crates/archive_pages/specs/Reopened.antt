@@ -9,11 +9,11 @@ use Rattle.sqlite.specs.State.{IsLive}
 use Rattle.sqlite.specs.Files.{over_files, file_state, Finds, IsOpened}
 use Rattle.sqlite.specs.Closing.{IsCopied}
 use Rattle.policy_core.specs.Rules.{Rule}
-use Rattle.archive_machine.specs.Records.{Archive}
-use Rattle.archive_store.specs.Told.{HoldsArchive, HasReturned, HoldsTables, archive_in}
+use Rattle.archive_model.specs.Records.{Archive}
+use Rattle.archive_store.specs.Told.{HoldsArchive, StoreHasCleanDisk, HoldsTables, archive_in}
 use Rattle.archive_store.specs.declared.store.Store.{Store}
-use Rattle.archive_pages.specs.Answered.{AnswersBy}
-use Rattle.archive_pages.specs.Running.{AnswersFrom}
+use Rattle.archive_pages.specs.Answered.{AnswersRequestFromStore}
+use Rattle.archive_pages.specs.Headline.{AnswersRequestFromArchive}
 use Rattle.archive_pages.specs.declared.faults.ServeFault.{ServeFault}
 
 module _ {D : Type 0} {g : Ghosts D} where
@@ -26,22 +26,22 @@ module _ {D : Type 0} {g : Ghosts D} where
     pub found : Finds files opened
     pub opens : IsOpened opened
     -- `Store::adopt`
-    pub adopted : (archive : Archive) → HoldsArchive over_files opened archive → HasReturned over_files store
+    pub adopted : (archive : Archive) → HoldsArchive over_files opened archive → StoreHasCleanDisk over_files store
         → HoldsTables over_files store × (archive_in over_files store ≡ archive)
 
   -- the clause of `answer`
-  abbrev pub Answers : (old new : Store (FileStore D g)) → List Rule → (day : ℤ) → (read_before read_after : List ℕ) → (ends_before ends_after : ℕ)
+  abbrev pub AnswersRequestFromFile : (old new : Store (FileStore D g)) → List Rule → (day : ℤ) → (read_before read_after : List ℕ) → (ends_before ends_after : ℕ)
       → (told_before told_after : List ℕ) → Result ℕ ServeFault → Type 0
-  Answers = AnswersBy over_files
+  AnswersRequestFromFile = AnswersRequestFromStore over_files
 
   -- what it comes to: each request to this store, which leaves that one, is answered out of this archive
-  abbrev pub AnswersOutOf : Archive → (store new : Store (FileStore D g)) → Type 0
-  AnswersOutOf archive store new = (rules : List Rule) (day : ℤ) (read_before read_after : List ℕ) (ends_before ends_after : ℕ) (told_before told_after : List ℕ)
+  abbrev pub AnswersEachRequestFromArchive : Archive → (store new : Store (FileStore D g)) → Type 0
+  AnswersEachRequestFromArchive archive store new = (rules : List Rule) (day : ℤ) (read_before read_after : List ℕ) (ends_before ends_after : ℕ) (told_before told_after : List ℕ)
       (result : Result ℕ ServeFault)
-      → Answers store new rules day read_before read_after ends_before ends_after told_before told_after result
-      → AnswersFrom archive rules day read_before read_after ends_before ends_after told_before told_after result
+      → AnswersRequestFromFile store new rules day read_before read_after ends_before ends_after told_before told_after result
+      → AnswersRequestFromArchive archive rules day read_before read_after ends_before ends_after told_before told_after result
 
   -- A request to a file that was closed while it held this archive, and was opened again, is answered out of this archive.
-  abbrev pub AnswersReopened : (closed opened : Held (FileStore D g)) → Files D → (store new : Store (FileStore D g)) → Archive → Type 0
-  AnswersReopened closed opened files store new archive =
-      HoldsArchive over_files closed archive → IsReopened closed opened files store → HasReturned over_files new → AnswersOutOf archive store new
+  abbrev pub AnswersFromReopenedFile : (closed opened : Held (FileStore D g)) → Files D → (store new : Store (FileStore D g)) → Archive → Type 0
+  AnswersFromReopenedFile closed opened files store new archive =
+      HoldsArchive over_files closed archive → IsReopened closed opened files store → StoreHasCleanDisk over_files new → AnswersEachRequestFromArchive archive store new

@@ -1,48 +1,48 @@
 -- Replies that are made of what a store remembers.
 use Rattle.std.specs.Prelude.{◌≡◌, ◌≢◌, ◌⊎◌, ℕ, List, Result, MatchResult, IfOk}
 use Rattle.sqlite.specs.Store.{Ghosts}
-use Rattle.archive_machine.specs.Records.{Archive}
-use Rattle.archive_store.specs.Uncounted.{uncounted}
-use Rattle.archive_store.specs.Told.{HasReturned, HoldsTables, IsShut, archive_in}
-use Rattle.archive_desk.specs.Holding.{GoesHeld, GoesHeldIfOpen}
+use Rattle.archive_model.specs.Records.{Archive}
+use Rattle.archive_store.specs.Uncounted.{without_refusal_count}
+use Rattle.archive_store.specs.Told.{StoreHasCleanDisk, HoldsTables, IsStoreClosed, archive_in}
+use Rattle.archive_desk.specs.Holding.{RelatesTableArchives, RelatesTableArchivesIfOpen}
 use Rattle.archive_store.specs.declared.store.Store.{Store}
-use Rattle.archive_pages.specs.Replies.{Reply, Sends, Breaks, IsBroken, unavailable}
+use Rattle.archive_pages.specs.Replies.{Reply, SendsReply, BreaksOffMbox, IsReplyBrokenOff, unavailable}
 use Rattle.archive_pages.specs.declared.faults.ServeFault.{ServeFault}
 
 module _ {S : Type 0} (g : Ghosts S) (old new : Store S) where
   -- where the store was shut, this is so of every archive, and not of one
-  abbrev pub OfEvery : (Archive → Type 0) → Type 0
-  OfEvery Says = HasReturned g new → IsShut g old → (a : Archive) → Says a
+  abbrev pub IsTrueOfEveryArchive : (Archive → Type 0) → Type 0
+  IsTrueOfEveryArchive Says = StoreHasCleanDisk g new → IsStoreClosed g old → (a : Archive) → Says a
 
   -- The store is left as it was, and this holds of what it remembers and of what was found; or memory or the database was at
   -- fault, and it is left as it was if its connection is still open. In a store that is shut nothing is found but what is so
   -- of every archive.
-  abbrev pub Finds : {A F : Type 0} → Result A F → (Archive → A → Type 0) → Type 0
-  Finds result Says = MatchResult result
-      (λ found. GoesHeld g old new (λ a b. (b ≡ a) × Says a found) × OfEvery (λ a. Says a found))
-      (λ _. GoesHeldIfOpen g old new (λ a b. b ≡ a))
+  abbrev pub FindsInArchive : {A F : Type 0} → Result A F → (Archive → A → Type 0) → Type 0
+  FindsInArchive result Says = MatchResult result
+      (λ found. RelatesTableArchives g old new (λ a b. (b ≡ a) × Says a found) × IsTrueOfEveryArchive (λ a. Says a found))
+      (λ _. RelatesTableArchivesIfOpen g old new (λ a b. b ≡ a))
 
   -- The same of a reply that went out. Where memory or the database was at fault it is 503; or it is an mbox of what the store
   -- remembered, which broke off (S3): exactly its first bytes went out, as many as the fault counts, and at least one.
-  abbrev pub Sent : (Archive → Reply → Type 0) → (told_before told_after : List ℕ) → Result ℕ ServeFault → Type 0
-  Sent Says before after result =
-      GoesHeld g old new (λ a b. (b ≡ a) × Sends (Says a) before after result)
-      ⊎ ((GoesHeldIfOpen g old new (λ a b. b ≡ a) × Sends (λ reply. reply ≡ unavailable) before after result)
-      ⊎ (GoesHeldIfOpen g old new (λ a b. b ≡ a)
-      × IsBroken result (λ written. HasReturned g new → HoldsTables g old → Breaks (Says (archive_in g old)) before after written)))
+  abbrev pub SendsFromArchive : (Archive → Reply → Type 0) → (told_before told_after : List ℕ) → Result ℕ ServeFault → Type 0
+  SendsFromArchive Says before after result =
+      RelatesTableArchives g old new (λ a b. (b ≡ a) × SendsReply (Says a) before after result)
+      ⊎ ((RelatesTableArchivesIfOpen g old new (λ a b. b ≡ a) × SendsReply (λ reply. reply ≡ unavailable) before after result)
+      ⊎ (RelatesTableArchivesIfOpen g old new (λ a b. b ≡ a)
+      × IsReplyBrokenOff result (λ written. StoreHasCleanDisk g new → HoldsTables g old → BreaksOffMbox (Says (archive_in g old)) before after written)))
 
-  pub record ServesBy (Says : Archive → Reply → Type 0) (before after : List ℕ) (result : Result ℕ ServeFault) : Type 0 where
-    pub sent : Sent Says before after result
+  pub record ServesFromStore (Says : Archive → Reply → Type 0) (before after : List ℕ) (result : Result ℕ ServeFault) : Type 0 where
+    pub sent : SendsFromArchive Says before after result
     -- out of a store that is shut 503, or a reply that is the same for every archive
-    pub shut : HasReturned g new → IsShut g old → Sends (λ reply. (reply ≡ unavailable) ⊎ ((a : Archive) → Says a reply)) before after result
+    pub shut : StoreHasCleanDisk g new → IsStoreClosed g old → SendsReply (λ reply. (reply ≡ unavailable) ⊎ ((a : Archive) → Says a reply)) before after result
 
 module _ {S : Type 0} (g : Ghosts S) (old new : Store S) where
   -- whatever is counted of the store
-  abbrev pub Serves : (Says : Archive → Reply → Type 0) (before after : List ℕ) (result : Result ℕ ServeFault) → Type 0
-  Serves Says before after result = ServesBy g (uncounted old) (uncounted new) Says before after result
+  abbrev pub ServesFromArchive : (Says : Archive → Reply → Type 0) (before after : List ℕ) (result : Result ℕ ServeFault) → Type 0
+  ServesFromArchive Says before after result = ServesFromStore g (without_refusal_count old) (without_refusal_count new) Says before after result
 
   -- What an answer leaves of a store, whatever the request and the reply, and whatever the fault: the same archive, if the
   -- connection is still open; and where a reply other than 503 went out, it is open, and ready for the next request.
-  pub record Stays (result : Result ℕ ServeFault) : Type 0 where
-    pub same : GoesHeldIfOpen g old new (λ a b. b ≡ a)
-    pub ready : IfOk result (λ status. status ≢ 503 → GoesHeld g old new (λ a b. b ≡ a))
+  pub record StoreKeepsArchive (result : Result ℕ ServeFault) : Type 0 where
+    pub same : RelatesTableArchivesIfOpen g old new (λ a b. b ≡ a)
+    pub ready : IfOk result (λ status. status ≢ 503 → RelatesTableArchives g old new (λ a b. b ≡ a))

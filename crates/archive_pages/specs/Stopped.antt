@@ -7,22 +7,22 @@ use Rattle.sqlite.specs.Tree.{Trees}
 use Rattle.sqlite.specs.Held.{Held}
 use Rattle.sqlite.specs.State.{HasCleanDisk}
 use Rattle.sqlite.specs.Files.{over_files, file_state, image_of, Finds, HoldsDatabase, IsOpened}
-use Rattle.archive_machine.specs.Records.{Archive}
-use Rattle.archive_machine.specs.Commands.{Reply}
-use Rattle.archive_machine.specs.Machine.{Outcome}
-use Rattle.archive_tables.specs.Crashes.{IsSafe}
-use Rattle.archive_tables.specs.Tables.{IsKept, archive_of}
+use Rattle.archive_model.specs.Records.{Archive}
+use Rattle.archive_model.specs.Commands.{CommandReply}
+use Rattle.archive_model.specs.Machine.{StepOutcome}
+use Rattle.archive_tables.specs.Crashes.{IsCrashSafe}
+use Rattle.archive_tables.specs.Tables.{IsArchiveAtRest, archive_of}
 use Rattle.archive_store.specs.Adopting.{IsAdopted}
 use Rattle.archive_store.specs.Crashes.{CrashSteps}
-use Rattle.archive_store.specs.Replies.{Does}
-use Rattle.archive_store.specs.Told.{HasReturned}
+use Rattle.archive_store.specs.Replies.{PerformsModelStep}
+use Rattle.archive_store.specs.Told.{StoreHasCleanDisk}
 use Rattle.archive_store.specs.declared.store.Store.{Store}
-use Rattle.archive_pages.specs.Reopened.{AnswersOutOf}
+use Rattle.archive_pages.specs.Reopened.{AnswersEachRequestFromArchive}
 
 module _ {D : Type 0} {g : Ghosts D} where
   -- A store that was opened behind a stop: the files hold a database that the stop may leave of the connection that it cut off. What
   -- follows are clauses of the calls that are named.
-  pub record IsOpenedBehind (cut opened : Held (FileStore D g)) (files : Files D) (store : Store (FileStore D g)) : Type 0 where
+  pub record IsOpenedAfterCrash (cut opened : Held (FileStore D g)) (files : Files D) (store : Store (FileStore D g)) : Type 0 where
     pub db : Trees
     pub may : (file_state cut).may_leave db
     pub held : HoldsDatabase (image_of g files) db
@@ -35,11 +35,11 @@ module _ {D : Type 0} {g : Ghosts D} where
   -- A command to a connection of which a stop leaves what it remembers, as it is between calls, and a stop in the command or behind it. Then
   -- there is one archive out of which each request to the file that is opened again is answered: the one before the command, or the one
   -- that the machine makes of it; and where the command was answered, the latter. `does` and `crash` are clauses of the command.
-  abbrev pub AnswersBehindStop : (old cut opened : Held (FileStore D g)) → Files D → Store (FileStore D g) → (Archive → Outcome) → Option Reply → Type 0
-  AnswersBehindStop old cut opened files store step reply =
-      IsKept (file_state old) → IsSafe (file_state old) → (does : Does over_files old cut step reply) → (crash : CrashSteps over_files old cut step)
-      → HasCleanDisk (file_state cut) → IsOpenedBehind cut opened files store →
+  abbrev pub AnswersAfterCrash : (old cut opened : Held (FileStore D g)) → Files D → Store (FileStore D g) → (Archive → StepOutcome) → Option CommandReply → Type 0
+  AnswersAfterCrash old cut opened files store step reply =
+      IsArchiveAtRest (file_state old) → IsCrashSafe (file_state old) → (does : PerformsModelStep over_files old cut step reply) → (crash : CrashSteps over_files old cut step)
+      → HasCleanDisk (file_state cut) → IsOpenedAfterCrash cut opened files store →
       let before = archive_of (file_state old) in
       let after = (step before).0 in
       (archive : Archive) × MatchOption reply ((archive ≡ before) ⊎ (archive ≡ after)) (λ _. archive ≡ after)
-      × ((new : Store (FileStore D g)) → HasReturned over_files new → AnswersOutOf archive store new)
+      × ((new : Store (FileStore D g)) → StoreHasCleanDisk over_files new → AnswersEachRequestFromArchive archive store new)

@@ -1,21 +1,21 @@
 //! Answering a request: from the bytes of its head to the bytes of the reply.
 ghost use Rattle.std.specs.Prelude.{◌≡◌, ◌++◌, ⊤, ℕ, List, OnOk, IfErr, IfSome};
 ghost use Rattle.httparse.specs.Grammar.{HasNoRequest};
-ghost use Rattle.archive_desk.specs.Holding.{GoesHeld};
-ghost use Rattle.archive_requests.specs.Reading.{IsRequestAs};
-ghost use Rattle.archive_pages.specs.Answered.{AnswersBy, ByOutcome, IsAnswered, IsUnrouted, Reads};
-ghost use Rattle.archive_pages.specs.Calls.{AreKept, EndsAnswer, EndsPages, KeepsOn};
-ghost use Rattle.archive_pages.specs.Causes.{IsReadUnread, IsUnreadIn, ServesOr};
-ghost use Rattle.archive_pages.specs.KeptServing.{OfRemembered};
-ghost use Rattle.archive_pages.specs.Replies.{IsServeStop};
-ghost use Rattle.archive_pages.specs.Serving.{Stays};
+ghost use Rattle.archive_desk.specs.Holding.{RelatesTableArchives};
+ghost use Rattle.archive_requests.specs.Reading.{IsRequestReadOfInput};
+ghost use Rattle.archive_pages.specs.Answered.{AnswersRequestFromStore, IfAnsweredOrUnread, IsAnsweredFromStore, Sends404IfUnrouted, ReadsRequestInput};
+ghost use Rattle.archive_pages.specs.Calls.{IsPagesCacheCoherent, EndsAnswer, EndsReplyFromPages, ChangesOnlyPagesCache};
+ghost use Rattle.archive_pages.specs.Causes.{IsReadRequestDataUnreadable, IsInputDataUnreadable, ServesOr503};
+ghost use Rattle.archive_pages.specs.KeptServing.{IsTrueOfRememberedArchive};
+ghost use Rattle.archive_pages.specs.Replies.{HasServeFaultCause};
+ghost use Rattle.archive_pages.specs.Serving.{StoreKeepsArchive};
 
 use crate::faults::ServeFault;
 use crate::pages::Pages;
 use crate::paths::answer_request;
 use crate::replies::Failure;
 use crate::writing::write_failure;
-use archive_kept::Kept;
+use archive_cache::Cache;
 use archive_requests::{MOST_BYTES, RequestRead, read_request};
 use archive_store::Store;
 use civil_time::Day;
@@ -33,17 +33,17 @@ fn answer_read<T: Threader, S: Alter, W: Sink>(
     read: &RequestRead<'_>,
     output: &mut W,
 ) -> Result<StatusCode, ServeFault>
-    ensures answered { OfRemembered S.Store store.old store.new (AreKept pages.old)
-        → (given more : List ℕ) → IsRequestAs given (given ++ more) read.now
-        → IsAnswered S.Store store.old store.new pages.old.policy.now pages.old.day given
+    ensures answered { IsTrueOfRememberedArchive S.Store store.old store.new (IsPagesCacheCoherent pages.old)
+        → (given more : List ℕ) → IsRequestReadOfInput given (given ++ more) read.now
+        → IsAnsweredFromStore S.Store store.old store.new pages.old.policy.now pages.old.day given
         (given ++ more)
         (W.told output.old) (W.told output.new) result }
     ensures unrouted { IfSome pages.old.routes
-        (λ _. (given more : List ℕ) → IsRequestAs given (given ++ more) read.now
-        → IsUnrouted (given ++ more) (W.told output.old) (W.told output.new) result) }
-    ensures stays { Stays S.Store store.old store.new result }
-    ensures ends { EndsPages S.Store W.Sink store.old store.new output.old output.new result
-        (IsReadUnread pages.old.policy.now pages.old.day read.now) pages.old pages.new }
+        (λ _. (given more : List ℕ) → IsRequestReadOfInput given (given ++ more) read.now
+        → Sends404IfUnrouted (given ++ more) (W.told output.old) (W.told output.new) result) }
+    ensures stays { StoreKeepsArchive S.Store store.old store.new result }
+    ensures ends { EndsReplyFromPages S.Store W.Sink store.old store.new output.old output.new result
+        (IsReadRequestDataUnreadable pages.old.policy.now pages.old.day read.now) pages.old pages.new }
 {
     match read {
         RequestRead::Whole(request) => answer_request(store, pages, request, output),
@@ -54,25 +54,25 @@ fn answer_read<T: Threader, S: Alter, W: Sink>(
 
 /// Answers one request as `answer` does, out of what is kept where it can, and keeps the outline of a list that it reads for
 /// threads, of a month and of an author. What is kept has to be of what the store remembers, this policy and this day: then the reply is the one of `answer`,
-/// and what is kept stays so. Nothing is kept at first (`Kept::new`), and only this call may change it. With routes a head without
+/// and what is kept stays so. Nothing is kept at first (`Cache::new`), and only this call may change it. With routes a head without
 /// a token that asks for a path that no route fits gets 404 and nothing else; without them a router is made where the path is looked
 /// at, which is 503 where there is no memory for it.
-pub fn answer_kept<T: Threader, S: Alter, R: Source, W: Sink>(
+pub fn answer_cached<T: Threader, S: Alter, R: Source, W: Sink>(
     store: &mut Store<S>,
     pages: &mut Pages<'_, T>,
     input: &mut R,
     output: &mut W,
 ) -> Result<StatusCode, ServeFault>
-    ensures answered { OfRemembered S.Store store.old store.new (AreKept pages.old)
-        → AnswersBy S.Store store.old store.new pages.old.policy.now pages.old.day
+    ensures answered { IsTrueOfRememberedArchive S.Store store.old store.new (IsPagesCacheCoherent pages.old)
+        → AnswersRequestFromStore S.Store store.old store.new pages.old.policy.now pages.old.day
         (R.told input.old) (R.told input.new) (R.ends input.old) (R.ends input.new)
         (W.told output.old) (W.told output.new) result }
-    ensures unrouted { IfSome pages.old.routes (λ _. ByOutcome result
-        (Reads (R.told input.old) (R.told input.new) (R.ends input.old) (R.ends input.new)
-        (λ given all. IsUnrouted all (W.told output.old) (W.told output.new) result)) ⊤) }
-    ensures keeps { KeepsOn S.Store store.old store.new pages.old pages.new }
+    ensures unrouted { IfSome pages.old.routes (λ _. IfAnsweredOrUnread result
+        (ReadsRequestInput (R.told input.old) (R.told input.new) (R.ends input.old) (R.ends input.new)
+        (λ given all. Sends404IfUnrouted all (W.told output.old) (W.told output.new) result)) ⊤) }
+    ensures keeps { ChangesOnlyPagesCache S.Store store.old store.new pages.old pages.new }
     ensures ends { EndsAnswer S.Store R.Source W.Sink store.old store.new input.old input.new output.old output.new result }
-    ensures caused { ServesOr S.Store store.old store.new result (IsUnreadIn
+    ensures caused { ServesOr503 S.Store store.old store.new result (IsInputDataUnreadable
         (R.told input.old) (R.told input.new) pages.old.policy.now pages.old.day) }
 {
     let mut buffer = [0; MOST_BYTES];
@@ -97,20 +97,20 @@ pub fn answer<T: Threader, S: Alter, R: Source, W: Sink>(
     input: &mut R,
     output: &mut W,
 ) -> Result<StatusCode, ServeFault>
-    ensures answered { ByOutcome result
-        (Reads (R.told input.old) (R.told input.new) (R.ends input.old) (R.ends input.new)
-        (λ given all. IsAnswered S.Store store.old store.new policy.now day given all
+    ensures answered { IfAnsweredOrUnread result
+        (ReadsRequestInput (R.told input.old) (R.told input.new) (R.ends input.old) (R.ends input.new)
+        (λ given all. IsAnsweredFromStore S.Store store.old store.new policy.now day given all
         (W.told output.old) (W.told output.new) result))
         ((given : List ℕ) × (R.told input.new ≡ R.told input.old ++ given) × HasNoRequest given
         × (W.told output.new ≡ W.told output.old)
-        × GoesHeld S.Store store.old store.new (λ a b. b ≡ a)) }
-    ensures stays { Stays S.Store store.old store.new result }
+        × RelatesTableArchives S.Store store.old store.new (λ a b. b ≡ a)) }
+    ensures stays { StoreKeepsArchive S.Store store.old store.new result }
     ensures quiet { OnOk result ((R.failures input.new ≡ R.failures input.old)
         × (W.failures output.new ≡ W.failures output.old)) }
-    ensures cause { IfErr result (λ fault. IsServeStop (W.told output.old) (W.told output.new)
+    ensures cause { IfErr result (λ fault. HasServeFaultCause (W.told output.old) (W.told output.new)
         (R.failures input.old) (R.failures input.new)
         (W.failures output.old) (W.failures output.new) fault) }
-    ensures caused { ServesOr S.Store store.old store.new result (IsUnreadIn
+    ensures caused { ServesOr503 S.Store store.old store.new result (IsInputDataUnreadable
         (R.told input.old) (R.told input.new) policy.now day) }
 {
     let mut pages = Pages {
@@ -119,7 +119,7 @@ pub fn answer<T: Threader, S: Alter, R: Source, W: Sink>(
         threader,
         day,
         routes: None,
-        kept: Kept::new(alloc, 0),
+        kept: Cache::new(alloc, 0),
     };
-    answer_kept(store, &mut pages, input, output)
+    answer_cached(store, &mut pages, input, output)
 }

@@ -1,17 +1,17 @@
 //! What is asked of the store and of the desk.
 ghost use Rattle.std.specs.Prelude.{◌≡◌, option_map, string_bytes};
-ghost use Rattle.archive_machine.specs.Questions.{person_of_token};
-ghost use Rattle.archive_desk.specs.Readable.{AreListsUnreadable, IsHolderUnreadable};
-ghost use Rattle.archive_pages.specs.Answers.{lists_reply, message_for};
-ghost use Rattle.archive_kept.specs.Kept.{Keeps};
-ghost use Rattle.archive_pages.specs.Calls.{AreFor, FindsMade, FindsReply, FindsReplyIf};
-ghost use Rattle.archive_pages.specs.Causes.{FindsOr, IsMessageUnread, IsUnreadBy};
-ghost use Rattle.archive_pages.specs.Serving.{Finds};
+ghost use Rattle.archive_model.specs.Questions.{person_of_token};
+ghost use Rattle.archive_desk.specs.Readable.{AreListsUnreadable, IsTokenHolderUnreadable};
+ghost use Rattle.archive_pages.specs.Answers.{lists_reply, reply_for_message};
+ghost use Rattle.archive_cache.specs.Coherence.{KeepsCacheCoherent};
+ghost use Rattle.archive_pages.specs.Calls.{IsCacheCoherentForAsk, EndsFindingReply, FindsReply, FindsReplyIf};
+ghost use Rattle.archive_pages.specs.Causes.{FindsOrHasCause, IsMessageDataUnreadable, IsUnreadableOrReaderUnknown};
+ghost use Rattle.archive_pages.specs.Serving.{FindsInArchive};
 
 use crate::replies::{Failure, Reply, Unavailable};
-use archive_desk::DeskFault;
+use archive_cache::Cache;
+use archive_desk::DeskError;
 use archive_html::lists_page;
-use archive_kept::Kept;
 use archive_results::{Ask, Asked};
 use archive_store::{Key, Store};
 use sqlite::Alter;
@@ -22,10 +22,10 @@ pub(crate) fn find_person<S: Alter>(
     store: &mut Store<S>,
     token: &str,
 ) -> Result<Option<String>, Unavailable>
-    ensures found { Finds S.Store store.old store.new result
+    ensures found { FindsInArchive S.Store store.old store.new result
         (λ a name. option_map string_bytes name ≡ person_of_token a token.now) }
-    ensures caused { FindsOr S.Store store.old store.new result
-        (λ a. IsHolderUnreadable a token.now) }
+    ensures caused { FindsOrHasCause S.Store store.old store.new result
+        (λ a. IsTokenHolderUnreadable a token.now) }
 {
     match store.person_of_token(token) {
         Ok(name) => Ok(name),
@@ -39,7 +39,7 @@ pub(crate) fn find_lists<S: Alter>(
     alloc: Global,
 ) -> Result<Reply<'static>, Unavailable>
     ensures found { FindsReply S.Store store.old store.new result lists_reply }
-    ensures why { FindsMade S.Store store.old store.new result AreListsUnreadable }
+    ensures why { EndsFindingReply S.Store store.old store.new result AreListsUnreadable }
 {
     let names = match store.lists(alloc) {
         Ok(names) => names,
@@ -48,7 +48,7 @@ pub(crate) fn find_lists<S: Alter>(
     match lists_page(alloc, &names) {
         Ok(page) => Ok(Reply::Page(page)),
         Err(refused) => {
-            store.wants.raise(refused.into());
+            store.wants.increment(refused.into());
             Err(Unavailable)
         }
     }
@@ -57,26 +57,26 @@ pub(crate) fn find_lists<S: Alter>(
 /// What a reader gets who asks for a message by its key: a denial out of what is kept of it, or what the store holds.
 pub(crate) fn find_message<'p, S: Alter>(
     store: &mut Store<S>,
-    kept: &mut Kept,
+    kept: &mut Cache,
     alloc: Global,
     ask: &Ask<'p>,
     key: &str,
 ) -> Result<Reply<'p>, Unavailable>
-    ensures found { FindsReplyIf S.Store store.old store.new result (AreFor ask.entry.now kept.old)
-        (message_for ask.entry.now key.now) }
-    ensures keeps { Keeps S.Store store.old store.new ask.entry.now.rules ask.entry.now.day kept.old kept.new }
-    ensures why { FindsMade S.Store store.old store.new result
-        (IsUnreadBy (IsMessageUnread ask.entry.now key.now) ask.entry.now.reader) }
+    ensures found { FindsReplyIf S.Store store.old store.new result (IsCacheCoherentForAsk ask.entry.now kept.old)
+        (reply_for_message ask.entry.now key.now) }
+    ensures keeps { KeepsCacheCoherent S.Store store.old store.new ask.entry.now.rules ask.entry.now.day kept.old kept.new }
+    ensures why { EndsFindingReply S.Store store.old store.new result
+        (IsUnreadableOrReaderUnknown (IsMessageDataUnreadable ask.entry.now key.now) ask.entry.now.reader) }
 {
     let Some(key) = Key::read(key) else {
         return Ok(Reply::Failed(Failure::NotFound));
     };
-    match archive_kept::find_message(store, kept, alloc, ask, &key) {
+    match archive_cache::find_message(store, kept, alloc, ask, &key) {
         Ok(Asked::Served(text)) => Ok(Reply::Message(text)),
         Ok(Asked::Denied(rule)) => Ok(Reply::Forbidden(rule)),
         Ok(Asked::Absent) => Ok(Reply::Failed(Failure::NotFound)),
         Err(fault) => match fault {
-            DeskFault::NoList => Ok(Reply::Failed(Failure::NotFound)),
+            DeskError::NoList => Ok(Reply::Failed(Failure::NotFound)),
             _ => Err(Unavailable),
         },
     }

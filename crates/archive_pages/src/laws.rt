@@ -8,19 +8,19 @@ ghost use Rattle.sqlite_trees.specs.declared.memory.MemStore.{MemStore};
 ghost use Rattle.sqlite.specs.Held.{Held};
 ghost use Rattle.sqlite.specs.Steps.{over_memory};
 ghost use Rattle.policy_core.specs.Rules.{Rule};
-ghost use Rattle.archive_machine.specs.Commands.{Reply};
-ghost use Rattle.archive_machine.specs.Machine.{Outcome};
-ghost use Rattle.archive_machine.specs.Records.{Archive};
+ghost use Rattle.archive_model.specs.Commands.{CommandReply};
+ghost use Rattle.archive_model.specs.Machine.{StepOutcome};
+ghost use Rattle.archive_model.specs.Records.{Archive};
 ghost use Rattle.archive_store.specs.declared.store.Store.{Store};
-ghost use Rattle.archive_store.specs.Told.{HasNoLimit, HoldsTables, WasRefused, archive_in};
-ghost use Rattle.archive_desk.specs.Holding.{GoesHeld};
+ghost use Rattle.archive_store.specs.Told.{HasNoStepLimit, HoldsTables, MemoryWasRefused, archive_in};
+ghost use Rattle.archive_desk.specs.Holding.{RelatesTableArchives};
 ghost use Rattle.archive_desk.specs.Readable.{CanBeRead};
-ghost use Rattle.archive_pages.specs.Causes.{IsUnreadIn, IsUnserved, ServesOr};
+ghost use Rattle.archive_pages.specs.Causes.{IsInputDataUnreadable, Sent503OrBrokeOff, ServesOr503};
 ghost use Rattle.archive_pages.specs.declared.faults.ServeFault.{ServeFault};
-ghost use Rattle.archive_pages.specs.Laws.{EqualViews, IsAsIfItNeverCame, LeavesNoTrace, StaysAsIfItNeverCame, StaysHeldBack, ServesWhatIsAllowed, DeniesWhatIsDenied, ShowsWhatIsAllowed};
-ghost use Rattle.archive_pages.specs.Reopened.{AnswersReopened};
-ghost use Rattle.archive_pages.specs.Serving.{Stays};
-ghost use Rattle.archive_pages.specs.Stopped.{AnswersBehindStop};
+ghost use Rattle.archive_pages.specs.Laws.{EqualViews, IsAsIfItNeverCame, WithheldLeavesNoTrace, StaysAsIfItNeverCame, StaysEmbargoed, ServesWhatIsAllowed, DeniesWhatIsDenied, ShowsWhatIsAllowed};
+ghost use Rattle.archive_pages.specs.Reopened.{AnswersFromReopenedFile};
+ghost use Rattle.archive_pages.specs.Serving.{StoreKeepsArchive};
+ghost use Rattle.archive_pages.specs.Stopped.{AnswersAfterCrash};
 
 use archive_results::laws::what_is_withheld_is_so_later;
 use archive_store::laws::{
@@ -65,9 +65,9 @@ pub fn results_are_of_what_is_allowed()
 /// policy does not show a message are those of the archive in which it never came, byte for byte.
 /// That is so of every archive, and so at any time, and of whatever hides the message.
 pub fn what_is_withheld_leaves_no_trace()
-    ensures always { LeavesNoTrace }
+    ensures always { WithheldLeavesNoTrace }
     ensures withdrawn { StaysAsIfItNeverCame }
-    ensures held_back { StaysHeldBack }
+    ensures held_back { StaysEmbargoed }
 {
     what_is_withheld_is_so_later();
 }
@@ -85,7 +85,7 @@ pub fn what_is_withdrawn_might_never_have_come()
 pub fn a_file_opened_again_is_answered_alike<D: Disk>()
     ensures { (closed opened : Held (FileStore D D.Disk)) (files : Files D)
         (store new : Store (FileStore D D.Disk)) (archive : Archive)
-        → AnswersReopened closed opened files store new archive }
+        → AnswersFromReopenedFile closed opened files store new archive }
 {
     a_file_opened_again_holds_the_same_archive::<D>();
 }
@@ -96,8 +96,8 @@ pub fn a_file_opened_again_is_answered_alike<D: Disk>()
 /// that access leaves.
 pub fn a_file_opened_after_a_stop_is_answered_for_one_of_the_two<D: Disk>()
     ensures { (old cut opened : Held (FileStore D D.Disk)) (files : Files D)
-        (store : Store (FileStore D D.Disk)) (step : Archive → Outcome) (reply : Option Reply)
-        → AnswersBehindStop old cut opened files store step reply }
+        (store : Store (FileStore D D.Disk)) (step : Archive → StepOutcome) (reply : Option CommandReply)
+        → AnswersAfterCrash old cut opened files store step reply }
 {
     a_crash_leaves_the_archive_before_a_command_or_after_it::<sqlite::FileStore<D>>();
 }
@@ -106,8 +106,8 @@ pub fn a_file_opened_after_a_stop_is_answered_for_one_of_the_two<D: Disk>()
 /// ready for it, and remembers the same archive.
 pub fn in_memory_each_request_is_followed_by_the_next()
     ensures { (old new : Store MemStore) (result : Result ℕ ServeFault)
-        → Stays over_memory old new result
-        → GoesHeld over_memory old new (λ a b. b ≡ a) }
+        → StoreKeepsArchive over_memory old new result
+        → RelatesTableArchives over_memory old new (λ a b. b ≡ a) }
 {}
 
 /// In memory, out of an archive that commands wrote, 503 and S3 mean that memory was refused in that
@@ -115,7 +115,7 @@ pub fn in_memory_each_request_is_followed_by_the_next()
 pub fn in_memory_503_means_that_memory_was_refused()
     ensures { (old new : Store MemStore) (result : Result ℕ ServeFault)
         (told_before told_after : List ℕ) (rules : List Rule) (day : ℤ)
-        → HoldsTables over_memory old → HasNoLimit over_memory old
-        → CanBeRead (archive_in over_memory old) → ServesOr over_memory old new result
-        (IsUnreadIn told_before told_after rules day) → IsUnserved result → WasRefused old new }
+        → HoldsTables over_memory old → HasNoStepLimit over_memory old
+        → CanBeRead (archive_in over_memory old) → ServesOr503 over_memory old new result
+        (IsInputDataUnreadable told_before told_after rules day) → Sent503OrBrokeOff result → MemoryWasRefused old new }
 {}

@@ -13,7 +13,7 @@ mod routing;
 mod running;
 mod writing;
 
-pub use answering::{answer, answer_kept};
+pub use answering::{answer, answer_cached};
 pub use faults::ServeFault;
-pub use pages::{Pages, Peer};
+pub use pages::{Client, Pages};
 pub use running::{run_and_answer, run_and_answer_in_memory};

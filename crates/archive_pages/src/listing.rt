@@ -2,18 +2,18 @@
 ghost use Rattle.std.specs.Prelude.{◌<◌, IfOk, IfSome, length};
 ghost use Rattle.percent_encoding.specs.Percent.{percent_decode};
 ghost use Rattle.archive_requests.specs.Routes.{author, month, thread, threads};
-ghost use Rattle.archive_kept.specs.Kept.{Keeps};
-ghost use Rattle.archive_kept.specs.Parts.{part_named};
+ghost use Rattle.archive_cache.specs.Coherence.{KeepsCacheCoherent};
+ghost use Rattle.archive_cache.specs.Parts.{model_part};
 ghost use Rattle.archive_pages.specs.Answers.{list_reply};
-ghost use Rattle.archive_pages.specs.Calls.{AreFor, FindsMade, FindsReplyIf, IsPlace};
-ghost use Rattle.archive_pages.specs.Causes.{FindsOr, IsListUnread, IsUnreadBy};
-ghost use Rattle.archive_pages.specs.KeptServing.{FindsIf};
+ghost use Rattle.archive_pages.specs.Calls.{IsCacheCoherentForAsk, EndsFindingReply, FindsReplyIf, IsCachedIndexPlace};
+ghost use Rattle.archive_pages.specs.Causes.{FindsOrHasCause, IsListDataUnreadable, IsUnreadableOrReaderUnknown};
+ghost use Rattle.archive_pages.specs.KeptServing.{FindsInArchiveIf};
 
 use crate::replies::{Failure, Reply, Unavailable};
-use archive_desk::DeskFault;
+use archive_cache::{Cache, ViewPart, get_or_build_index};
+use archive_desk::DeskError;
 use archive_html::{author_page, month_page, thread_page, threads_page};
-use archive_kept::{Kept, Part, find_outline};
-use archive_requests::decoded;
+use archive_requests::percent_decoded;
 use archive_results::Ask;
 use archive_store::{Key, Store};
 use civil_time::Month;
@@ -24,23 +24,23 @@ use thread_core::Threader;
 /// The place of the outline of what is asked for, which is kept, or is read and kept. `None`: there is no such list.
 pub(crate) fn find_place<T: Threader, S: Alter>(
     store: &mut Store<S>,
-    kept: &mut Kept,
+    kept: &mut Cache,
     alloc: Global,
     ask: &Ask<'_>,
-    part: &Part<'_>,
+    part: &ViewPart<'_>,
     threader: &T,
 ) -> Result<Option<usize>, Unavailable>
-    ensures found { FindsIf S.Store store.old store.new (AreFor ask.now kept.old) result
-        (λ a place. IsPlace a ask.now kept.new (part_named part.now) place) }
+    ensures found { FindsInArchiveIf S.Store store.old store.new (IsCacheCoherentForAsk ask.now kept.old) result
+        (λ a place. IsCachedIndexPlace a ask.now kept.new (model_part part.now) place) }
     ensures there { IfOk result (λ place. IfSome place (λ at. at < length kept.new.views)) }
-    ensures keeps { Keeps S.Store store.old store.new ask.now.rules ask.now.day kept.old kept.new }
-    ensures caused { FindsOr S.Store store.old store.new result
-        (IsUnreadBy (IsListUnread ask.now) ask.now.reader) }
+    ensures keeps { KeepsCacheCoherent S.Store store.old store.new ask.now.rules ask.now.day kept.old kept.new }
+    ensures caused { FindsOrHasCause S.Store store.old store.new result
+        (IsUnreadableOrReaderUnknown (IsListDataUnreadable ask.now) ask.now.reader) }
 {
-    match find_outline(store, kept, alloc, ask, part, threader) {
+    match get_or_build_index(store, kept, alloc, ask, part, threader) {
         Ok(place) => Ok(Some(place)),
         Err(fault) => match fault {
-            DeskFault::NoList => Ok(None),
+            DeskError::NoList => Ok(None),
             _ => Err(Unavailable),
         },
     }
@@ -49,22 +49,22 @@ pub(crate) fn find_place<T: Threader, S: Alter>(
 /// The page of a month, which the path has as `yyyy-mm`, out of its outline, which is kept, or is read and kept.
 pub(crate) fn find_month<T: Threader, S: Alter>(
     store: &mut Store<S>,
-    kept: &mut Kept,
+    kept: &mut Cache,
     alloc: Global,
     ask: &Ask<'_>,
     threader: &T,
     text: &str,
 ) -> Result<Reply<'static>, Unavailable>
-    ensures found { FindsReplyIf S.Store store.old store.new result (AreFor ask.now kept.old)
+    ensures found { FindsReplyIf S.Store store.old store.new result (IsCacheCoherentForAsk ask.now kept.old)
         (λ a. list_reply a ask.now (month ask.now.list text.now)) }
-    ensures keeps { Keeps S.Store store.old store.new ask.now.rules ask.now.day kept.old kept.new }
-    ensures why { FindsMade S.Store store.old store.new result
-        (IsUnreadBy (IsListUnread ask.now) ask.now.reader) }
+    ensures keeps { KeepsCacheCoherent S.Store store.old store.new ask.now.rules ask.now.day kept.old kept.new }
+    ensures why { EndsFindingReply S.Store store.old store.new result
+        (IsUnreadableOrReaderUnknown (IsListDataUnreadable ask.now) ask.now.reader) }
 {
     let Some(asked) = Month::read(text.as_bytes()) else {
         return Ok(Reply::Failed(Failure::NotFound));
     };
-    let Some(place) = find_place(store, kept, alloc, ask, &Part::Month(asked), threader)? else {
+    let Some(place) = find_place(store, kept, alloc, ask, &ViewPart::Month(asked), threader)? else {
         return Ok(Reply::Failed(Failure::NotFound));
     };
     let Some(outline) = kept.outline(place) else {
@@ -73,7 +73,7 @@ pub(crate) fn find_month<T: Threader, S: Alter>(
     match month_page(alloc, ask.list, asked, outline.lines()) {
         Ok(page) => Ok(Reply::Page(page)),
         Err(refused) => {
-            store.wants.raise(refused.into());
+            store.wants.increment(refused.into());
             Err(Unavailable)
         }
     }
@@ -83,26 +83,26 @@ pub(crate) fn find_month<T: Threader, S: Alter>(
 /// without them.
 pub(crate) fn find_author<T: Threader, S: Alter>(
     store: &mut Store<S>,
-    kept: &mut Kept,
+    kept: &mut Cache,
     alloc: Global,
     ask: &Ask<'_>,
     threader: &T,
     text: &str,
 ) -> Result<Reply<'static>, Unavailable>
-    ensures found { FindsReplyIf S.Store store.old store.new result (AreFor ask.now kept.old)
+    ensures found { FindsReplyIf S.Store store.old store.new result (IsCacheCoherentForAsk ask.now kept.old)
         (λ a. list_reply a ask.now (author ask.now.list (percent_decode text.now))) }
-    ensures keeps { Keeps S.Store store.old store.new ask.now.rules ask.now.day kept.old kept.new }
-    ensures why { FindsMade S.Store store.old store.new result
-        (IsUnreadBy (IsListUnread ask.now) ask.now.reader) }
+    ensures keeps { KeepsCacheCoherent S.Store store.old store.new ask.now.rules ask.now.day kept.old kept.new }
+    ensures why { EndsFindingReply S.Store store.old store.new result
+        (IsUnreadableOrReaderUnknown (IsListDataUnreadable ask.now) ask.now.reader) }
 {
-    let key = match decoded(alloc, text) {
+    let key = match percent_decoded(alloc, text) {
         Ok(key) => key,
         Err(refused) => {
-            store.wants.raise(refused.into());
+            store.wants.increment(refused.into());
             return Err(Unavailable);
         }
     };
-    let Some(place) = find_place(store, kept, alloc, ask, &Part::Author(&key), threader)? else {
+    let Some(place) = find_place(store, kept, alloc, ask, &ViewPart::Author(&key), threader)? else {
         return Ok(Reply::Failed(Failure::NotFound));
     };
     let Some(outline) = kept.outline(place) else {
@@ -111,7 +111,7 @@ pub(crate) fn find_author<T: Threader, S: Alter>(
     match author_page(alloc, ask.list, &key, outline.lines()) {
         Ok(page) => Ok(Reply::Page(page)),
         Err(refused) => {
-            store.wants.raise(refused.into());
+            store.wants.increment(refused.into());
             Err(Unavailable)
         }
     }
@@ -120,18 +120,18 @@ pub(crate) fn find_author<T: Threader, S: Alter>(
 /// The page of all threads, out of the outline that is kept, or of one that is read and kept.
 pub(crate) fn find_threads<T: Threader, S: Alter>(
     store: &mut Store<S>,
-    kept: &mut Kept,
+    kept: &mut Cache,
     alloc: Global,
     ask: &Ask<'_>,
     threader: &T,
 ) -> Result<Reply<'static>, Unavailable>
-    ensures found { FindsReplyIf S.Store store.old store.new result (AreFor ask.now kept.old)
+    ensures found { FindsReplyIf S.Store store.old store.new result (IsCacheCoherentForAsk ask.now kept.old)
         (λ a. list_reply a ask.now (threads ask.now.list)) }
-    ensures keeps { Keeps S.Store store.old store.new ask.now.rules ask.now.day kept.old kept.new }
-    ensures why { FindsMade S.Store store.old store.new result
-        (IsUnreadBy (IsListUnread ask.now) ask.now.reader) }
+    ensures keeps { KeepsCacheCoherent S.Store store.old store.new ask.now.rules ask.now.day kept.old kept.new }
+    ensures why { EndsFindingReply S.Store store.old store.new result
+        (IsUnreadableOrReaderUnknown (IsListDataUnreadable ask.now) ask.now.reader) }
 {
-    let Some(place) = find_place(store, kept, alloc, ask, &Part::Whole, threader)? else {
+    let Some(place) = find_place(store, kept, alloc, ask, &ViewPart::Whole, threader)? else {
         return Ok(Reply::Failed(Failure::NotFound));
     };
     let Some(outline) = kept.outline(place) else {
@@ -140,7 +140,7 @@ pub(crate) fn find_threads<T: Threader, S: Alter>(
     match threads_page(alloc, ask.list, outline.text()) {
         Ok(page) => Ok(Reply::Page(page)),
         Err(refused) => {
-            store.wants.raise(refused.into());
+            store.wants.increment(refused.into());
             Err(Unavailable)
         }
     }
@@ -149,22 +149,22 @@ pub(crate) fn find_threads<T: Threader, S: Alter>(
 /// The page of the thread that holds the message of a key, out of an outline, as that of all threads.
 pub(crate) fn find_thread<T: Threader, S: Alter>(
     store: &mut Store<S>,
-    kept: &mut Kept,
+    kept: &mut Cache,
     alloc: Global,
     ask: &Ask<'_>,
     threader: &T,
     key: &str,
 ) -> Result<Reply<'static>, Unavailable>
-    ensures found { FindsReplyIf S.Store store.old store.new result (AreFor ask.now kept.old)
+    ensures found { FindsReplyIf S.Store store.old store.new result (IsCacheCoherentForAsk ask.now kept.old)
         (λ a. list_reply a ask.now (thread ask.now.list key.now)) }
-    ensures keeps { Keeps S.Store store.old store.new ask.now.rules ask.now.day kept.old kept.new }
-    ensures why { FindsMade S.Store store.old store.new result
-        (IsUnreadBy (IsListUnread ask.now) ask.now.reader) }
+    ensures keeps { KeepsCacheCoherent S.Store store.old store.new ask.now.rules ask.now.day kept.old kept.new }
+    ensures why { EndsFindingReply S.Store store.old store.new result
+        (IsUnreadableOrReaderUnknown (IsListDataUnreadable ask.now) ask.now.reader) }
 {
     let Some(key) = Key::read(key) else {
         return Ok(Reply::Failed(Failure::NotFound));
     };
-    let Some(place) = find_place(store, kept, alloc, ask, &Part::Whole, threader)? else {
+    let Some(place) = find_place(store, kept, alloc, ask, &ViewPart::Whole, threader)? else {
         return Ok(Reply::Failed(Failure::NotFound));
     };
     let Some(outline) = kept.outline(place) else {
@@ -176,7 +176,7 @@ pub(crate) fn find_thread<T: Threader, S: Alter>(
     match thread_page(alloc, ask.list, text) {
         Ok(page) => Ok(Reply::Page(page)),
         Err(refused) => {
-            store.wants.raise(refused.into());
+            store.wants.increment(refused.into());
             Err(Unavailable)
         }
     }

@@ -1,13 +1,13 @@
 //! The answer of a path.
 ghost use Rattle.std.specs.Prelude.{◌≡◌, IfOk, IfSome, IsOk, None, Some, option_map};
 ghost use Rattle.std.specs.Option.{option_map_or};
-ghost use Rattle.archive_requests.specs.Asked.{named_request};
+ghost use Rattle.archive_requests.specs.Asked.{model_request};
 ghost use Rattle.archive_requests.specs.Routes.{route_of};
-ghost use Rattle.archive_requests.specs.Routing.{named_route};
-ghost use Rattle.archive_results.specs.Access.{name_of};
-ghost use Rattle.archive_pages.specs.Answers.{direct_reply, path_reply, reader_of, request_reply, unrouted_reply};
-ghost use Rattle.archive_pages.specs.Calls.{AreKept, EndsPages, ServesReplyIf, Writes, WritesWanted};
-ghost use Rattle.archive_pages.specs.Causes.{IsHolderUnread, IsPathUnread, IsRequestUnread, IsUnreadBy};
+ghost use Rattle.archive_requests.specs.Routing.{model_route};
+ghost use Rattle.archive_results.specs.Access.{reader_name};
+ghost use Rattle.archive_pages.specs.Answers.{pathless_reply, path_reply, reader_of, request_reply, unrouted_reply};
+ghost use Rattle.archive_pages.specs.Calls.{IsPagesCacheCoherent, EndsReplyFromPages, ServesReplyIf, WritesReply, WritesReplyIfWanted};
+ghost use Rattle.archive_pages.specs.Causes.{IsTokenDataUnreadable, IsPathDataUnreadable, IsRequestDataUnreadable, IsUnreadableOrReaderUnknown};
 ghost use Rattle.archive_pages.specs.Replies.{not_found, unauthorized};
 
 use crate::faults::ServeFault;
@@ -33,7 +33,7 @@ fn find_route<'p>(
     routes: &Option<Routes>,
     path: &'p str,
 ) -> Result<Option<Route<'p>>, Memory>
-    ensures route { IfOk result (λ route. option_map named_route route ≡ route_of path.now) }
+    ensures route { IfOk result (λ route. option_map model_route route ≡ route_of path.now) }
     ensures made { IfSome routes.now (λ _. IsOk result) }
 {
     match routes {
@@ -51,20 +51,20 @@ fn answer_path<T: Threader, S: Alter, W: Sink>(
     output: &mut W,
 ) -> Result<StatusCode, ServeFault>
     ensures sent { ServesReplyIf S.Store W.Sink store.old store.new output.old output.new result
-        (AreKept pages.old)
-        (λ a. path_reply a pages.old.policy.now pages.old.day path.now (name_of reader.entry)) }
+        (IsPagesCacheCoherent pages.old)
+        (λ a. path_reply a pages.old.policy.now pages.old.day path.now (reader_name reader.entry)) }
     ensures unrouted { IfSome pages.old.routes (λ _. route_of path.now ≡ None
-        → Writes W.Sink output.old output.new (λ reply. reply ≡ not_found) result) }
-    ensures ends { EndsPages S.Store W.Sink store.old store.new output.old output.new result
-        (IsUnreadBy (IsPathUnread pages.old.policy.now pages.old.day path.now
-        (name_of reader.entry)) (name_of reader.entry))
+        → WritesReply W.Sink output.old output.new (λ reply. reply ≡ not_found) result) }
+    ensures ends { EndsReplyFromPages S.Store W.Sink store.old store.new output.old output.new result
+        (IsUnreadableOrReaderUnknown (IsPathDataUnreadable pages.old.policy.now pages.old.day path.now
+        (reader_name reader.entry)) (reader_name reader.entry))
         pages.old pages.new }
 {
     match find_route(pages.alloc, &pages.routes, path) {
         Ok(Some(route)) => answer_route(store, pages, reader, &route, output),
         Ok(None) => write_failure(output, Failure::NotFound),
         Err(refused) => {
-            store.wants.raise(refused.into());
+            store.wants.increment(refused.into());
             write_failure(output, Failure::Unavailable)
         }
     }
@@ -79,11 +79,11 @@ fn answer_holder<T: Threader, S: Alter, W: Sink>(
     output: &mut W,
 ) -> Result<StatusCode, ServeFault>
     ensures sent { ServesReplyIf S.Store W.Sink store.old store.new output.old output.new result
-        (AreKept pages.old)
+        (IsPagesCacheCoherent pages.old)
         (λ a. option_map_or (path_reply a pages.old.policy.now pages.old.day path.now)
         (reader_of a (Some token.now)) unauthorized) }
-    ensures ends { EndsPages S.Store W.Sink store.old store.new output.old output.new result
-        (IsHolderUnread pages.old.policy.now pages.old.day token.now path.now)
+    ensures ends { EndsReplyFromPages S.Store W.Sink store.old store.new output.old output.new result
+        (IsTokenDataUnreadable pages.old.policy.now pages.old.day token.now path.now)
         pages.old pages.new }
 {
     match find_person(store, token) {
@@ -101,15 +101,15 @@ pub(crate) fn answer_request<T: Threader, S: Alter, W: Sink>(
     output: &mut W,
 ) -> Result<StatusCode, ServeFault>
     ensures sent { ServesReplyIf S.Store W.Sink store.old store.new output.old output.new result
-        (AreKept pages.old)
-        (λ a. request_reply a pages.old.policy.now pages.old.day (named_request request.now)) }
-    ensures direct { WritesWanted W.Sink output.old output.new
-        (direct_reply (named_request request.now)) result }
+        (IsPagesCacheCoherent pages.old)
+        (λ a. request_reply a pages.old.policy.now pages.old.day (model_request request.now)) }
+    ensures direct { WritesReplyIfWanted W.Sink output.old output.new
+        (pathless_reply (model_request request.now)) result }
     ensures unrouted { IfSome pages.old.routes
-        (λ _. WritesWanted W.Sink output.old output.new
-        (unrouted_reply (named_request request.now)) result) }
-    ensures ends { EndsPages S.Store W.Sink store.old store.new output.old output.new result
-        (IsRequestUnread pages.old.policy.now pages.old.day (named_request request.now))
+        (λ _. WritesReplyIfWanted W.Sink output.old output.new
+        (unrouted_reply (model_request request.now)) result) }
+    ensures ends { EndsReplyFromPages S.Store W.Sink store.old store.new output.old output.new result
+        (IsRequestDataUnreadable pages.old.policy.now pages.old.day (model_request request.now))
         pages.old pages.new }
 {
     match request {

@@ -1,17 +1,18 @@
 //! The answer of a route.
 ghost use Rattle.std.specs.Prelude.{◌≡◌, ◌≤◌, MatchResult};
 ghost use Rattle.archive_requests.specs.Routes.{mbox};
-ghost use Rattle.archive_requests.specs.Routing.{named_route};
-ghost use Rattle.archive_results.specs.Access.{name_of};
-ghost use Rattle.archive_store.specs.Told.{Lasts};
-ghost use Rattle.archive_kept.specs.Kept.{Keeps};
-ghost use Rattle.archive_kept.specs.Sending.{lines_text};
-ghost use Rattle.archive_pages.specs.Answers.{asking, list_reply, made_reply, route_reply};
-ghost use Rattle.archive_pages.specs.Calls.{AreFor, AreKept, EndsPages, EndsReply, FindsMade, FindsReplyIf, KeepsOn, ServesReplyIf, Writes};
-ghost use Rattle.archive_pages.specs.Causes.{IsListUnread, IsRouteUnread, IsUnreadBy, SendsOr, ServesOr};
-ghost use Rattle.archive_pages.specs.Replies.{Is, mbox_reply, unavailable};
-ghost use Rattle.archive_pages.specs.Seen.{reply_made};
-ghost use Rattle.archive_pages.specs.Serving.{Sent};
+ghost use Rattle.archive_requests.specs.Routing.{model_route};
+ghost use Rattle.archive_results.specs.Access.{reader_name};
+ghost use Rattle.archive_store.specs.Told.{StaysOpenUnlessDiskFails};
+ghost use Rattle.archive_cache.specs.Coherence.{KeepsCacheCoherent};
+ghost use Rattle.archive_cache.specs.Sending.{mbox_text_of_lines};
+ghost use Rattle.archive_pages.specs.Answers.{ask_of_reader, list_reply, reply_unless_mbox, route_reply};
+ghost use Rattle.archive_pages.specs.Calls.{IsCacheCoherentForAsk, IsPagesCacheCoherent, EndsReplyFromPages, EndsReply};
+ghost use Rattle.archive_pages.specs.Calls.{EndsFindingReply, FindsReplyIf, ChangesOnlyPagesCache, ServesReplyIf, WritesReply};
+ghost use Rattle.archive_pages.specs.Causes.{IsListDataUnreadable, IsRouteDataUnreadable, IsUnreadableOrReaderUnknown, SendsOr503, ServesOr503};
+ghost use Rattle.archive_pages.specs.Replies.{IsReplyOr503, mbox_reply, unavailable};
+ghost use Rattle.archive_pages.specs.Seen.{model_reply};
+ghost use Rattle.archive_pages.specs.Serving.{SendsFromArchive};
 
 use crate::faults::ServeFault;
 use crate::finding::{find_lists, find_message};
@@ -19,11 +20,11 @@ use crate::listing::{find_author, find_month, find_place, find_thread, find_thre
 use crate::pages::Pages;
 use crate::replies::{Failure, Reply, Unavailable};
 use crate::writing::{write_failure, write_reply};
-use archive_desk::DeskFault;
-use archive_kept::{Kept, Part, export_lines};
+use archive_cache::{Cache, ViewPart, export_lines};
+use archive_desk::DeskError;
 use archive_requests::Route;
 use archive_results::{Ask, Line, Reader};
-use archive_store::{Store, Wants};
+use archive_store::{RefusalCounter, Store};
 use civil_time::Day;
 use http::StatusCode;
 use mbox_core::device::Sink;
@@ -38,7 +39,7 @@ const MBOX_HEAD: &[u8] =
 
 /// What a reader asks of a list.
 fn ask_of<'a>(policy: &'a Policy, reader: Reader<'a>, day: Day, list: &'a str) -> Ask<'a>
-    ensures { result ≡ asking policy.now day (name_of reader.entry) list.now }
+    ensures { result ≡ ask_of_reader policy.now day (reader_name reader.entry) list.now }
 {
     Ask {
         policy,
@@ -56,13 +57,13 @@ fn find_page<'a: 'p, 'p, T: Threader, S: Alter>(
     reader: Reader<'p>,
     route: &Route<'p>,
 ) -> Result<Reply<'p>, Unavailable>
-    ensures found { FindsReplyIf S.Store store.old store.new result (AreKept pages.old)
-        (λ a. made_reply a (asking pages.old.policy.now pages.old.day (name_of reader.entry))
-        (named_route route.now)) }
-    ensures why { FindsMade S.Store store.old store.new result (IsUnreadBy
-        (IsRouteUnread (asking pages.old.policy.now pages.old.day (name_of reader.entry))
-        (named_route route.now)) (name_of reader.entry)) }
-    ensures keeps { KeepsOn S.Store store.old store.new pages.old pages.new }
+    ensures found { FindsReplyIf S.Store store.old store.new result (IsPagesCacheCoherent pages.old)
+        (λ a. reply_unless_mbox a (ask_of_reader pages.old.policy.now pages.old.day (reader_name reader.entry))
+        (model_route route.now)) }
+    ensures why { EndsFindingReply S.Store store.old store.new result (IsUnreadableOrReaderUnknown
+        (IsRouteDataUnreadable (ask_of_reader pages.old.policy.now pages.old.day (reader_name reader.entry))
+        (model_route route.now)) (reader_name reader.entry)) }
+    ensures keeps { ChangesOnlyPagesCache S.Store store.old store.new pages.old pages.new }
 {
     let alloc = pages.alloc;
     let policy = pages.policy;
@@ -96,17 +97,17 @@ fn find_page<'a: 'p, 'p, T: Threader, S: Alter>(
 
 /// Writes the reply that was found, or 503 where none was.
 fn write_found<W: Sink>(
-    wants: &mut Wants,
+    wants: &mut RefusalCounter,
     alloc: Global,
     output: &mut W,
     found: &Result<Reply<'_>, Unavailable>,
 ) -> Result<StatusCode, ServeFault>
-    ensures sent { MatchResult found.now (λ reply. Writes W.Sink output.old output.new
-        (Is (reply_made reply)) result)
-        (λ _. Writes W.Sink output.old output.new (λ reply. reply ≡ unavailable) result) }
+    ensures sent { MatchResult found.now (λ reply. WritesReply W.Sink output.old output.new
+        (IsReplyOr503 (model_reply reply)) result)
+        (λ _. WritesReply W.Sink output.old output.new (λ reply. reply ≡ unavailable) result) }
     ensures ends { EndsReply W.Sink output.old output.new result }
-    ensures counted { MatchResult found.now (λ reply. SendsOr wants.old wants.new
-        (reply_made reply) result) (λ _. wants.old ≤ wants.new) }
+    ensures counted { MatchResult found.now (λ reply. SendsOr503 wants.old wants.new
+        (model_reply reply) result) (λ _. wants.old ≤ wants.new) }
 {
     match found {
         Ok(reply) => write_reply(wants, alloc, output, reply),
@@ -119,21 +120,21 @@ fn write_found<W: Sink>(
 /// off: S3 where the store refuses behind the first byte, and 503 before it.
 fn answer_mbox<T: Threader, S: Alter, W: Sink>(
     store: &mut Store<S>,
-    kept: &mut Kept,
+    kept: &mut Cache,
     alloc: Global,
     ask: &Ask<'_>,
     threader: &T,
     output: &mut W,
 ) -> Result<StatusCode, ServeFault>
     ensures sent { ServesReplyIf S.Store W.Sink store.old store.new output.old output.new result
-        (AreFor ask.now kept.old)
+        (IsCacheCoherentForAsk ask.now kept.old)
         (λ a. list_reply a ask.now (mbox ask.now.list)) }
     ensures ends { EndsReply W.Sink output.old output.new result }
-    ensures caused { ServesOr S.Store store.old store.new result
-        (IsUnreadBy (IsListUnread ask.now) ask.now.reader) }
-    ensures keeps { Keeps S.Store store.old store.new ask.now.rules ask.now.day kept.old kept.new }
+    ensures caused { ServesOr503 S.Store store.old store.new result
+        (IsUnreadableOrReaderUnknown (IsListDataUnreadable ask.now) ask.now.reader) }
+    ensures keeps { KeepsCacheCoherent S.Store store.old store.new ask.now.rules ask.now.day kept.old kept.new }
 {
-    let place = match find_place(store, kept, alloc, ask, &Part::Whole, threader) {
+    let place = match find_place(store, kept, alloc, ask, &ViewPart::Whole, threader) {
         Ok(Some(place)) => place,
         Ok(None) => return write_failure(output, Failure::NotFound),
         Err(_) => return write_failure(output, Failure::Unavailable),
@@ -151,13 +152,13 @@ fn write_mbox<S: Alter, W: Sink>(
     lines: &[Line],
     output: &mut W,
 ) -> Result<StatusCode, ServeFault>
-    ensures sent { Sent S.Store store.old store.new
-        (λ a reply. reply ≡ mbox_reply (lines_text a ask.now.list lines.now))
+    ensures sent { SendsFromArchive S.Store store.old store.new
+        (λ a reply. reply ≡ mbox_reply (mbox_text_of_lines a ask.now.list lines.now))
         (W.told output.old) (W.told output.new) result }
-    ensures lasts { Lasts S.Store store.old store.new }
+    ensures lasts { StaysOpenUnlessDiskFails S.Store store.old store.new }
     ensures ends { EndsReply W.Sink output.old output.new result }
-    ensures caused { ServesOr S.Store store.old store.new result
-        (IsUnreadBy (IsListUnread ask.now) ask.now.reader) }
+    ensures caused { ServesOr503 S.Store store.old store.new result
+        (IsUnreadableOrReaderUnknown (IsListDataUnreadable ask.now) ask.now.reader) }
 {
     let stop = match export_lines(store, ask.list, lines, MBOX_HEAD, output) {
         Ok(_) => return Ok(StatusCode::OK),
@@ -165,7 +166,7 @@ fn write_mbox<S: Alter, W: Sink>(
     };
     let written = stop.written;
     match stop.fault {
-        DeskFault::Write => Err(ServeFault::Write { written }),
+        DeskError::Write => Err(ServeFault::Write { written }),
         _ if written > 0 => Err(ServeFault::Broken { written }),
         _ => write_failure(output, Failure::Unavailable),
     }
@@ -180,13 +181,13 @@ pub(crate) fn answer_route<T: Threader, S: Alter, W: Sink>(
     output: &mut W,
 ) -> Result<StatusCode, ServeFault>
     ensures sent { ServesReplyIf S.Store W.Sink store.old store.new output.old output.new result
-        (AreKept pages.old)
-        (λ a. route_reply a (asking pages.old.policy.now pages.old.day (name_of reader.entry))
-        (named_route route.now)) }
-    ensures ends { EndsPages S.Store W.Sink store.old store.new output.old output.new result
-        (IsUnreadBy (IsRouteUnread
-        (asking pages.old.policy.now pages.old.day (name_of reader.entry))
-        (named_route route.now)) (name_of reader.entry))
+        (IsPagesCacheCoherent pages.old)
+        (λ a. route_reply a (ask_of_reader pages.old.policy.now pages.old.day (reader_name reader.entry))
+        (model_route route.now)) }
+    ensures ends { EndsReplyFromPages S.Store W.Sink store.old store.new output.old output.new result
+        (IsUnreadableOrReaderUnknown (IsRouteDataUnreadable
+        (ask_of_reader pages.old.policy.now pages.old.day (reader_name reader.entry))
+        (model_route route.now)) (reader_name reader.entry))
         pages.old pages.new }
 {
     let alloc = pages.alloc;

@@ -1,17 +1,17 @@
 //! Commands one after the other, and then a request: the reply is of the archive that the machine
 //! makes of the commands.
 ghost use Rattle.std.specs.Prelude.{◌≡◌, None, map, IfOk, IfErr, OnOk};
-ghost use Rattle.archive_machine.specs.Runs.{run};
+ghost use Rattle.archive_model.specs.Runs.{run};
 ghost use Rattle.archive_tables.specs.Making.{empty_archive};
-ghost use Rattle.archive_port.specs.Replies.{refusal};
-ghost use Rattle.archive_port.specs.Commands.{command_of};
-ghost use Rattle.archive_store.specs.Told.{HoldsTables, archive_in, HasReturned};
-ghost use Rattle.archive_pages.specs.Calls.{AnswersPeer, QuietPeer, StopsPeer};
+ghost use Rattle.archive_port.specs.Replies.{refusal_of_fault};
+ghost use Rattle.archive_port.specs.Commands.{spec_command};
+ghost use Rattle.archive_store.specs.Told.{HoldsTables, archive_in, StoreHasCleanDisk};
+ghost use Rattle.archive_pages.specs.Calls.{AnswersClient, ClientMeetsNoFailure, HasClientFaultCause};
 
 use crate::answering::answer;
 use crate::faults::ServeFault;
-use crate::pages::Peer;
-use archive_store::{Command, RunStop, Store, StoreFault};
+use crate::pages::Client;
+use archive_store::{Command, CommandRunError, Store, StoreFault};
 use civil_time::Day;
 use http::StatusCode;
 use mbox_core::device::{Sink, Source};
@@ -29,16 +29,16 @@ pub fn run_and_answer<T: Threader, S: Alter, R: Source, W: Sink>(
     policy: &Policy,
     threader: &T,
     day: Day,
-    peer: &mut Peer<R, W>,
-) -> Result<Result<StatusCode, ServeFault>, RunStop>
-    ensures answered { IfOk result (λ answer. HasReturned S.Store store.new
-        → HoldsTables S.Store store.old → AnswersPeer R.Source W.Sink
-        (run (archive_in S.Store store.old) (map command_of commands.entry.now)).archive policy.now day peer.old peer.new answer) }
+    peer: &mut Client<R, W>,
+) -> Result<Result<StatusCode, ServeFault>, CommandRunError>
+    ensures answered { IfOk result (λ answer. StoreHasCleanDisk S.Store store.new
+        → HoldsTables S.Store store.old → AnswersClient R.Source W.Sink
+        (run (archive_in S.Store store.old) (map spec_command commands.entry.now)).archive policy.now day peer.old peer.new answer) }
     ensures quiet { IfOk result (λ answer. OnOk answer
-        (QuietPeer R.Source W.Sink peer.old peer.new)) }
+        (ClientMeetsNoFailure R.Source W.Sink peer.old peer.new)) }
     ensures cause { IfOk result (λ answer. IfErr answer
-        (λ fault. StopsPeer R.Source W.Sink peer.old peer.new fault)) }
-    ensures stopped { IfErr result (λ stop. (refusal stop.fault ≡ None) × (peer.new ≡ peer.old)) }
+        (λ fault. HasClientFaultCause R.Source W.Sink peer.old peer.new fault)) }
+    ensures stopped { IfErr result (λ stop. (refusal_of_fault stop.fault ≡ None) × (peer.new ≡ peer.old)) }
 {
     match store.run(alloc, commands) {
         Ok(_outcomes) => Ok(answer(
@@ -62,15 +62,15 @@ pub fn run_and_answer_in_memory<T: Threader, R: Source, W: Sink>(
     policy: &Policy,
     threader: &T,
     day: Day,
-    peer: &mut Peer<R, W>,
+    peer: &mut Client<R, W>,
 ) -> Result<Result<StatusCode, ServeFault>, StoreFault>
-    ensures answered { IfOk result (λ answer. AnswersPeer R.Source W.Sink
-        (run empty_archive (map command_of commands.entry.now)).archive policy.now day peer.old peer.new answer) }
+    ensures answered { IfOk result (λ answer. AnswersClient R.Source W.Sink
+        (run empty_archive (map spec_command commands.entry.now)).archive policy.now day peer.old peer.new answer) }
     ensures quiet { IfOk result (λ answer. OnOk answer
-        (QuietPeer R.Source W.Sink peer.old peer.new)) }
+        (ClientMeetsNoFailure R.Source W.Sink peer.old peer.new)) }
     ensures cause { IfOk result (λ answer. IfErr answer
-        (λ fault. StopsPeer R.Source W.Sink peer.old peer.new fault)) }
-    ensures stopped { IfErr result (λ fault. (refusal fault ≡ None) × (peer.new ≡ peer.old)) }
+        (λ fault. HasClientFaultCause R.Source W.Sink peer.old peer.new fault)) }
+    ensures stopped { IfErr result (λ fault. (refusal_of_fault fault ≡ None) × (peer.new ≡ peer.old)) }
 {
     let mut store = Store::open_in_memory(alloc)?;
     match run_and_answer(&mut store, alloc, commands, policy, threader, day, peer) {

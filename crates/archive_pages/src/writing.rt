@@ -1,12 +1,12 @@
 //! Writing a reply.
 ghost use Rattle.std.specs.Prelude.{◌≡◌, IfOk, string_bytes};
-ghost use Rattle.archive_pages.specs.Calls.{EndsMade, EndsReply, Writes};
-ghost use Rattle.archive_pages.specs.Replies.{head_bytes, sized, forbidden, Is};
-ghost use Rattle.archive_pages.specs.Seen.{failure_reply, reply_made};
+ghost use Rattle.archive_pages.specs.Calls.{EndsReplyMadeInMemory, EndsReply, WritesReply};
+ghost use Rattle.archive_pages.specs.Replies.{head_bytes, reply_with_length, forbidden, IsReplyOr503};
+ghost use Rattle.archive_pages.specs.Seen.{failure_reply, model_reply};
 
 use crate::faults::ServeFault;
 use crate::replies::{Failure, Reply};
-use archive_store::Wants;
+use archive_store::RefusalCounter;
 use http::StatusCode;
 use mbox_core::device::{Sink, write_bytes, write_two};
 use std::alloc::{AllocError, Global};
@@ -16,7 +16,7 @@ pub(crate) fn write_failure<W: Sink>(
     output: &mut W,
     failure: Failure,
 ) -> Result<StatusCode, ServeFault>
-    ensures sent { Writes W.Sink output.old output.new (λ r. r ≡ failure_reply failure) result }
+    ensures sent { WritesReply W.Sink output.old output.new (λ r. r ≡ failure_reply failure) result }
     ensures ends { EndsReply W.Sink output.old output.new result }
 {
     write_bytes(output, failure.reply())?;
@@ -31,7 +31,7 @@ fn sized_head(
     body: &[u8],
 ) -> Result<String, AllocError>
     ensures { IfOk result (λ head. string_bytes head ≡ head_bytes
-        (sized status content_type.now body.now)) }
+        (reply_with_length status content_type.now body.now)) }
 {
     let length = body.len();
     format!(in alloc;
@@ -42,22 +42,22 @@ fn sized_head(
 /// Writes a reply whose length its head tells. Where there is no memory for its head, 503 goes out
 /// in its place.
 fn write_sized<W: Sink>(
-    wants: &mut Wants,
+    wants: &mut RefusalCounter,
     alloc: Global,
     output: &mut W,
     status: StatusCode,
     content_type: &str,
     body: &[u8],
 ) -> Result<StatusCode, ServeFault>
-    ensures sent { Writes W.Sink output.old output.new
-        (Is (sized status content_type.now body.now)) result }
-    ensures ends { EndsMade W.Sink output.old output.new wants.old wants.new
-        (sized status content_type.now body.now) result }
+    ensures sent { WritesReply W.Sink output.old output.new
+        (IsReplyOr503 (reply_with_length status content_type.now body.now)) result }
+    ensures ends { EndsReplyMadeInMemory W.Sink output.old output.new wants.old wants.new
+        (reply_with_length status content_type.now body.now) result }
 {
     let head = match sized_head(alloc, status, content_type, body) {
         Ok(head) => head,
         Err(refused) => {
-            wants.raise(refused.into());
+            wants.increment(refused.into());
             return write_failure(output, Failure::Unavailable);
         }
     };
@@ -69,13 +69,13 @@ fn write_sized<W: Sink>(
 
 /// Writes the denial of a message by a rule.
 fn write_denial<W: Sink>(
-    wants: &mut Wants,
+    wants: &mut RefusalCounter,
     alloc: Global,
     output: &mut W,
     rule: &str,
 ) -> Result<StatusCode, ServeFault>
-    ensures sent { Writes W.Sink output.old output.new (Is (forbidden rule.now)) result }
-    ensures ends { EndsMade W.Sink output.old output.new wants.old wants.new
+    ensures sent { WritesReply W.Sink output.old output.new (IsReplyOr503 (forbidden rule.now)) result }
+    ensures ends { EndsReplyMadeInMemory W.Sink output.old output.new wants.old wants.new
         (forbidden rule.now) result }
 {
     let status = StatusCode::FORBIDDEN;
@@ -89,7 +89,7 @@ fn write_denial<W: Sink>(
             body.as_bytes(),
         ),
         Err(refused) => {
-            wants.raise(refused.into());
+            wants.increment(refused.into());
             write_failure(output, Failure::Unavailable)
         }
     }
@@ -98,14 +98,14 @@ fn write_denial<W: Sink>(
 /// Writes a reply, and answers its status. Where there is no memory for its head, 503 goes out in
 /// its place. Where the writer fails, exactly the first `written` bytes went out.
 pub(crate) fn write_reply<W: Sink>(
-    wants: &mut Wants,
+    wants: &mut RefusalCounter,
     alloc: Global,
     output: &mut W,
     reply: &Reply<'_>,
 ) -> Result<StatusCode, ServeFault>
-    ensures sent { Writes W.Sink output.old output.new (Is (reply_made reply.now)) result }
-    ensures ends { EndsMade W.Sink output.old output.new wants.old wants.new
-        (reply_made reply.now) result }
+    ensures sent { WritesReply W.Sink output.old output.new (IsReplyOr503 (model_reply reply.now)) result }
+    ensures ends { EndsReplyMadeInMemory W.Sink output.old output.new wants.old wants.new
+        (model_reply reply.now) result }
 {
     match reply {
         Reply::Page(page) => write_sized(

@@ -2,29 +2,29 @@
 use Rattle.std.specs.Prelude.{◌≡◌, ℕ, ◌+◌, ◌<◌, ◌≤◌, false, List, [], ◌∷◌, ◌++◌, length, take}
 use Rattle.std.specs.List.{sum_by}
 use Rattle.mbox_items.specs.Division.{Item}
-use Rattle.archive_machine.specs.Records.{Archive}
-use Rattle.archive_machine.specs.Commands.{Refusal, no_list, list_full, refused}
-use Rattle.archive_machine.specs.Questions.{has_list, messages_in}
-use Rattle.archive_machine.specs.Runs.{taken, Tally}
+use Rattle.archive_model.specs.Records.{Archive}
+use Rattle.archive_model.specs.Commands.{Refusal, no_list, list_full, refused}
+use Rattle.archive_model.specs.Questions.{has_list, messages_in}
+use Rattle.archive_model.specs.Runs.{taken, Tally}
 use Rattle.archive_port.specs.declared.reports.AddReport.{AddReport}
 
-abbrev pub tally_of : AddReport → Tally
-tally_of r = record { new = r.new; known = r.known; too_large = r.too_large }
+abbrev pub tally_of_report : AddReport → Tally
+tally_of_report r = record { new = r.new; known = r.known; too_large = r.too_large }
 
 -- how many messages a report tells of
-abbrev pub told_in : AddReport → ℕ
-told_in r = r.new + r.known + r.too_large
+abbrev pub reported_count : AddReport → ℕ
+reported_count r = r.new + r.known + r.too_large
 
 -- the bytes of their texts, as they stand in a file
-abbrev pub text_bytes : List Item → ℕ
-text_bytes = sum_by (λ (item : Item). length item.text)
+abbrev pub total_text_bytes : List Item → ℕ
+total_text_bytes = sum_by (λ (item : Item). length item.text)
 
 -- the first `done` items were added, and no other
-abbrev pub HasAddedFirst : List ℕ → List Item → ℕ → Archive → Archive → Type 0
-HasAddedFirst list items done a b = (done ≤ length items) × (b ≡ (taken a list (take done items)).archive)
+abbrev pub HasAddedFirstItems : List ℕ → List Item → ℕ → Archive → Archive → Type 0
+HasAddedFirstItems list items done a b = (done ≤ length items) × (b ≡ (taken a list (take done items)).archive)
 
 -- after the items before this place the list holds 50,000 messages, and the machine refuses the next for that
-pub record IsFullAt (a : Archive) (list : List ℕ) (items : List Item) (at : ℕ) : Type 0 where
+pub record IsListFullAt (a : Archive) (list : List ℕ) (items : List Item) (at : ℕ) : Type 0 where
   pub within : at < length items
   pub full : 50000 ≤ length (messages_in (taken a list (take at items)).archive list)
   pub refuses : (taken a list (take (at + 1) items)).replies ≡ (taken a list (take at items)).replies ++ refused list_full ∷ []
@@ -32,9 +32,9 @@ pub record IsFullAt (a : Archive) (list : List ℕ) (items : List Item) (at : �
 -- why items are refused from this place on
 abbrev pub IsRefusedAt : Archive → List ℕ → List Item → ℕ → Refusal → Type 0
 IsRefusedAt a list items at no_list = (at ≡ 0) × (has_list a list ≡ false)
-IsRefusedAt a list items at list_full = IsFullAt a list items at
+IsRefusedAt a list items at list_full = IsListFullAt a list items at
 IsRefusedAt a list items at _ = ⊥
 
 -- so many first messages were added, at least `done`
 abbrev pub HasAddedAtLeast : List ℕ → List Item → ℕ → Archive → Archive → Type 0
-HasAddedAtLeast list items done a b = (at : ℕ) × (done ≤ at) × HasAddedFirst list items at a b
+HasAddedAtLeast list items done a b = (at : ℕ) × (done ≤ at) × HasAddedFirstItems list items at a b

@@ -2,7 +2,7 @@
 use Rattle.std.specs.Prelude.{ℤ, pos, Bool, true, false}
 use Rattle.policy_core.specs.declared.access.Standing.{Standing}
 use Rattle.policy_core.specs.declared.access.Standing.TheVariants.{Public, Member, Subscriber, Moderator}
-use Rattle.archive_machine.specs.Commands.{Reply, taken_in, already_known}
+use Rattle.archive_model.specs.Commands.{CommandReply, taken_in, already_known}
 use Rattle.archive_port.specs.declared.words.Added.{Added}
 use Rattle.archive_port.specs.declared.words.Added.TheVariants.{New, Known}
 
@@ -13,11 +13,11 @@ standing_rank Member = pos 1
 standing_rank Subscriber = pos 2
 standing_rank Moderator = pos 3
 
-abbrev pub added_reply : Added → Reply
+abbrev pub added_reply : Added → CommandReply
 added_reply New = taken_in
 added_reply Known = already_known
 
 -- what became of it, by whether the list held it
-abbrev pub added_if : Bool → Added
-added_if true = Known
-added_if false = New
+abbrev pub new_or_known : Bool → Added
+new_or_known true = Known
+new_or_known false = New

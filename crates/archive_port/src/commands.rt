@@ -1,9 +1,9 @@
 //! Commands with their arguments.
 
-use archive_machine::Key;
+use archive_model::Key;
 use civil_time::Day;
 use mbox_items::Item;
-use policy_core::{Kind, Party};
+use policy_core::{GrantKind, WithdrawnBy};
 use std::alloc::Global;
 
 /// A command with its arguments: one step of the archive's machine.
@@ -28,14 +28,14 @@ pub enum Command<'a> {
     Grant {
         person: &'a str,
         list: &'a str,
-        kind: Kind,
+        kind: GrantKind,
         from: Day,
         until: Day,
     },
     Revoke {
         person: &'a str,
         list: &'a str,
-        kind: Kind,
+        kind: GrantKind,
     },
     Add {
         alloc: Global,
@@ -45,7 +45,7 @@ pub enum Command<'a> {
     Withdraw {
         list: &'a str,
         key: &'a Key,
-        by: Party,
+        by: WithdrawnBy,
     },
     Restore {
         list: &'a str,

@@ -10,10 +10,10 @@ mod reports;
 mod wants;
 mod words;
 
-pub use checking::CheckStop;
+pub use checking::CheckError;
 pub use commands::Command;
 pub use faults::StoreFault;
 pub use marks::DatedMarks;
-pub use reports::{AddReport, AddStop};
-pub use wants::Refused;
+pub use reports::{AddError, AddReport};
+pub use wants::MemoryRefusal;
 pub use words::Added;

@@ -9,11 +9,11 @@ pub enum Added {
 }
 
 impl Added {
-    ghost use Rattle.archive_port.specs.Words.{added_if};
+    ghost use Rattle.archive_port.specs.Words.{new_or_known};
 
     /// By whether the list held it.
     pub fn of(is_held: bool) -> Added
-        ensures { result ≡ added_if is_held }
+        ensures { result ≡ new_or_known is_held }
     {
         if is_held { Added::Known } else { Added::New }
     }

@@ -10,7 +10,7 @@
 //!   in the other, a hundred more, in a new file.
 use crate::{LIST, tell};
 use anyhow::bail;
-use archive_store::{AddStop, Key, Store, key_of};
+use archive_store::{AddError, Key, Store, key_of};
 use mbox_core::{Item, separator};
 use sqlite::Alter;
 use std::alloc::Global;
@@ -95,7 +95,7 @@ fn add_items<S: Alter>(
 ) -> anyhow::Result<()> {
     match store.add_all(alloc, list, items) {
         Ok(_report) => Ok(()),
-        Err(AddStop { fault, .. }) => Err(fault.into()),
+        Err(AddError { fault, .. }) => Err(fault.into()),
     }
 }
 

@@ -3,9 +3,9 @@
 use crate::{LIST, tell};
 use anyhow::bail;
 use archive_desk::{Report, author, export, import, message, month, thread, threads};
-use archive_html::{RowTexts, threads_page};
+use archive_html::{RenderedRows, threads_page};
 use archive_pages::answer;
-use archive_results::{Ask, Asked, Line, Reader, TreeLine, header_of};
+use archive_results::{Ask, Asked, Line, Reader, TreeLine, summary_of};
 use archive_store::{Key, Store, StoreFault};
 use civil_time::{Day, Month};
 use mbox_core::device::Counted;
@@ -93,7 +93,7 @@ impl Given {
         let Some(message) = messages.get(messages.len() / 2) else {
             bail!("the list is empty");
         };
-        let Ok(header) = header_of(rt.alloc(), message) else {
+        let Ok(header) = summary_of(rt.alloc(), message) else {
             bail!("no memory");
         };
         Ok(Self {
@@ -276,7 +276,7 @@ fn time_both<S: Alter>(
 fn entries<S: Alter>(alloc: Global, store: &mut Store<S>) -> anyhow::Result<Vec<Entry>> {
     let mut all = Vec::new(alloc);
     for message in store.rows(alloc, LIST)? {
-        let Ok(header) = header_of(alloc, &message) else {
+        let Ok(header) = summary_of(alloc, &message) else {
             bail!("no memory");
         };
         all.push(header.entry)?;
@@ -326,7 +326,7 @@ fn apart(alloc: Global, tree: Vec<TreeLine>) -> anyhow::Result<Placed> {
 
 /// Writes a page of these rows.
 fn write_page(alloc: Global, page: &Placed) -> anyhow::Result<Vec<u8>> {
-    let texts = RowTexts::new(alloc, LIST, &page.lines, &page.rows)?;
+    let texts = RenderedRows::new(alloc, LIST, &page.lines, &page.rows)?;
     Ok(threads_page(alloc, LIST, texts.all())?)
 }
 

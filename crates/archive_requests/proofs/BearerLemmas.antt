@@ -9,11 +9,11 @@ use Rattle.std.proofs.lemmas.Bool.{and_parts, true≢false, false≢true}
 use Rattle.std.proofs.lemmas.Bool.Decides.{nat_tests}
 use Rattle.std.proofs.lemmas.Str.{IsUtf8-from_ascii}
 use Rattle.std.proofs.lemmas.Str.Ascii.{IsAscii-nil, IsAscii-cons}
-use Rattle.archive_machine.specs.Tokens.{is_token, is_b64token, is_padded, is_padding, is_token_byte}
+use Rattle.archive_model.specs.BearerTokens.{is_token, is_b64token, is_token_bytes_then_padding, is_padding, is_token_byte}
 use Rattle.httparse.specs.Spans.{IsWithin, span_bytes, header_bytes}
 use Rattle.httparse.specs.declared.spans.Span.{Span}
 use Rattle.httparse.specs.declared.spans.HeaderSpan.{HeaderSpan}
-use Rattle.archive_requests.specs.Bearer.{NamedValue, is_authorization, doubled, bearer_among, bearer_of}
+use Rattle.archive_requests.specs.Bearer.{NamedValue, is_authorization, doubled, bearer_in_auth_fields, bearer_in_fields}
 
 -- ---- tokens are ASCII
 
@@ -27,24 +27,24 @@ ascii_padding (b ∷ bs) h =
     let first = parts.0 in
     IsAscii-cons b bs (grind (arith, nat_tests, first)) (ascii_padding bs parts.1)
 
-passed : (b : ℕ) (bs : List ℕ) → is_token_byte b ≡ true → is_padded (b ∷ bs) ≡ is_padded bs
+passed : (b : ℕ) (bs : List ℕ) → is_token_byte b ≡ true → is_token_bytes_then_padding (b ∷ bs) ≡ is_token_bytes_then_padding bs
 passed b bs e = rw e refl
 
-ended : (b : ℕ) (bs : List ℕ) → is_token_byte b ≡ false → is_padded (b ∷ bs) ≡ is_padding (b ∷ bs)
+ended : (b : ℕ) (bs : List ℕ) → is_token_byte b ≡ false → is_token_bytes_then_padding (b ∷ bs) ≡ is_padding (b ∷ bs)
 ended b bs e = rw e refl
 
-ascii_padded : (bs : List ℕ) → is_padded bs ≡ true → IsAscii bs
+ascii_padded : (bs : List ℕ) → is_token_bytes_then_padding bs ≡ true → IsAscii bs
 ascii_padded [] h = IsAscii-nil
 ascii_padded (b ∷ bs) h = by (is_token_byte b) refl (ascii_padded bs)
   where
-    by : (t : Bool) → is_token_byte b ≡ t → (is_padded bs ≡ true → IsAscii bs) → IsAscii (b ∷ bs)
+    by : (t : Bool) → is_token_byte b ≡ t → (is_token_bytes_then_padding bs ≡ true → IsAscii bs) → IsAscii (b ∷ bs)
     by true e rest = IsAscii-cons b bs (ascii_byte b e) (rest (sym (passed b bs e) ∙ h))
     by false e rest = ascii_padding (b ∷ bs) (sym (ended b bs e) ∙ h)
 
 ascii_b64token : (bs : List ℕ) → is_b64token bs ≡ true → IsAscii bs
 ascii_b64token [] h = IsAscii-nil
 ascii_b64token (b ∷ bs) h =
-    let parts = and_parts (is_token_byte b) (is_padded bs) h in
+    let parts = and_parts (is_token_byte b) (is_token_bytes_then_padding bs) h in
     IsAscii-cons b bs (ascii_byte b parts.0) (ascii_padded bs parts.1)
 
 pub IsUtf8-token : (bs : List ℕ) → is_token bs ≡ true → IsUtf8 bs
@@ -102,13 +102,13 @@ IsFound-first bytes fields i d None lt match inside none so_far = (
   more bytes fields i d lt ∙ ap (λ t. t ++ found_in bytes (get_or fields i d ∷ [])) so_far ∙ one_more bytes (get_or fields i d) match,
 )
 
-two_more : (a : NamedValue) (b : NamedValue) (xs fs more : List NamedValue) → xs ≡ a ∷ [] → fs ≡ xs ++ b ∷ more → doubled ≡ bearer_among fs
+two_more : (a : NamedValue) (b : NamedValue) (xs fs more : List NamedValue) → xs ≡ a ∷ [] → fs ≡ xs ++ b ∷ more → doubled ≡ bearer_in_auth_fields fs
 two_more a b xs fs more e f = rw (f, e) refl
 
 -- a second one makes it two
 pub found_twice : (bytes : List ℕ) (fields : List HeaderSpan) (i : ℕ) (d : HeaderSpan) (found : Option Span) → i < length fields
     → is_authorization (header_bytes bytes (get_or fields i d)) ≡ true → is_some found ≡ true
-    → IsFound bytes found (found_in bytes (take i fields)) → doubled ≡ bearer_of (map (header_bytes bytes) fields)
+    → IsFound bytes found (found_in bytes (take i fields)) → doubled ≡ bearer_in_fields (map (header_bytes bytes) fields)
 found_twice bytes fields i d None lt match other so_far = absurd (false≢true other)
 found_twice bytes fields i d (Some span) lt match some so_far =
     let cut = ap (found_in bytes) (sym (take-append-drop i fields)) ∙ found-append bytes (take i fields) (drop i fields) in

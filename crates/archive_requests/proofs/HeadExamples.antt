@@ -4,7 +4,7 @@ use Rattle.std.specs.Prelude.{All, flat_map}
 use Rattle.std.proofs.lemmas.List.Elements.{All-nil, All-cons}
 use Rattle.std.proofs.lemmas.Str.{IsUtf8-from_ascii}
 use Rattle.httparse.specs.Grammar.{RequestHead, Field, IsField, crlf, lf, print_request, print_field, is_token_byte, ReadsRequest}
-use Rattle.archive_requests.specs.Heads.{BeginsWith, Exceeds}
+use Rattle.archive_requests.specs.Heads.{BeginsWithHead, BeginsWithTooManyFields}
 
 abbrev host : Field
 host = record { name = codes "Host"; raw = codes " a"; end = lf }
@@ -42,14 +42,14 @@ reads n rest same = (
 )
 
 -- lines end with CR LF or LF, an empty line may stand before the head, and what follows the head is no part of it
-a_head : BeginsWith (codes "\nGET / HTTP/1.1\r\nHost: a\n\r\nGET /x HTTP/1.1\r\n\r\n") (head (host ∷ []))
+a_head : BeginsWithHead (codes "\nGET / HTTP/1.1\r\nHost: a\n\r\nGET /x HTTP/1.1\r\n\r\n") (head (host ∷ []))
 unfolding print_request
 a_head = record { rest = codes "GET /x HTTP/1.1\r\n\r\n"; reads = reads 1 _ refl; short = omega arith; few = omega arith }
 
-sixty_four_fields : BeginsWith (with_hosts 64 []) (head (hosts 64))
+sixty_four_fields : BeginsWithHead (with_hosts 64 []) (head (hosts 64))
 unfolding print_request
 sixty_four_fields = record { rest = []; reads = reads 64 [] refl; short = omega arith; few = omega arith }
 
-sixty_five_fields : Exceeds (with_hosts 65 []) (head (hosts 65))
+sixty_five_fields : BeginsWithTooManyFields (with_hosts 65 []) (head (hosts 65))
 unfolding print_request
 sixty_five_fields = record { rest = []; reads = reads 65 [] refl; short = omega arith; many = omega arith }

@@ -11,7 +11,7 @@ use Rattle.httparse.specs.declared.spans.HeaderSpan.{HeaderSpan}
 use Rattle.httparse.specs.declared.spans.RequestSpans.{RequestSpans}
 use Rattle.httparse.proofs.GrammarLemmas.{request_unique, request_prefix_free, ReadsRequest-append, print_request-append}
 use borrow.Rule.Slice.PartMut.{put_mid}
-use Rattle.archive_requests.specs.Heads.{BeginsWith, Exceeds, CanBecome}
+use Rattle.archive_requests.specs.Heads.{BeginsWithHead, BeginsWithTooManyFields, CanBecomeHead}
 
 few : {A B C : Type 0} (f : A → C) (g : B → C) (n : ℕ) (xs : List A) (ys : List B) → map f (take n xs) ≡ map g ys → length ys ≤ length xs
 few f g n xs ys e = let l = ap length e in grind (arith, common_steps, l)
@@ -31,7 +31,7 @@ head_fits buf h rest x =
 
 -- what was read is a head that the bytes begin with
 pub begins : (buf : List ℕ) (headers : List HeaderSpan) (r : RequestSpans) → length headers ≡ 64 → length buf ≤ 8192
-    → (h : RequestHead) → IsRequestAt buf headers r h → BeginsWith buf h
+    → (h : RequestHead) → IsRequestAt buf headers r h → BeginsWithHead buf h
 begins buf headers r n short h at = record {
   rest = drop r.len buf;
   reads = at.reads;
@@ -40,7 +40,7 @@ begins buf headers r n short h at = record {
 }
 
 -- then no head of more fields is there
-pub not_more : (buf : List ℕ) (h k : RequestHead) → BeginsWith buf h → Exceeds buf k → ⊥
+pub not_more : (buf : List ℕ) (h k : RequestHead) → BeginsWithHead buf h → BeginsWithTooManyFields buf k → ⊥
 not_more buf h k b x =
     let u = request_unique buf h k b.rest x.rest b.reads x.reads in
     let same = ap (λ (g : RequestHead). length g.fields) u.0 in
@@ -49,7 +49,7 @@ not_more buf h k b x =
     omega (arith, same, a, z)
 
 -- what follows leaves the head as it is
-pub stays : (buf more : List ℕ) (h k : RequestHead) → BeginsWith buf h → BeginsWith (buf ++ more) k → BeginsWith buf k
+pub stays : (buf more : List ℕ) (h k : RequestHead) → BeginsWithHead buf h → BeginsWithHead (buf ++ more) k → BeginsWithHead buf k
 stays buf more h k b x =
     let u = request_prefix_free buf more h k b.rest x.rest b.reads x.reads in
     rw u.0 at b
@@ -60,7 +60,7 @@ never_none buf h rest never x = never [] h (rest ++ []) (ReadsRequest-append buf
 
 -- the spans that were read are those of each head that the bytes begin with
 pub is_it : (buf : List ℕ) (headers : List HeaderSpan) (r : RequestSpans) (h k : RequestHead)
-    → IsRequestAt buf headers r h → BeginsWith buf k → IsRequestAt buf headers r k
+    → IsRequestAt buf headers r h → BeginsWithHead buf k → IsRequestAt buf headers r k
 is_it buf headers r h k at b =
     let u = request_unique buf h k (drop r.len buf) b.rest at.reads b.reads in
     rw u.0 at at
@@ -78,19 +78,19 @@ pub in_front : (n : ℕ) (buf : List ℕ) (h : RequestHead) (rest : List ℕ) �
 in_front n buf h rest le x = (x.0, ap (take n) x.1 ∙ take_more n (print_request h) rest le)
 
 -- bytes that never have a head have none either way when cut
-pub never_cut : (n : ℕ) (buf more : List ℕ) → length buf ≤ n → NeverHasRequest buf → CanBecome (take n (buf ++ more)) → ⊥
+pub never_cut : (n : ℕ) (buf more : List ℕ) → length buf ≤ n → NeverHasRequest buf → CanBecomeHead (take n (buf ++ more)) → ⊥
 never_cut n buf more le never can =
     let cut = take_more n buf more le in
     let all = ap (λ (t : List ℕ). t ++ can.0) cut ∙ append_assoc buf (take (n - length buf) more) can.0 in
     never (take (n - length buf) more ++ can.0) can.1 can.2 (can.3.0, sym all ∙ can.3.1)
 
 -- the head of a beginning is in the first 8,192 bytes of the whole
-pub has_front : (buf more : List ℕ) (h : RequestHead) → BeginsWith buf h → HasNoRequest (take 8192 (buf ++ more)) → ⊥
+pub has_front : (buf more : List ℕ) (h : RequestHead) → BeginsWithHead buf h → HasNoRequest (take 8192 (buf ++ more)) → ⊥
 has_front buf more h b none =
     none h (take (8192 - length (print_request h)) (b.rest ++ more)) (in_front 8192 (buf ++ more) h (b.rest ++ more) b.short (ReadsRequest-append buf h b.rest more b.reads))
 
 -- what follows leaves a head of more fields as it is
-pub more_stays : (buf more : List ℕ) (h k : RequestHead) → BeginsWith buf h → Exceeds (buf ++ more) k → ⊥
+pub more_stays : (buf more : List ℕ) (h k : RequestHead) → BeginsWithHead buf h → BeginsWithTooManyFields (buf ++ more) k → ⊥
 more_stays buf more h k b x =
     let u = request_prefix_free buf more h k b.rest x.rest b.reads x.reads in
     let same = ap (λ (g : RequestHead). length g.fields) u.0 in

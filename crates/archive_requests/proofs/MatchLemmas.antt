@@ -8,7 +8,7 @@ use Rattle.matchit.specs.Seek.{first, has_slash}
 use Rattle.matchit.specs.Params.{walk, AllText, named, wild_stop, part_of}
 use Rattle.matchit.proofs.OnLiterals.{matchit_on_literals}
 use Rattle.archive_requests.specs.Routes.{Route, lists, message, month, threads, thread, author, mbox, route_of}
-use Rattle.archive_requests.specs.Routing.{pages}
+use Rattle.archive_requests.specs.Routing.{route_table}
 use Rattle.archive_requests.specs.declared.routes.Page.{Page}
 use Rattle.archive_requests.specs.declared.routes.Page.TheVariants.{Lists, Message, Month, Threads, Thread, Author, Mbox}
 use Rattle.archive_requests.proofs.RouteCases.{AllBytes, Case, is_none, is_root, is_threads, is_mbox, is_message, is_month, is_thread, is_author, settle, all_rows, below}
@@ -44,8 +44,8 @@ root_row = record { pattern = codes "/"; text = codes "/"; names = []; value = L
 abbrev page_rows : List (List ℕ × Entry)
 page_rows = all_rows by_row m_row mbox_row month_row t_row threads_row root_row
 
-rows_are : pages ≡ page_rows
-unfolding matchit_on_literals pages
+rows_are : route_table ≡ page_rows
+unfolding matchit_on_literals route_table
 rows_are = refl
 
 abbrev Parts : Type 0
@@ -168,12 +168,12 @@ all_bytes : (path : List ℕ) → ((i : ℕ) → Fits w8 (get_or path i 0)) → 
 all_bytes [] fits = tt
 all_bytes (b ∷ path) fits = ((fits 0).fits, all_bytes path (λ i. fits (suc i)))
 
-pub matched : (path : List ℕ) → IsUtf8 path → ((i : ℕ) → Fits w8 (get_or path i 0)) → (r : Entry) → first pages path ≡ Some r → Matched r path (route_of path)
+pub matched : (path : List ℕ) → IsUtf8 path → ((i : ℕ) → Fits w8 (get_or path i 0)) → (r : Entry) → first route_table path ≡ Some r → Matched r path (route_of path)
 matched path u fits r e =
     let rows : first page_rows path ≡ Some r = subst (λ rs. first rs path ≡ Some r) rows_are e in
     matched_by path (first page_rows path) (route_of path) (settle by_row m_row mbox_row month_row t_row threads_row root_row path (all_bytes path fits)) u r rows
 
-pub missed : (path : List ℕ) → ((i : ℕ) → Fits w8 (get_or path i 0)) → first pages path ≡ None → route_of path ≡ None
+pub missed : (path : List ℕ) → ((i : ℕ) → Fits w8 (get_or path i 0)) → first route_table path ≡ None → route_of path ≡ None
 missed path fits e =
     let rows : first page_rows path ≡ None = subst (λ rs. first rs path ≡ None) rows_are e in
     missed_by path (first page_rows path) (route_of path) (settle by_row m_row mbox_row month_row t_row threads_row root_row path (all_bytes path fits)) rows

@@ -3,9 +3,9 @@ use Rattle.std.proofs.Common.{◌≡◌, ◌≤◌, ◌+◌, ◌++◌, ◌⊎◌
 use Rattle.std.proofs.lemmas.List.{length-take}
 use Rattle.httparse.specs.Grammar.{RequestHead, HasNoRequest}
 use Rattle.httparse.specs.Spans.{IsRequestWithin}
-use Rattle.archive_requests.specs.Asked.{named_request}
-use Rattle.archive_requests.specs.Heads.{BeginsWith, IsHeadAt, IsReadAs, IsFinal}
-use Rattle.archive_requests.specs.Reading.{IsRequestAs, IsSettled}
+use Rattle.archive_requests.specs.Asked.{model_request}
+use Rattle.archive_requests.specs.Heads.{BeginsWithHead, HasSpansOfHead, IsHeadReadOfInput, IsHeadReadFinal}
+use Rattle.archive_requests.specs.Reading.{IsRequestReadOfInput, IsRequestReadFinal}
 use Rattle.archive_requests.specs.Requests.{request_of}
 use Rattle.archive_requests.specs.declared.heads.Head.{Head}
 use Rattle.archive_requests.specs.declared.heads.HeadRead.{HeadRead}
@@ -16,13 +16,13 @@ use Rattle.archive_requests.specs.declared.reading.RequestRead.TheVariants as re
 
 -- the request is what the head that was read asks for
 pub data Carries (given : List ℕ) : HeadRead → RequestRead → Type 0 where
-  whole : (head : Head) (request : Request) → ((h : RequestHead) → IsHeadAt given h head → named_request request ≡ request_of h)
+  whole : (head : Head) (request : Request) → ((h : RequestHead) → HasSpansOfHead given h head → model_request request ≡ request_of h)
       → Carries given (heads.Whole head) (requests.Whole request)
   bad : Carries given heads.Bad requests.Malformed
   large : Carries given heads.TooLarge requests.TooLarge
 
 request_as : (given all : List ℕ) (read : HeadRead) (request : RequestRead) → Carries given read request
-    → IsReadAs given all read → IsRequestAs given all request
+    → IsHeadReadOfInput given all read → IsRequestReadOfInput given all request
 request_as given all _ _ (whole head request says) x = record {
   head = λ h b. says h (x.head h b);
   whole = (x.whole.0, x.whole.1, says x.whole.0 x.whole.2);
@@ -49,16 +49,16 @@ module _ (before after : List ℕ) (met meets : ℕ) where
   -- what `read_head` says of its answer
   abbrev pub Came : List ℕ → HeadRead → Type 0
   Came buffer read = (given : List ℕ) × (after ≡ before ++ given) × (given ≡ take (length given) buffer)
-      × (((meets ≡ met + 1) × HasNoRequest given × IsReadAs given given read) ⊎ ((meets ≡ met) × IsFinal given read))
+      × (((meets ≡ met + 1) × HasNoRequest given × IsHeadReadOfInput given given read) ⊎ ((meets ≡ met) × IsHeadReadFinal given read))
 
   -- what `read_request` says of its answer
   abbrev pub Asked : RequestRead → Type 0
   Asked request = (given : List ℕ) × (after ≡ before ++ given)
-      × (((meets ≡ met + 1) × HasNoRequest given × IsRequestAs given given request) ⊎ ((meets ≡ met) × IsSettled given request))
+      × (((meets ≡ met + 1) × HasNoRequest given × IsRequestReadOfInput given given request) ⊎ ((meets ≡ met) × IsRequestReadFinal given request))
 
   -- the head that was read
   pub came_whole : (buffer : List ℕ) (head : Head) (c : Came buffer (heads.Whole head))
-      → (h : RequestHead) × BeginsWith c.0 h × IsHeadAt c.0 h head
+      → (h : RequestHead) × BeginsWithHead c.0 h × HasSpansOfHead c.0 h head
   came_whole buffer head c =
       elim c.3 [
         | inl ended ↦ ended.2.whole
@@ -88,6 +88,6 @@ module _ (before after : List ℕ) (met meets : ℕ) where
       ]
 
   pub asked_whole : (buffer : List ℕ) (head : Head) (request : Request) (c : Came buffer (heads.Whole head))
-      → ((h : RequestHead) → IsHeadAt (take head.filled buffer) h head → named_request request ≡ request_of h) → Asked (requests.Whole request)
+      → ((h : RequestHead) → HasSpansOfHead (take head.filled buffer) h head → model_request request ≡ request_of h) → Asked (requests.Whole request)
   asked_whole buffer head request c says =
       asked buffer (heads.Whole head) (requests.Whole request) c (whole head request (rw (came_front buffer head c) at says))

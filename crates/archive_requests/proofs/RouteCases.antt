@@ -4,7 +4,7 @@ use Rattle.std.proofs.lemmas.Slice.Eq.{bytes_eq-Decides}
 use Rattle.percent_encoding.specs.Percent.{percent_decode}
 use Rattle.matchit.specs.Rows.{RowsOf}
 use Rattle.matchit.specs.Seek.{own, step, seek, first, has_slash}
-use Rattle.archive_requests.specs.Routes.{Route, lists, message, month, threads, thread, author, mbox, segments, given, list_route, route_of_segments, route_of}
+use Rattle.archive_requests.specs.Routes.{Route, lists, message, month, threads, thread, author, mbox, segments, some_if_nonempty, list_route, route_of_segments, route_of}
 use Rattle.archive_requests.proofs.SegmentLemmas.{Cut, whole, parted, cut, segments-whole, segments-parted, slash-parted}
 use Rattle.archive_requests.proofs.WalkLemmas.{AllPlain, at_word, with_param, slashed, seek-empty, word_end, word_cut, after_param, no_param, param_end, last_found, last_cut}
 
@@ -67,7 +67,7 @@ module _ {K : Type 0} (k_by k_m k_mbox k_month k_t k_threads k_root : K) where
 
   -- a walk and the definition agree on what follows a word that wants a parameter
   module _ (k : K) (path : List ℕ) (make : List ℕ → Route) (listed : List (List ℕ) → Option Route)
-      (one : (p : List ℕ) → listed (p ∷ []) ≡ given p (make p)) (more : (p q : List ℕ) (qs : List (List ℕ)) → listed (p ∷ q ∷ qs) ≡ None) where
+      (one : (p : List ℕ) → listed (p ∷ []) ≡ some_if_nonempty p (make p)) (more : (p q : List ℕ) (qs : List (List ℕ)) → listed (p ∷ q ∷ qs) ≡ None) where
     more_parts : (p : List ℕ) (r : List ℕ) → Cut r → listed (p ∷ segments r) ≡ None
     more_parts p _ (whole w h) = ap (λ ws. listed (p ∷ ws)) (segments-whole w h) ∙ more p w []
     more_parts p _ (parted w r h) = ap (λ ws. listed (p ∷ ws)) (segments-parted w r h) ∙ more p w (segments r)

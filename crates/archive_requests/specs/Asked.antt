@@ -7,14 +7,14 @@ use Rattle.archive_requests.specs.declared.bearer.Bearer.TheVariants as found
 use Rattle.archive_requests.specs.declared.requests.Request.{Request as FoundRequest}
 use Rattle.archive_requests.specs.declared.requests.Request.TheVariants as read
 
-abbrev pub named_bearer : FoundBearer → Bearer
-named_bearer found.Nobody = nobody
-named_bearer (found.Token text) = token text.now
-named_bearer found.NoToken = no_token
-named_bearer found.Doubled = doubled
+abbrev pub model_bearer : FoundBearer → Bearer
+model_bearer found.Nobody = nobody
+model_bearer (found.Token text) = token text.now
+model_bearer found.NoToken = no_token
+model_bearer found.Doubled = doubled
 
-abbrev pub named_request : FoundRequest → Request
-named_request read.Bad = bad
-named_request read.OtherMethod = other_method
-named_request read.Unauthorized = unauthorized
-named_request (read.Asks by path) = asks (option_map (λ t. t.now) by) path.now
+abbrev pub model_request : FoundRequest → Request
+model_request read.Bad = bad
+model_request read.OtherMethod = other_method
+model_request read.Unauthorized = unauthorized
+model_request (read.Asks by path) = asks (option_map (λ t. t.now) by) path.now

@@ -2,7 +2,7 @@
 use Rattle.std.specs.Prelude.{ℕ, ◌==◌, Bool, false, ◌&&◌, if◌then◌else◌, List, [], ◌∷◌, take, drop, codes}
 use Rattle.std.specs.List.{filter}
 use Rattle.std.specs.Str.{str_eq_ignore_ascii_case}
-use Rattle.archive_machine.specs.Tokens.{is_token}
+use Rattle.archive_model.specs.BearerTokens.{is_token}
 
 -- `nobody`: no Authorization field; `token`: one that holds a token; `no_token`: one that holds none; `doubled`: more than one
 pub data Bearer : Type 0 where
@@ -32,19 +32,19 @@ abbrev pub begins_with_bearer : List ℕ → Bool
 begins_with_bearer value = str_eq_ignore_ascii_case (take 6 value) (codes "bearer") && begins_with_space (drop 6 value)
 
 -- profile: a text that no person can have as a token is none
-abbrev pub if_token : List ℕ → Bearer
-if_token text = if is_token text then token text else no_token
+abbrev pub token_if_valid : List ℕ → Bearer
+token_if_valid text = if is_token text then token text else no_token
 
 -- the value of an Authorization field: the token is what follows `Bearer` and one space or more
-abbrev pub bearer_in : (value : List ℕ) → Bearer
-bearer_in value = if begins_with_bearer value then if_token (skip_spaces (drop 6 value)) else no_token
+abbrev pub bearer_in_field_value : (value : List ℕ) → Bearer
+bearer_in_field_value value = if begins_with_bearer value then token_if_valid (skip_spaces (drop 6 value)) else no_token
 
 -- of the Authorization fields
-abbrev pub bearer_among : List NamedValue → Bearer
-bearer_among [] = nobody
-bearer_among (field ∷ []) = bearer_in field.1
-bearer_among (field ∷ other ∷ fields) = doubled
+abbrev pub bearer_in_auth_fields : List NamedValue → Bearer
+bearer_in_auth_fields [] = nobody
+bearer_in_auth_fields (field ∷ []) = bearer_in_field_value field.1
+bearer_in_auth_fields (field ∷ other ∷ fields) = doubled
 
 -- of all fields
-abbrev pub bearer_of : List NamedValue → Bearer
-bearer_of fields = bearer_among (filter is_authorization fields)
+abbrev pub bearer_in_fields : List NamedValue → Bearer
+bearer_in_fields fields = bearer_in_auth_fields (filter is_authorization fields)

@@ -8,57 +8,57 @@ use Rattle.archive_requests.specs.declared.heads.HeadRead.{HeadRead}
 use Rattle.archive_requests.specs.declared.heads.HeadRead.TheVariants.{Whole, Bad, TooLarge}
 
 -- the bytes begin with this head, of at most 8,192 bytes and 64 fields
-pub record BeginsWith (given : List ℕ) (head : RequestHead) : Type 0 where
+pub record BeginsWithHead (given : List ℕ) (head : RequestHead) : Type 0 where
   pub rest : List ℕ
   pub reads : ReadsRequest given head rest
   pub short : length (print_request head) ≤ 8192
   pub few : length head.fields ≤ 64
 
 -- the bytes begin with a head of at most 8,192 bytes, but of more than 64 fields
-pub record Exceeds (given : List ℕ) (head : RequestHead) : Type 0 where
+pub record BeginsWithTooManyFields (given : List ℕ) (head : RequestHead) : Type 0 where
   pub rest : List ℕ
   pub reads : ReadsRequest given head rest
   pub short : length (print_request head) ≤ 8192
   pub many : 64 < length head.fields
 
 -- some bytes can follow that make the bytes begin with a head
-abbrev pub CanBecome : List ℕ → Type 0
-CanBecome given = (more : List ℕ) × (h : RequestHead) × (rest : List ℕ) × ReadsRequest (given ++ more) h rest
+abbrev pub CanBecomeHead : List ℕ → Type 0
+CanBecomeHead given = (more : List ℕ) × (h : RequestHead) × (rest : List ℕ) × ReadsRequest (given ++ more) h rest
 
 -- the spans are those of this head in the bytes
-pub record IsHeadAt (given : List ℕ) (h : RequestHead) (head : Head) : Type 0 where
+pub record HasSpansOfHead (given : List ℕ) (h : RequestHead) (head : Head) : Type 0 where
   pub filled : head.filled ≡ length given
   pub within : IsRequestWithin given head.fields head.spans
   pub at : IsRequestAt given head.fields head.spans h
 
 -- no line feed is among the bytes
-abbrev pub HasNoLine : List ℕ → Type 0
-HasNoLine bytes = (k : ℕ) → k < length bytes → slice_index bytes k ≢ 10
+abbrev pub HasNoLineFeed : List ℕ → Type 0
+HasNoLineFeed bytes = (k : ℕ) → k < length bytes → slice_index bytes k ≢ 10
 
 -- it is the head h
-abbrev pub IsWholeOf : List ℕ → RequestHead → HeadRead → Type 0
-IsWholeOf given h (Whole head) = IsHeadAt given h head
-IsWholeOf given h Bad = ⊥
-IsWholeOf given h TooLarge = ⊥
+abbrev pub IsReadOfHead : List ℕ → RequestHead → HeadRead → Type 0
+IsReadOfHead given h (Whole head) = HasSpansOfHead given h head
+IsReadOfHead given h Bad = ⊥
+IsReadOfHead given h TooLarge = ⊥
 
 -- P of a head that was read
-abbrev pub IfWhole : HeadRead → (Head → Type 0) → Type 0
-IfWhole (Whole head) P = P head
-IfWhole Bad P = ⊤
-IfWhole TooLarge P = ⊤
+abbrev pub IfHeadRead : HeadRead → (Head → Type 0) → Type 0
+IfHeadRead (Whole head) P = P head
+IfHeadRead Bad P = ⊤
+IfHeadRead TooLarge P = ⊤
 
 -- What was read of an input whose bytes are all of these, of which the given ones came.
-pub record IsReadAs (given all : List ℕ) (read : HeadRead) : Type 0 where
+pub record IsHeadReadOfInput (given all : List ℕ) (read : HeadRead) : Type 0 where
   -- the head that the input begins with, and no other
-  pub head : (h : RequestHead) → BeginsWith all h → IsWholeOf given h read
-  pub whole : IfWhole read (λ head. (h : RequestHead) × BeginsWith given h × IsHeadAt given h head)
+  pub head : (h : RequestHead) → BeginsWithHead all h → IsReadOfHead given h read
+  pub whole : IfHeadRead read (λ head. (h : RequestHead) × BeginsWithHead given h × HasSpansOfHead given h head)
   -- too large where it begins with a head of more fields
-  pub many : (h : RequestHead) → Exceeds all h → read ≡ TooLarge
+  pub many : (h : RequestHead) → BeginsWithTooManyFields all h → read ≡ TooLarge
   -- too large where its first 8,192 bytes hold no head and could still become one
-  pub long : 8192 ≤ length all → HasNoRequest (take 8192 all) → CanBecome (take 8192 all) → read ≡ TooLarge
+  pub long : 8192 ≤ length all → HasNoRequest (take 8192 all) → CanBecomeHead (take 8192 all) → read ≡ TooLarge
   -- and else only where so many bytes came, or more than 64 whole fields
   pub large : read ≡ TooLarge → (8192 ≤ length given) ⊎ RequestExceeds 64 given
 
 -- Whatever bytes follow, it is what the whole input is read as.
-abbrev pub IsFinal : List ℕ → HeadRead → Type 0
-IsFinal given read = (more : List ℕ) → IsReadAs given (given ++ more) read
+abbrev pub IsHeadReadFinal : List ℕ → HeadRead → Type 0
+IsHeadReadFinal given read = (more : List ℕ) → IsHeadReadOfInput given (given ++ more) read

@@ -2,36 +2,36 @@
 use Rattle.std.specs.Prelude.{◌≡◌, ◌≤◌, ◌++◌, ◌⊎◌, ℕ, List, length, take, ⊤}
 use Rattle.httparse.specs.Grammar.{RequestHead, HasNoRequest}
 use Rattle.httparse.specs.Spans.{RequestExceeds}
-use Rattle.archive_requests.specs.Asked.{named_request}
-use Rattle.archive_requests.specs.Heads.{BeginsWith, Exceeds, CanBecome}
+use Rattle.archive_requests.specs.Asked.{model_request}
+use Rattle.archive_requests.specs.Heads.{BeginsWithHead, BeginsWithTooManyFields, CanBecomeHead}
 use Rattle.archive_requests.specs.Requests.{request_of}
 use Rattle.archive_requests.specs.declared.reading.RequestRead.{RequestRead}
 use Rattle.archive_requests.specs.declared.reading.RequestRead.TheVariants.{Whole, Malformed, TooLarge}
 
 -- it is what this head asks for
-abbrev pub IsAskedBy : RequestHead → RequestRead → Type 0
-IsAskedBy h (Whole request) = named_request request ≡ request_of h
-IsAskedBy h Malformed = ⊥
-IsAskedBy h TooLarge = ⊥
+abbrev pub IsRequestOfHead : RequestHead → RequestRead → Type 0
+IsRequestOfHead h (Whole request) = model_request request ≡ request_of h
+IsRequestOfHead h Malformed = ⊥
+IsRequestOfHead h TooLarge = ⊥
 
 -- a whole head was read only where the bytes begin with one
-abbrev pub IsBegunBy : List ℕ → RequestRead → Type 0
-IsBegunBy given (Whole request) = (h : RequestHead) × BeginsWith given h × (named_request request ≡ request_of h)
-IsBegunBy given Malformed = ⊤
-IsBegunBy given TooLarge = ⊤
+abbrev pub IsRequestOfGivenHead : List ℕ → RequestRead → Type 0
+IsRequestOfGivenHead given (Whole request) = (h : RequestHead) × BeginsWithHead given h × (model_request request ≡ request_of h)
+IsRequestOfGivenHead given Malformed = ⊤
+IsRequestOfGivenHead given TooLarge = ⊤
 
 -- What was read of an input whose bytes are all of these, of which the given ones came.
-pub record IsRequestAs (given all : List ℕ) (read : RequestRead) : Type 0 where
+pub record IsRequestReadOfInput (given all : List ℕ) (read : RequestRead) : Type 0 where
   -- what the head that the input begins with asks for, and else no request
-  pub head : (h : RequestHead) → BeginsWith all h → IsAskedBy h read
-  pub whole : IsBegunBy given read
+  pub head : (h : RequestHead) → BeginsWithHead all h → IsRequestOfHead h read
+  pub whole : IsRequestOfGivenHead given read
   -- too large where it begins with a head of more fields
-  pub many : (h : RequestHead) → Exceeds all h → read ≡ TooLarge
+  pub many : (h : RequestHead) → BeginsWithTooManyFields all h → read ≡ TooLarge
   -- too large where its first 8,192 bytes hold no head and could still become one
-  pub long : 8192 ≤ length all → HasNoRequest (take 8192 all) → CanBecome (take 8192 all) → read ≡ TooLarge
+  pub long : 8192 ≤ length all → HasNoRequest (take 8192 all) → CanBecomeHead (take 8192 all) → read ≡ TooLarge
   -- and else only where so many bytes came, or more than 64 whole fields
   pub large : read ≡ TooLarge → (8192 ≤ length given) ⊎ RequestExceeds 64 given
 
 -- Whatever bytes follow, it is what is read of the whole input.
-abbrev pub IsSettled : List ℕ → RequestRead → Type 0
-IsSettled given read = (more : List ℕ) → IsRequestAs given (given ++ more) read
+abbrev pub IsRequestReadFinal : List ℕ → RequestRead → Type 0
+IsRequestReadFinal given read = (more : List ℕ) → IsRequestReadOfInput given (given ++ more) read

@@ -2,7 +2,7 @@
 use Rattle.std.specs.Prelude.{ℕ, ◌==◌, Bool, false, not, if◌then◌else◌, List, [], ◌∷◌, map, bytes_eq, codes, Option, Some, None}
 use Rattle.httparse.specs.Grammar.{RequestHead}
 use Rattle.httparse.specs.Spans.{name_and_value}
-use Rattle.archive_requests.specs.Bearer.{NamedValue, Bearer, nobody, token, no_token, doubled, bearer_of}
+use Rattle.archive_requests.specs.Bearer.{NamedValue, Bearer, nobody, token, no_token, doubled, bearer_in_fields}
 
 -- `bad`: 400, the target begins with no slash, or more than one Authorization field; `other_method`: 405, not GET;
 -- `unauthorized`: 401, an Authorization field that holds no token; `asks`: for a path, as nobody or by a token
@@ -21,18 +21,18 @@ abbrev pub begins_with_slash : List ℕ → Bool
 begins_with_slash [] = false
 begins_with_slash (b ∷ bs) = b == 47
 
-abbrev pub asked_by : Bearer → (path : List ℕ) → Request
-asked_by nobody path = asks None path
-asked_by (token text) path = asks (Some text) path
-asked_by no_token path = unauthorized
-asked_by doubled path = bad
+abbrev pub request_by_bearer : Bearer → (path : List ℕ) → Request
+request_by_bearer nobody path = asks None path
+request_by_bearer (token text) path = asks (Some text) path
+request_by_bearer no_token path = unauthorized
+request_by_bearer doubled path = bad
 
 -- the target, then the method, then who asks
-abbrev pub request_from : (method target : List ℕ) → List NamedValue → Request
-request_from method target fields =
+abbrev pub request_of_parts : (method target : List ℕ) → List NamedValue → Request
+request_of_parts method target fields =
     if not (begins_with_slash target) then bad
     else if not (bytes_eq method (codes "GET")) then other_method
-    else asked_by (bearer_of fields) (path_of target)
+    else request_by_bearer (bearer_in_fields fields) (path_of target)
 
 abbrev pub request_of : RequestHead → Request
-request_of h = request_from h.method h.target (map name_and_value h.fields)
+request_of h = request_of_parts h.method h.target (map name_and_value h.fields)

@@ -12,19 +12,19 @@ pub data Route : Type 0 where
   author : (list author : List ℕ) → Route
   mbox : (list : List ℕ) → Route
 
-abbrev pub onto_first : ℕ → List (List ℕ) → List (List ℕ)
-onto_first b [] = (b ∷ []) ∷ []
-onto_first b (segment ∷ segments) = (b ∷ segment) ∷ segments
+abbrev pub prepend_to_first_segment : ℕ → List (List ℕ) → List (List ℕ)
+prepend_to_first_segment b [] = (b ∷ []) ∷ []
+prepend_to_first_segment b (segment ∷ segments) = (b ∷ segment) ∷ segments
 
 -- the texts between the slashes, the empty ones too
 abbrev pub segments : List ℕ → List (List ℕ)
 segments [] = [] ∷ []
-segments (b ∷ bs) = if b == 47 then [] ∷ segments bs else onto_first b (segments bs)
+segments (b ∷ bs) = if b == 47 then [] ∷ segments bs else prepend_to_first_segment b (segments bs)
 
 -- a parameter is one byte or more
-abbrev pub given : {A : Type 0} → List ℕ → A → Option A
-given [] a = None
-given (b ∷ bs) a = Some a
+abbrev pub some_if_nonempty : {A : Type 0} → List ℕ → A → Option A
+some_if_nonempty [] a = None
+some_if_nonempty (b ∷ bs) a = Some a
 
 -- what follows `/l/LIST`
 abbrev pub list_route : (list : List ℕ) → List (List ℕ) → Option Route
@@ -33,21 +33,21 @@ list_route list (word ∷ []) =
     else if bytes_eq word (codes "mbox") then Some (mbox list)
     else None
 list_route list (word ∷ parameter ∷ []) =
-    if bytes_eq word (codes "m") then given parameter (message list parameter)
-    else if bytes_eq word (codes "month") then given parameter (month list parameter)
-    else if bytes_eq word (codes "t") then given parameter (thread list parameter)
-    else if bytes_eq word (codes "by") then given parameter (author list (percent_decode parameter))
+    if bytes_eq word (codes "m") then some_if_nonempty parameter (message list parameter)
+    else if bytes_eq word (codes "month") then some_if_nonempty parameter (month list parameter)
+    else if bytes_eq word (codes "t") then some_if_nonempty parameter (thread list parameter)
+    else if bytes_eq word (codes "by") then some_if_nonempty parameter (author list (percent_decode parameter))
     else None
 list_route list _ = None
 
-abbrev pub if_listed : (word list : List ℕ) → Option Route → Option Route
-if_listed word [] route = None
-if_listed word (b ∷ bs) route = if bytes_eq word (codes "l") then route else None
+abbrev pub route_if_list_path : (word list : List ℕ) → Option Route → Option Route
+route_if_list_path word [] route = None
+route_if_list_path word (b ∷ bs) route = if bytes_eq word (codes "l") then route else None
 
 -- the route of the segments of a path, the first of which stands before the first slash
 abbrev pub route_of_segments : List (List ℕ) → Option Route
 route_of_segments ([] ∷ [] ∷ []) = Some lists
-route_of_segments ([] ∷ word ∷ list ∷ rest) = if_listed word list (list_route list rest)
+route_of_segments ([] ∷ word ∷ list ∷ rest) = route_if_list_path word list (list_route list rest)
 route_of_segments _ = None
 
 -- Profile: the form of a path alone says which page is asked for, whether or not its list or message is there; an empty list name

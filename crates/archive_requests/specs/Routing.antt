@@ -12,19 +12,19 @@ use Rattle.archive_requests.specs.declared.routes.Route.TheVariants as found
 use Rattle.archive_requests.specs.declared.routes.Page.{Page}
 use Rattle.archive_requests.specs.declared.routes.Page.TheVariants.{Lists, Message, Month, Threads, Thread, Author, Mbox}
 
-abbrev pub Pages : Type 0
-Pages = RowsOf (RouteOf Page)
+abbrev pub RouteTable : Type 0
+RouteTable = RowsOf (RouteOf Page)
 
-abbrev pub with_scan : Result Scan InsertError → Page → Pages → Pages
-with_scan (Ok s) page rows = placed ((route_from s page).pattern, route_from s page) rows
-with_scan (Err e) page rows = rows
+abbrev pub with_parsed_route : Result Scan InsertError → Page → RouteTable → RouteTable
+with_parsed_route (Ok s) page rows = placed ((route_from s page).pattern, route_from s page) rows
+with_parsed_route (Err e) page rows = rows
 
 -- the rows with one route more
-abbrev pub with_route : List ℕ → Page → Pages → Pages
-with_route text page rows = with_scan (parse_route text) page rows
+abbrev pub with_route : List ℕ → Page → RouteTable → RouteTable
+with_route text page rows = with_parsed_route (parse_route text) page rows
 
-unfoldable pub pages : Pages
-pages =
+unfoldable pub route_table : RouteTable
+route_table =
     with_route (codes "/l/{list}/mbox") Mbox
     (with_route (codes "/l/{list}/by/{author}") Author
     (with_route (codes "/l/{list}/t/{key}") Thread
@@ -34,11 +34,11 @@ pages =
     (with_route (codes "/") Lists []))))))
 
 -- a route of the code, as the definition names it
-abbrev pub named_route : Found → Route
-named_route found.Lists = lists
-named_route (found.Message list key) = message list.now key.now
-named_route (found.Month list text) = month list.now text.now
-named_route (found.Threads list) = threads list.now
-named_route (found.Thread list key) = thread list.now key.now
-named_route (found.Author list who) = author list.now (percent_decode who.now)
-named_route (found.Mbox list) = mbox list.now
+abbrev pub model_route : Found → Route
+model_route found.Lists = lists
+model_route (found.Message list key) = message list.now key.now
+model_route (found.Month list text) = month list.now text.now
+model_route (found.Threads list) = threads list.now
+model_route (found.Thread list key) = thread list.now key.now
+model_route (found.Author list who) = author list.now (percent_decode who.now)
+model_route (found.Mbox list) = mbox list.now

@@ -2,10 +2,10 @@
 ghost use Rattle.std.specs.Prelude.{◌≡◌, length, map, codes, All};
 ghost use Rattle.std.specs.Str.{str_eq_ignore_ascii_case};
 ghost use Rattle.httparse.specs.Spans.{IsHeaderWithin, header_bytes};
-ghost use Rattle.archive_requests.specs.Asked.{named_bearer};
-ghost use Rattle.archive_requests.specs.Bearer.{bearer_in, bearer_of, begins_with_space, if_token, skip_spaces};
+ghost use Rattle.archive_requests.specs.Asked.{model_bearer};
+ghost use Rattle.archive_requests.specs.Bearer.{bearer_in_field_value, bearer_in_fields, begins_with_space, token_if_valid, skip_spaces};
 
-use archive_machine::is_token;
+use archive_model::is_token;
 use httparse::spans::HeaderSpan;
 use std::str;
 
@@ -23,7 +23,7 @@ pub(crate) enum Bearer<'b> {
 }
 
 fn if_token(bytes: &[u8]) -> Bearer<'_>
-    ensures { named_bearer result ≡ if_token bytes.now }
+    ensures { model_bearer result ≡ token_if_valid bytes.now }
 {
     if !is_token(bytes) {
         return Bearer::NoToken;
@@ -51,7 +51,7 @@ fn begins_with_space(bytes: &[u8]) -> bool
 }
 
 fn bearer_in(value: &[u8]) -> Bearer<'_>
-    ensures { named_bearer result ≡ bearer_in value.now }
+    ensures { model_bearer result ≡ bearer_in_field_value value.now }
 {
     let (scheme, rest) = value.split_at(6.min(value.len()));
     if !scheme.eq_ignore_ascii_case(b"bearer") {
@@ -73,7 +73,7 @@ fn is_authorization(name: &[u8]) -> bool
 /// Who asks, by the fields whose names and values lie in the bytes.
 pub(crate) fn bearer_of<'b>(bytes: &'b [u8], fields: &[HeaderSpan]) -> Bearer<'b>
     requires { All (IsHeaderWithin (length bytes.now)) fields.now }
-    ensures { named_bearer result ≡ bearer_of (map (header_bytes bytes.now) fields.now) }
+    ensures { model_bearer result ≡ bearer_in_fields (map (header_bytes bytes.now) fields.now) }
 {
     let mut found = None;
     for field in fields {

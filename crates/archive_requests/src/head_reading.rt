@@ -1,7 +1,7 @@
 //! Reading the bytes of a head from a source.
 ghost use Rattle.std.specs.Prelude.{◌≡◌, ◌≤◌, ◌<◌, ◌+◌, ◌++◌, ◌⊎◌, ℕ, List, length, take, false, IfOk, OnOk, OnErr};
 ghost use Rattle.httparse.specs.Grammar.{HasNoRequest};
-ghost use Rattle.archive_requests.specs.Heads.{HasNoLine, IsReadAs, IsFinal};
+ghost use Rattle.archive_requests.specs.Heads.{HasNoLineFeed, IsHeadReadOfInput, IsHeadReadFinal};
 
 use crate::heads::{HeadRead, MOST_BYTES, settled};
 use byte_device::{DeviceFailure, Source};
@@ -10,7 +10,7 @@ use memchr::memchr;
 /// What the bytes before the input's end are, which are too few for the most.
 fn at_end(bytes: &[u8]) -> HeadRead
     requires { length bytes.now < 8192 }
-    ensures { IsReadAs bytes.now bytes.now result }
+    ensures { IsHeadReadOfInput bytes.now bytes.now result }
 {
     match settled(bytes) {
         Some(read) => read,
@@ -21,7 +21,7 @@ fn at_end(bytes: &[u8]) -> HeadRead
 /// What a full buffer is.
 fn at_most(bytes: &[u8]) -> HeadRead
     requires { length bytes.now ≡ 8192 }
-    ensures { IsFinal bytes.now result }
+    ensures { IsHeadReadFinal bytes.now result }
 {
     match settled(bytes) {
         Some(read) => read,
@@ -31,7 +31,7 @@ fn at_most(bytes: &[u8]) -> HeadRead
 
 /// Whether a line feed is among the bytes.
 fn has_line(bytes: &[u8]) -> bool
-    ensures { result ≡ false → HasNoLine bytes.now }
+    ensures { result ≡ false → HasNoLineFeed bytes.now }
 {
     memchr(b'\n', bytes).is_some()
 }
@@ -41,7 +41,7 @@ fn read_noted<R: Source>(input: &mut R, buffer: &mut [u8]) -> Result<(usize, boo
     requires { 0 < length buffer.old }
     ensures bytes { IfOk result (λ r. (r.0 ≤ length buffer.new)
         × (R.told input.new ≡ R.told input.old ++ take r.0 buffer.new)
-        × (r.1 ≡ false → HasNoLine (take r.0 buffer.new))) }
+        × (r.1 ≡ false → HasNoLineFeed (take r.0 buffer.new))) }
     ensures ends { IfOk result (λ r. ((r.0 ≡ 0) × (R.ends input.new ≡ R.ends input.old + 1))
         ⊎ ((0 < r.0) × (R.ends input.new ≡ R.ends input.old))) }
     ensures quiet { OnOk result (R.failures input.new ≡ R.failures input.old) }
@@ -72,7 +72,7 @@ fn read_more<R: Source>(
         × (filled + r.0 ≤ length buffer.old)
         × (R.told input.new ≡ R.told input.old ++ piece)
         × (take (filled + r.0) buffer.new ≡ take filled buffer.old ++ piece)
-        × (r.1 ≡ false → HasNoLine piece)) }
+        × (r.1 ≡ false → HasNoLineFeed piece)) }
     ensures ends { IfOk result (λ r. ((r.0 ≡ 0) × (R.ends input.new ≡ R.ends input.old + 1))
         ⊎ ((0 < r.0) × (R.ends input.new ≡ R.ends input.old))) }
     ensures quiet { OnOk result (R.failures input.new ≡ R.failures input.old) }
@@ -94,8 +94,8 @@ pub(crate) fn read_head<R: Source>(
         × (R.told input.new ≡ R.told input.old ++ given)
         × (given ≡ take (length given) buffer.new)
         × (((R.ends input.new ≡ R.ends input.old + 1) × HasNoRequest given
-        × IsReadAs given given read)
-        ⊎ ((R.ends input.new ≡ R.ends input.old) × IsFinal given read))) }
+        × IsHeadReadOfInput given given read)
+        ⊎ ((R.ends input.new ≡ R.ends input.old) × IsHeadReadFinal given read))) }
     ensures quiet { OnOk result (R.failures input.new ≡ R.failures input.old) }
 
     // A read failed, and before it there was no whole head.

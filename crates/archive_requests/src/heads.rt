@@ -1,7 +1,7 @@
 //! The head that some bytes begin with.
 ghost use Rattle.std.specs.Prelude.{◌≡◌, ◌≤◌, length, IfSome, None};
 ghost use Rattle.httparse.specs.Grammar.{HasNoRequest};
-ghost use Rattle.archive_requests.specs.Heads.{IsFinal};
+ghost use Rattle.archive_requests.specs.Heads.{IsHeadReadFinal};
 
 use httparse::spans::{EMPTY_HEADER_SPAN, HeaderSpan, RequestSpans, parse_request};
 use httparse::{Error, Status};
@@ -37,7 +37,7 @@ pub(crate) enum HeadRead {
 /// yet.
 pub(crate) fn settled(bytes: &[u8]) -> Option<HeadRead>
     requires { length bytes.now ≤ 8192 }
-    ensures read { IfSome result (λ read. IsFinal bytes.now read) }
+    ensures read { IfSome result (λ read. IsHeadReadFinal bytes.now read) }
     ensures more { result ≡ None → HasNoRequest bytes.now }
 {
     let mut fields = [EMPTY_HEADER_SPAN; MOST_FIELDS];

@@ -7,7 +7,7 @@
 pub use heads::{MOST_BYTES, MOST_FIELDS};
 pub use reading::{RequestRead, read_request};
 pub use requests::Request;
-pub use routes::{Route, Routes, decoded, route_of};
+pub use routes::{Route, Routes, percent_decoded, route_of};
 
 mod bearer;
 mod head_reading;

@@ -1,7 +1,7 @@
 //! Reading a request from a source.
 ghost use Rattle.std.specs.Prelude.{◌≡◌, ◌<◌, ◌+◌, ◌++◌, ◌⊎◌, ℕ, List, IfOk, OnOk, OnErr};
 ghost use Rattle.httparse.specs.Grammar.{HasNoRequest};
-ghost use Rattle.archive_requests.specs.Reading.{IsRequestAs, IsSettled};
+ghost use Rattle.archive_requests.specs.Reading.{IsRequestReadOfInput, IsRequestReadFinal};
 
 use crate::head_reading::read_head;
 use crate::heads::{HeadRead, MOST_BYTES};
@@ -30,8 +30,8 @@ pub fn read_request<'b, R: Source>(
     ensures read { IfOk result (λ read. (given : List ℕ)
         × (R.told input.new ≡ R.told input.old ++ given)
         × (((R.ends input.new ≡ R.ends input.old + 1) × HasNoRequest given
-        × IsRequestAs given given read)
-        ⊎ ((R.ends input.new ≡ R.ends input.old) × IsSettled given read))) }
+        × IsRequestReadOfInput given given read)
+        ⊎ ((R.ends input.new ≡ R.ends input.old) × IsRequestReadFinal given read))) }
     ensures quiet { OnOk result (R.failures input.new ≡ R.failures input.old) }
 
     // A read failed, and before it there was no whole head.

@@ -2,8 +2,8 @@
 ghost use Rattle.std.specs.Prelude.{◌≡◌};
 ghost use Rattle.httparse.specs.Grammar.{RequestHead};
 ghost use Rattle.httparse.specs.Spans.{IsRequestWithin};
-ghost use Rattle.archive_requests.specs.Asked.{named_request};
-ghost use Rattle.archive_requests.specs.Heads.{IsHeadAt};
+ghost use Rattle.archive_requests.specs.Asked.{model_request};
+ghost use Rattle.archive_requests.specs.Heads.{HasSpansOfHead};
 ghost use Rattle.archive_requests.specs.Requests.{path_of, request_of};
 
 use crate::bearer::{Bearer, bearer_of};
@@ -40,8 +40,8 @@ impl Head {
     /// What the request asks for. `bytes` are those that the head was read from.
     pub(crate) fn request<'b>(&self, bytes: &'b [u8]) -> Request<'b>
         requires { IsRequestWithin bytes.now self.now.fields self.now.spans }
-        ensures { (h : RequestHead) → IsHeadAt bytes.now h self.now
-            → named_request result ≡ request_of h }
+        ensures { (h : RequestHead) → HasSpansOfHead bytes.now h self.now
+            → model_request result ≡ request_of h }
     {
         let Ok(target) = str::from_utf8(self.spans.path.of(bytes)) else {
             return Request::Bad;

@@ -3,7 +3,7 @@ ghost use Rattle.std.specs.Prelude.{◌≡◌, IfOk, IfErr};
 ghost use Rattle.std.specs.Option.{option_map};
 ghost use Rattle.percent_encoding.specs.Percent.{percent_decode};
 ghost use Rattle.archive_requests.specs.Routes.{route_of};
-ghost use Rattle.archive_requests.specs.Routing.{pages, named_route};
+ghost use Rattle.archive_requests.specs.Routing.{route_table, model_route};
 
 use mail_core::Memory;
 use matchit::{InsertError, Router};
@@ -35,7 +35,7 @@ pub enum Route<'p> {
     Threads { list: &'p str },
     /// The thread of the message with this key.
     Thread { list: &'p str, key: &'p str },
-    /// The messages of an author, whose key `decoded` reads.
+    /// The messages of an author, whose key `percent_decoded` reads.
     Author { list: &'p str, author: &'p str },
     /// The messages of a list, as an mbox.
     Mbox { list: &'p str },
@@ -43,7 +43,7 @@ pub enum Route<'p> {
 
 // The router of the pages. Only memory can refuse it.
 fn router_of_pages(alloc: Global) -> Result<Router<Page>, InsertError>
-    ensures rows { IfOk result (λ router. router ≡ pages) }
+    ensures rows { IfOk result (λ router. router ≡ route_table) }
     ensures memory { IfErr result (λ e. e ≡ InsertError.OutOfMemory) }
 {
     let mut router = Router::new(alloc);
@@ -61,7 +61,7 @@ fn router_of_pages(alloc: Global) -> Result<Router<Page>, InsertError>
 #[derive(Drop)]
 pub struct Routes {
     router: Router<Page>,
-    ghost of_pages: { router ≡ pages },
+    ghost of_pages: { router ≡ route_table },
 }
 
 impl Routes {
@@ -75,7 +75,7 @@ impl Routes {
 
     /// The route of a path. It takes no memory.
     pub fn find<'p>(&self, path: &'p str) -> Option<Route<'p>>
-        ensures { option_map named_route result ≡ route_of path.now }
+        ensures { option_map model_route result ≡ route_of path.now }
     {
         let Ok(found) = self.router.at(path) else {
             return None;
@@ -111,7 +111,7 @@ impl Routes {
 
 /// The route of a path, by routes that are made here. `Memory`: theirs was refused.
 pub fn route_of<'p>(alloc: Global, path: &'p str) -> Result<Option<Route<'p>>, Memory>
-    ensures { IfOk result (λ route. option_map named_route route ≡ route_of path.now) }
+    ensures { IfOk result (λ route. option_map model_route route ≡ route_of path.now) }
 {
     let routes = Routes::new(alloc)?;
     Ok(routes.find(path))
@@ -119,7 +119,7 @@ pub fn route_of<'p>(alloc: Global, path: &'p str) -> Result<Option<Route<'p>>, M
 
 /// The bytes that a percent-encoded text stands for (RFC 3986, section 2.1). An escape that is none
 /// stays as it is. `Memory`: theirs was refused.
-pub fn decoded(alloc: Global, text: &str) -> Result<Vec<u8>, Memory>
+pub fn percent_decoded(alloc: Global, text: &str) -> Result<Vec<u8>, Memory>
     ensures { IfOk result (λ bytes. bytes.items ≡ percent_decode text.now) }
 {
     let mut bytes = Vec::new(alloc);

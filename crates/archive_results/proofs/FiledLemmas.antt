@@ -13,14 +13,14 @@ use Rattle.std.proofs.lemmas.Cmp.{int_cmp_total}
 use Rattle.mail_core.specs.Author.{author_of}
 use Rattle.mail_core.specs.Headers.{sent_date_of}
 use Rattle.civil_time.specs.Calendar.{month_of_instant}
-use Rattle.archive_machine.specs.Records.{Message, Archive}
-use Rattle.archive_machine.specs.Filing.{Filed, with_filed, by_filed_date, is_filed_in_month, is_filed_by_author}
-use Rattle.archive_machine.specs.Sound.{IsFiledRight}
-use Rattle.archive_machine.proofs.FilingLemmas.{with_filing, month_by_texts, author_by_texts}
-use Rattle.archive_results.specs.Access.{Ask, is_shown, reader_marks, view_of}
-use Rattle.archive_results.specs.Shown.{Line, line_of, shown_of}
-use Rattle.archive_results.specs.Results.{lines_of, with_line, by_sent, is_of_month, is_of_author, month_lines, author_lines}
-use Rattle.archive_results.specs.Filed.{filed_month_lines, filed_author_lines}
+use Rattle.archive_model.specs.Records.{Message, Archive}
+use Rattle.archive_model.specs.Filing.{IndexedMessage, insert_by_indexed_date, sort_by_indexed_date, is_indexed_in_month, is_indexed_by_author}
+use Rattle.archive_model.specs.Sound.{IsIndexedCorrectly}
+use Rattle.archive_model.proofs.FilingLemmas.{with_filing, month_by_texts, author_by_texts}
+use Rattle.archive_results.specs.Access.{Ask, is_shown, reader_facts, view_of}
+use Rattle.archive_results.specs.Shown.{Line, line_of, shown_message}
+use Rattle.archive_results.specs.Results.{lines_of, insert_line_by_date, sort_lines_by_date, is_of_month, is_of_author, month_lines, author_lines}
+use Rattle.archive_results.specs.Filed.{indexed_month_lines, indexed_author_lines}
 use Rattle.archive_results.proofs.SortLemmas.{put, ordered, Rising, rising, stable, alone, is_less}
 
 -- ---- filters
@@ -88,34 +88,34 @@ order =
     }
 
 abbrev line : Message → Line
-line m = line_of (shown_of m)
+line m = line_of (shown_message m)
 
-put_filed : (m : Message) (ms : List Message) → with_filed (with_filing m) (map with_filing ms) ≡ map with_filing (put before m ms)
+put_filed : (m : Message) (ms : List Message) → insert_by_indexed_date (with_filing m) (map with_filing ms) ≡ map with_filing (put before m ms)
 put_filed m [] = refl
 put_filed m (n ∷ ms) = cases (before n m) (put_filed m ms)
   where
-    cases : (b : Bool) → with_filed (with_filing m) (map with_filing ms) ≡ map with_filing (put before m ms)
-        → (if b then with_filing n ∷ with_filed (with_filing m) (map with_filing ms) else with_filing m ∷ with_filing n ∷ map with_filing ms)
+    cases : (b : Bool) → insert_by_indexed_date (with_filing m) (map with_filing ms) ≡ map with_filing (put before m ms)
+        → (if b then with_filing n ∷ insert_by_indexed_date (with_filing m) (map with_filing ms) else with_filing m ∷ with_filing n ∷ map with_filing ms)
         ≡ map with_filing (if b then n ∷ put before m ms else m ∷ n ∷ ms)
     cases true later = ap (λ l. with_filing n ∷ l) later
     cases false later = refl
 
-filed_ordered : (ms : List Message) → by_filed_date (map with_filing ms) ≡ map with_filing (ordered before ms)
+filed_ordered : (ms : List Message) → sort_by_indexed_date (map with_filing ms) ≡ map with_filing (ordered before ms)
 filed_ordered [] = refl
-filed_ordered (m ∷ ms) = ap (with_filed (with_filing m)) (filed_ordered ms) ∙ put_filed m (ordered before ms)
+filed_ordered (m ∷ ms) = ap (insert_by_indexed_date (with_filing m)) (filed_ordered ms) ∙ put_filed m (ordered before ms)
 
-put_line : (m : Message) (ms : List Message) → with_line (line m) (map line ms) ≡ map line (put before m ms)
+put_line : (m : Message) (ms : List Message) → insert_line_by_date (line m) (map line ms) ≡ map line (put before m ms)
 put_line m [] = refl
 put_line m (n ∷ ms) = cases (before n m) (put_line m ms)
   where
-    cases : (b : Bool) → with_line (line m) (map line ms) ≡ map line (put before m ms)
-        → (if b then line n ∷ with_line (line m) (map line ms) else line m ∷ line n ∷ map line ms) ≡ map line (if b then n ∷ put before m ms else m ∷ n ∷ ms)
+    cases : (b : Bool) → insert_line_by_date (line m) (map line ms) ≡ map line (put before m ms)
+        → (if b then line n ∷ insert_line_by_date (line m) (map line ms) else line m ∷ line n ∷ map line ms) ≡ map line (if b then n ∷ put before m ms else m ∷ n ∷ ms)
     cases true later = ap (λ l. line n ∷ l) later
     cases false later = refl
 
-lines_ordered : (ms : List Message) → by_sent (map line ms) ≡ map line (ordered before ms)
+lines_ordered : (ms : List Message) → sort_lines_by_date (map line ms) ≡ map line (ordered before ms)
 lines_ordered [] = refl
-lines_ordered (m ∷ ms) = ap (with_line (line m)) (lines_ordered ms) ∙ put_line m (ordered before ms)
+lines_ordered (m ∷ ms) = ap (insert_line_by_date (line m)) (lines_ordered ms) ∙ put_line m (ordered before ms)
 
 -- ---- of those that are filed as their texts say
 
@@ -134,20 +134,23 @@ module _ (of_list shown test : Message → Bool) where
       cases true false true p q r later = rw r (rw q later)
       cases true false false p q r later = rw r later
 
-  by_texts : (wanted : Filed → Bool) (of_line : Line → Bool) → ((m : Message) → wanted (with_filing m) ≡ (of_list m && test m)) → ((m : Message) → of_line (line m) ≡ test m) → (ms : List Message)
-      → lines_of (map shown_of (filter shown (map (λ (f : Filed). f.0) (by_filed_date (filter wanted (map with_filing ms))))))
-      ≡ by_sent (filter of_line (lines_of (map shown_of (filter shown (filter of_list ms)))))
+  by_texts : (wanted : IndexedMessage → Bool) (of_line : Line → Bool) → ((m : Message) → wanted (with_filing m) ≡ (of_list m && test m)) → ((m : Message) → of_line (line m) ≡ test m)
+      → (ms : List Message)
+      → lines_of (map shown_message (filter shown (map (λ (f : IndexedMessage). f.0) (sort_by_indexed_date (filter wanted (map with_filing ms))))))
+      ≡ sort_lines_by_date (filter of_line (lines_of (map shown_message (filter shown (filter of_list ms)))))
   by_texts wanted of_line is line_is ms =
       let found = filter (λ m. wanted (with_filing m)) ms in
       let them = filter shown (filter of_list ms) in
-      let first : map (λ (f : Filed). f.0) (by_filed_date (filter wanted (map with_filing ms))) ≡ ordered before found =
-      ap (λ fs. map (λ (f : Filed). f.0) (by_filed_date fs)) (filter_map with_filing wanted ms) ∙ ap (map (λ (f : Filed). f.0)) (filed_ordered found)
-      ∙ map_of_map (λ (f : Filed). f.0) with_filing (ordered before found) ∙ map_same (ordered before found) in
-      let left : lines_of (map shown_of (filter shown (map (λ (f : Filed). f.0) (by_filed_date (filter wanted (map with_filing ms)))))) ≡ map line (ordered before (filter shown found)) =
-      ap (λ l. lines_of (map shown_of (filter shown l))) first ∙ ap (λ l. lines_of (map shown_of l)) (ordered_kept before order shown found)
-      ∙ map_of_map line_of shown_of (ordered before (filter shown found)) in
-      let right : by_sent (filter of_line (lines_of (map shown_of them))) ≡ map line (ordered before (filter (λ m. of_line (line m)) them)) =
-      ap (λ l. by_sent (filter of_line l)) (map_of_map line_of shown_of them) ∙ ap by_sent (filter_map line of_line them) ∙ lines_ordered (filter (λ m. of_line (line m)) them) in
+      let first : map (λ (f : IndexedMessage). f.0) (sort_by_indexed_date (filter wanted (map with_filing ms))) ≡ ordered before found =
+      ap (λ fs. map (λ (f : IndexedMessage). f.0) (sort_by_indexed_date fs)) (filter_map with_filing wanted ms) ∙ ap (map (λ (f : IndexedMessage). f.0)) (filed_ordered found)
+      ∙ map_of_map (λ (f : IndexedMessage). f.0) with_filing (ordered before found) ∙ map_same (ordered before found) in
+      let left : lines_of (map shown_message (filter shown (map (λ (f : IndexedMessage). f.0) (sort_by_indexed_date (filter wanted (map with_filing ms)))))) ≡ map line
+      (ordered before (filter shown found)) =
+      ap (λ l. lines_of (map shown_message (filter shown l))) first ∙ ap (λ l. lines_of (map shown_message l)) (ordered_kept before order shown found)
+      ∙ map_of_map line_of shown_message (ordered before (filter shown found)) in
+      let right : sort_lines_by_date (filter of_line (lines_of (map shown_message them))) ≡ map line (ordered before (filter (λ m. of_line (line m)) them)) =
+      ap (λ l. sort_lines_by_date (filter of_line l)) (map_of_map line_of shown_message them) ∙ ap sort_lines_by_date (filter_map line of_line them) ∙ lines_ordered
+      (filter (λ m. of_line (line m)) them) in
       left ∙ ap (λ l. map line (ordered before l)) (kept_alike (λ m. wanted (with_filing m)) is ms ∙ sym (same_filter (λ m. of_line (line m)) test line_is them)) ∙ sym right
     where
       same_filter : (p q : Message → Bool) → ((m : Message) → p m ≡ q m) → (ms : List Message) → filter p ms ≡ filter q ms
@@ -157,14 +160,14 @@ module _ (of_list shown test : Message → Bool) where
 same_number : (a b : ℕ) → int_eq (pos a) (pos b) ≡ (a == b)
 same_number a b = grind (arith, ints, nat_tests)
 
-pub month_is_filed : (a : Archive) (ask : Ask) (month : ℕ) → IsFiledRight a → filed_month_lines a ask (pos month) ≡ month_lines month (map shown_of (view_of a ask))
+pub month_is_filed : (a : Archive) (ask : Ask) (month : ℕ) → IsIndexedCorrectly a → indexed_month_lines a ask (pos month) ≡ month_lines month (map shown_message (view_of a ask))
 month_is_filed a ask month right =
-    ap (λ l. lines_of (map shown_of (filter (is_shown ask (reader_marks a ask)) l))) (month_by_texts a ask.list (pos month) right)
-    ∙ by_texts (λ m. bytes_eq m.list ask.list) (is_shown ask (reader_marks a ask)) (λ m. month_of_instant (date_of m) == month) (is_filed_in_month ask.list (pos month)) (is_of_month month)
+    ap (λ l. lines_of (map shown_message (filter (is_shown ask (reader_facts a ask)) l))) (month_by_texts a ask.list (pos month) right)
+    ∙ by_texts (λ m. bytes_eq m.list ask.list) (is_shown ask (reader_facts a ask)) (λ m. month_of_instant (date_of m) == month) (is_indexed_in_month ask.list (pos month)) (is_of_month month)
     (λ m. ap (λ b. bytes_eq m.list ask.list && b) (same_number (month_of_instant (date_of m)) month)) (λ m. refl) a.messages
 
-pub author_is_filed : (a : Archive) (ask : Ask) (key : List ℕ) → IsFiledRight a → filed_author_lines a ask key ≡ author_lines key (map shown_of (view_of a ask))
+pub author_is_filed : (a : Archive) (ask : Ask) (key : List ℕ) → IsIndexedCorrectly a → indexed_author_lines a ask key ≡ author_lines key (map shown_message (view_of a ask))
 author_is_filed a ask key right =
-    ap (λ l. lines_of (map shown_of (filter (is_shown ask (reader_marks a ask)) l))) (author_by_texts a ask.list key right)
-    ∙ by_texts (λ m. bytes_eq m.list ask.list) (is_shown ask (reader_marks a ask)) (λ m. bytes_eq (author_of m.text) key) (is_filed_by_author ask.list key) (is_of_author key)
+    ap (λ l. lines_of (map shown_message (filter (is_shown ask (reader_facts a ask)) l))) (author_by_texts a ask.list key right)
+    ∙ by_texts (λ m. bytes_eq m.list ask.list) (is_shown ask (reader_facts a ask)) (λ m. bytes_eq (author_of m.text) key) (is_indexed_by_author ask.list key) (is_of_author key)
     (λ m. refl) (λ m. refl) a.messages

@@ -7,18 +7,19 @@ use Rattle.std.proofs.lemmas.List.Elements.{All-head, All-tail}
 use Rattle.std.proofs.lemmas.Bool.{true≢false}
 use Rattle.std.proofs.lemmas.Slice.Eq.{bytes_eq-Decides}
 use Rattle.mail_core.specs.Author.{author_of}
-use Rattle.archive_machine.specs.Records.{Address, Archive, Message}
-use Rattle.archive_machine.specs.Addresses.{is_address}
-use Rattle.archive_machine.specs.Questions.{is_address_of, address_of}
-use Rattle.archive_machine.specs.Sound.{HasNamesAndTokens}
-use Rattle.archive_results.specs.Access.{Ask, IsOwn, own_of, reader_marks}
+use Rattle.archive_model.specs.Records.{Address, Archive, Message}
+use Rattle.archive_model.specs.Addresses.{is_address}
+use Rattle.archive_model.specs.Questions.{is_address_of, address_of}
+use Rattle.archive_model.specs.Sound.{HasValidNamesAndTokens}
+use Rattle.archive_results.specs.Access.{Ask, IsOwnMessage, is_own_by_address, reader_facts}
 
-pub nobody : (archive : Archive) (ask : Ask) (m : Message) → ask.reader ≡ None → own_of (reader_marks archive ask).address m ≡ false
-nobody archive ask m e = ap (λ (reader : Option (List ℕ)). own_of (option_and_then (address_of archive) reader) m) e
+pub nobody : (archive : Archive) (ask : Ask) (m : Message) → ask.reader ≡ None → is_own_by_address (reader_facts archive ask).address m ≡ false
+nobody archive ask m e = ap (λ (reader : Option (List ℕ)). is_own_by_address (option_and_then (address_of archive) reader) m) e
 
-pub unaddressed : (archive : Archive) (ask : Ask) (person : List ℕ) (m : Message) → ask.reader ≡ Some person → address_of archive person ≡ None → own_of (reader_marks archive ask).address m ≡ false
+pub unaddressed : (archive : Archive) (ask : Ask) (person : List ℕ) (m : Message) → ask.reader ≡ Some person → address_of archive person ≡ None
+    → is_own_by_address (reader_facts archive ask).address m ≡ false
 unaddressed archive ask person m e none =
-    ap (λ (reader : Option (List ℕ)). own_of (option_and_then (address_of archive) reader) m) e ∙ ap (λ (address : Option (List ℕ)). own_of address m) none
+    ap (λ (reader : Option (List ℕ)). is_own_by_address (option_and_then (address_of archive) reader) m) e ∙ ap (λ (address : Option (List ℕ)). is_own_by_address address m) none
 
 -- ---- a message that is the reader's own, in words
 
@@ -26,21 +27,22 @@ itself : (a : List ℕ) → bytes_eq a a ≡ true
 itself a = (bytes_eq-Decides a a).1 refl
 
 by_found : (archive : Archive) (ask : Ask) (m : Message) (person : List ℕ) (address : Option (List ℕ)) → ask.reader ≡ Some person → address_of archive person ≡ address
-    → own_of address m ≡ true → IsOwn archive ask m
+    → is_own_by_address address m ≡ true → IsOwnMessage archive ask m
 by_found archive ask m person None is found own = absurd (true≢false (sym own))
 by_found archive ask m person (Some text) is found own =
     record { person = person; reader = is; address = found ∙ ap (λ (t : List ℕ). Some t) ((bytes_eq-Decides text (author_of m.text)).0 own) }
 
-by_named : (archive : Archive) (ask : Ask) (m : Message) (reader : Option (List ℕ)) → ask.reader ≡ reader → own_of (option_and_then (address_of archive) reader) m ≡ true → IsOwn archive ask m
+by_named : (archive : Archive) (ask : Ask) (m : Message) (reader : Option (List ℕ)) → ask.reader ≡ reader → is_own_by_address (option_and_then (address_of archive) reader) m ≡ true
+    → IsOwnMessage archive ask m
 by_named archive ask m None is own = absurd (true≢false (sym own))
 by_named archive ask m (Some person) is own = by_found archive ask m person (address_of archive person) is refl own
 
-of_words : (archive : Archive) (ask : Ask) (m : Message) → IsOwn archive ask m → own_of (reader_marks archive ask).address m ≡ true
+of_words : (archive : Archive) (ask : Ask) (m : Message) → IsOwnMessage archive ask m → is_own_by_address (reader_facts archive ask).address m ≡ true
 of_words archive ask m it =
-    ap (λ (reader : Option (List ℕ)). own_of (option_and_then (address_of archive) reader) m) it.reader
-    ∙ ap (λ (address : Option (List ℕ)). own_of address m) it.address ∙ itself (author_of m.text)
+    ap (λ (reader : Option (List ℕ)). is_own_by_address (option_and_then (address_of archive) reader) m) it.reader
+    ∙ ap (λ (address : Option (List ℕ)). is_own_by_address address m) it.address ∙ itself (author_of m.text)
 
-pub exactly : (archive : Archive) (ask : Ask) (m : Message) → (own_of (reader_marks archive ask).address m ≡ true) ↔ IsOwn archive ask m
+pub exactly : (archive : Archive) (ask : Ask) (m : Message) → (is_own_by_address (reader_facts archive ask).address m ≡ true) ↔ IsOwnMessage archive ask m
 exactly archive ask m = (by_named archive ask m ask.reader refl, of_words archive ask m)
 
 -- ---- an author key that is not empty
@@ -62,9 +64,9 @@ found_is person (a ∷ addresses) all text e =
     found_by person a (is_address_of person a) (find (is_address_of person) addresses) (All-head Such a addresses all)
     (found_is person addresses (All-tail Such a addresses all)) text e
 
-authored_by : (archive : Archive) (ask : Ask) (m : Message) → HasNamesAndTokens archive → IsOwn archive ask m → author_of m.text ≢ []
+authored_by : (archive : Archive) (ask : Ask) (m : Message) → HasValidNamesAndTokens archive → IsOwnMessage archive ask m → author_of m.text ≢ []
 authored_by archive ask m such it empty =
     true≢false (sym (found_is it.person archive.addresses such.addresses (author_of m.text) it.address) ∙ ap is_address empty)
 
-pub authored : (archive : Archive) (ask : Ask) (m : Message) → HasNamesAndTokens archive → own_of (reader_marks archive ask).address m ≡ true → author_of m.text ≢ []
+pub authored : (archive : Archive) (ask : Ask) (m : Message) → HasValidNamesAndTokens archive → is_own_by_address (reader_facts archive ask).address m ≡ true → author_of m.text ≢ []
 authored archive ask m such own = authored_by archive ask m such ((exactly archive ask m).0 own)

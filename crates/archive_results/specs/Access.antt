@@ -10,10 +10,10 @@ use Rattle.policy_core.specs.declared.access.Standing.TheVariants.{Public, Membe
 use Rattle.policy_core.specs.declared.access.Withdrawn.{Withdrawn}
 use Rattle.policy_core.specs.declared.access.Withdrawn.TheVariants.{No, Author, Board}
 use Rattle.policy_core.specs.Facts.{Facts}
-use Rattle.policy_core.specs.Rules.{Rule, asks_own}
+use Rattle.policy_core.specs.Rules.{Rule, has_own_condition}
 use Rattle.policy_core.specs.Verdict.{Ruling, allowed, denied, verdict_of}
-use Rattle.archive_machine.specs.Records.{Message, Archive}
-use Rattle.archive_machine.specs.Questions.{has_list, has_person, address_of, standing_of, messages_in, message_of}
+use Rattle.archive_model.specs.Records.{Message, Archive}
+use Rattle.archive_model.specs.Questions.{has_list, has_person, address_of, standing_of, messages_in, message_of}
 use Rattle.archive_results.specs.declared.asking.Reader.{Reader}
 use Rattle.archive_results.specs.declared.asking.Reader.TheVariants.{Nobody, Person}
 use Rattle.archive_results.specs.declared.asking.Asked.{Asked as Told}
@@ -27,61 +27,61 @@ pub record Ask : Type 0 where
   pub day : ℤ
 
 -- the name of a reader
-abbrev pub name_of : Reader → Option (List ℕ)
-name_of Nobody = None
-name_of (Person name) = Some name.now
+abbrev pub reader_name : Reader → Option (List ℕ)
+reader_name Nobody = None
+reader_name (Person name) = Some name.now
 
 -- ---- the facts that a policy is asked about
 
 -- the standing of a rank: 1 is a member, 2 a subscriber, 3 a moderator
-abbrev pub standing_ranked : ℤ → Standing
-standing_ranked rank =
+abbrev pub standing_of_rank : ℤ → Standing
+standing_of_rank rank =
     if int_eq rank (pos 3) then Moderator
     else if int_eq rank (pos 2) then Subscriber
     else if int_eq rank (pos 1) then Member
     else Public
 
 -- who withdrew a message, by number: 1 its author, 2 the board
-abbrev pub withdrawal_numbered : ℤ → Withdrawn
-withdrawal_numbered number = if int_eq number (pos 2) then Board else if int_eq number (pos 1) then Author else No
+abbrev pub withdrawal_of_number : ℤ → Withdrawn
+withdrawal_of_number number = if int_eq number (pos 2) then Board else if int_eq number (pos 1) then Author else No
 
 -- the reader's standing on the list and the day; nobody is the public
 abbrev pub reader_standing : Archive → Ask → Standing
-reader_standing archive ask = option_map_or (λ person. standing_ranked (standing_of archive person ask.list ask.day)) ask.reader Public
+reader_standing archive ask = option_map_or (λ person. standing_of_rank (standing_of archive person ask.list ask.day)) ask.reader Public
 
 -- What a policy asks of a reader: the standing on the list and the day, and the address of a person who has one.
-pub record ReaderMarks : Type 0 where
+pub record ReaderFacts : Type 0 where
   pub standing : Standing
   pub address : Option (List ℕ)
 
 -- who asks, as the archive knows it on the list and day of the question; nobody is the public, and has no address
-abbrev pub reader_marks : Archive → Ask → ReaderMarks
-reader_marks archive ask =
+abbrev pub reader_facts : Archive → Ask → ReaderFacts
+reader_facts archive ask =
     record { standing = reader_standing archive ask; address = option_and_then (address_of archive) ask.reader }
 
 -- A message is the own one of a reader with this address: it is the message's author key. Who has no address has no own message.
-abbrev pub own_of : (address : Option (List ℕ)) → Message → Bool
-own_of address m = option_map_or (λ a. bytes_eq a (author_of m.text)) address false
+abbrev pub is_own_by_address : (address : Option (List ℕ)) → Message → Bool
+is_own_by_address address m = option_map_or (λ a. bytes_eq a (author_of m.text)) address false
 
 -- What a policy asks of a message: when it came, who withdrew it, the day up to which it is held back, and whether it is the
 -- reader's own.
-pub record Marks : Type 0 where
+pub record MessageFacts : Type 0 where
   pub arrival : ℤ
   pub withdrawn : Withdrawn
   pub embargo_until : Option ℤ
   pub own : Bool
 
 -- the facts of a message that a policy weighs, for a reader of this address; without one, no message is the reader's own
-unfoldable pub marks_of : (address : Option (List ℕ)) → Message → Marks
-marks_of address m = record {
+unfoldable pub message_facts : (address : Option (List ℕ)) → Message → MessageFacts
+message_facts address m = record {
   arrival = m.arrival;
-  withdrawn = withdrawal_numbered m.withdrawn;
+  withdrawn = withdrawal_of_number m.withdrawn;
   embargo_until = m.embargo;
-  own = own_of address m;
+  own = is_own_by_address address m;
 }
 
-abbrev pub facts_of : Ask → ReaderMarks → Marks → Facts
-facts_of ask reader marks = record {
+abbrev pub policy_facts_of : Ask → ReaderFacts → MessageFacts → Facts
+policy_facts_of ask reader marks = record {
   list = ask.list;
   standing = reader.standing;
   day = ask.day;
@@ -92,32 +92,32 @@ facts_of ask reader marks = record {
 }
 
 -- what the policy says of a message of these marks to a reader of these
-unfoldable pub ruling_on : Ask → ReaderMarks → Marks → Ruling
-ruling_on ask reader marks = verdict_of ask.rules (facts_of ask reader marks)
+unfoldable pub ruling_on : Ask → ReaderFacts → MessageFacts → Ruling
+ruling_on ask reader marks = verdict_of ask.rules (policy_facts_of ask reader marks)
 
-abbrev pub is_allowance : Ruling → Bool
-is_allowance (allowed rule) = true
-is_allowance (denied rule) = false
+abbrev pub is_allowed_ruling : Ruling → Bool
+is_allowed_ruling (allowed rule) = true
+is_allowed_ruling (denied rule) = false
 
-abbrev pub allows : Ask → ReaderMarks → Marks → Bool
-allows ask reader marks = is_allowance (ruling_on ask reader marks)
+abbrev pub policy_allows : Ask → ReaderFacts → MessageFacts → Bool
+policy_allows ask reader marks = is_allowed_ruling (ruling_on ask reader marks)
 
 -- the policy allows the reader this message; the view has such messages alone
-abbrev pub is_shown : Ask → ReaderMarks → Message → Bool
-is_shown ask reader m = allows ask reader (marks_of reader.address m)
+abbrev pub is_shown : Ask → ReaderFacts → Message → Bool
+is_shown ask reader m = policy_allows ask reader (message_facts reader.address m)
 
 -- who wrote a message matters: a rule asks whether it is the reader's own, and the reader has an address
-abbrev pub asks_author : Ask → ReaderMarks → Bool
-asks_author ask reader = asks_own ask.rules && is_some reader.address
+abbrev pub asks_author : Ask → ReaderFacts → Bool
+asks_author ask reader = has_own_condition ask.rules && is_some reader.address
 
 -- the policy denies the reader this message, and says so by its marks alone, whatever its text is
-abbrev pub is_withheld : Ask → ReaderMarks → Message → Bool
+abbrev pub is_withheld : Ask → ReaderFacts → Message → Bool
 is_withheld ask reader m = not (asks_author ask reader) && not (is_shown ask reader m)
 
 -- ---- own messages, in words
 
 -- A message is the reader's own: the reader is a person, and this person's address is the message's author key.
-pub record IsOwn (archive : Archive) (ask : Ask) (m : Message) : Type 0 where
+pub record IsOwnMessage (archive : Archive) (ask : Ask) (m : Message) : Type 0 where
   pub person : List ℕ
   pub reader : ask.reader ≡ Some person
   pub address : address_of archive person ≡ Some (author_of m.text)
@@ -126,7 +126,7 @@ pub record IsOwn (archive : Archive) (ask : Ask) (m : Message) : Type 0 where
 
 -- The view of a reader: the list's messages that the policy allows, in mailbox order.
 abbrev pub view_of : Archive → Ask → List Message
-view_of archive ask = filter (is_shown ask (reader_marks archive ask)) (messages_in archive ask.list)
+view_of archive ask = filter (is_shown ask (reader_facts archive ask)) (messages_in archive ask.list)
 
 -- What who asks for a message by its key gets: its whole text, the rule that denies it, or that the list does not hold it.
 pub data Asked : Type 0 where
@@ -134,34 +134,34 @@ pub data Asked : Type 0 where
   denied_by : (rule : List ℕ) → Asked
   absent : Asked
 
-abbrev pub asked_by : Message → Ruling → Asked
-asked_by m (allowed rule) = served m.text
-asked_by m (denied rule) = denied_by rule
+abbrev pub asked_under_ruling : Message → Ruling → Asked
+asked_under_ruling m (allowed rule) = served m.text
+asked_under_ruling m (denied rule) = denied_by rule
 
 -- of the message that the list holds, if it does
-abbrev pub asked_on : Ask → ReaderMarks → Option Message → Asked
-asked_on ask reader held = option_map_or (λ m. asked_by m (ruling_on ask reader (marks_of reader.address m))) held absent
+abbrev pub asked_of_message : Ask → ReaderFacts → Option Message → Asked
+asked_of_message ask reader held = option_map_or (λ m. asked_under_ruling m (ruling_on ask reader (message_facts reader.address m))) held absent
 
 -- The answer to a reader who asks for a message by its key. Profile: a denial names its rule, and so tells that the list holds the
 -- message.
-abbrev pub asked_of : Archive → Ask → (key : List ℕ) → Asked
-asked_of archive ask key = asked_on ask (reader_marks archive ask) (message_of archive ask.list key)
+abbrev pub asked_for_key : Archive → Ask → (key : List ℕ) → Asked
+asked_for_key archive ask key = asked_of_message ask (reader_facts archive ask) (message_of archive ask.list key)
 
 -- what an answer of the code says
-abbrev pub told : Told → Asked
-told (Served text) = served text.items
-told (Denied rule) = denied_by rule.now
-told Absent = absent
+abbrev pub spec_asked : Told → Asked
+spec_asked (Served text) = served text.items
+spec_asked (Denied rule) = denied_by rule.now
+spec_asked Absent = absent
 
 -- ---- refusals
 
 -- G1 and G2
-pub data Refusal : Type 0 where
-  no_list : Refusal
-  no_person : Refusal
+pub data AskRefusal : Type 0 where
+  no_list : AskRefusal
+  no_person : AskRefusal
 
 -- the list is looked for before the person
-abbrev pub ask_refusal : Archive → Ask → Option Refusal
+abbrev pub ask_refusal : Archive → Ask → Option AskRefusal
 ask_refusal archive ask =
     if not (has_list archive ask.list) then Some no_list
     else if option_map_or (λ person. not (has_person archive person)) ask.reader false then Some no_person

@@ -1,12 +1,12 @@
 //! What a policy says of a message.
 ghost use Rattle.std.specs.Prelude.{◌≡◌, ℕ, List, Bool, None, false, IfOk, IsOk, option_map, string_bytes};
-ghost use Rattle.policy_core.specs.Verdict.{ruling};
-ghost use Rattle.archive_machine.specs.Messages.{remembered};
-ghost use Rattle.archive_machine.specs.Records.{Message as Remembered};
-ghost use Rattle.archive_results.specs.Access.{own_of, marks_of, ruling_on, is_shown, is_withheld, asks_author, asked_on, told};
+ghost use Rattle.policy_core.specs.Verdict.{ruling_of_verdict};
+ghost use Rattle.archive_model.specs.Messages.{archived_message};
+ghost use Rattle.archive_model.specs.Records.{Message as Remembered};
+ghost use Rattle.archive_results.specs.Access.{is_own_by_address, message_facts, ruling_on, is_shown, is_withheld, asks_author, asked_of_message, spec_asked};
 
 use crate::asking::{Ask, Asked};
-use archive_machine::Message;
+use archive_model::Message;
 use civil_time::{Day, Instant};
 use mail_core::{Memory, author_key};
 use policy_core::{Facts, Standing, Verdict, Withdrawn};
@@ -15,16 +15,16 @@ use std::marker::Model;
 
 /// What a policy asks of a reader: the standing on the list and the day, and the address of a person who has one.
 #[derive(Drop)]
-pub struct ReaderMarks {
+pub struct ReaderFacts {
     /// On the list, on the day.
     pub standing: Standing,
     /// In ASCII lower case. `None` for nobody in particular, and for a person without one.
     pub address: Option<String>,
 }
 
-impl Model for ReaderMarks {
+impl Model for ReaderFacts {
     ghost use Rattle.std.specs.Prelude.{option_map, string_bytes};
-    ghost use Rattle.archive_results.specs.Access.{ReaderMarks as Reading};
+    ghost use Rattle.archive_results.specs.Access.{ReaderFacts as Reading};
 
     ghost Value = { Reading };
 
@@ -34,7 +34,7 @@ impl Model for ReaderMarks {
 /// What a policy asks of a message: when it came, who withdrew it, the day up to which it is held back, and whether it is the
 /// reader's own.
 #[derive(Clone, Copy)]
-pub struct Marks {
+pub struct MessageFacts {
     /// When it came.
     pub arrival: Instant,
     /// Who withdrew it.
@@ -45,8 +45,8 @@ pub struct Marks {
     pub own: bool,
 }
 
-impl Model for Marks {
-    ghost use Rattle.archive_results.specs.Access.{Marks as Facts};
+impl Model for MessageFacts {
+    ghost use Rattle.archive_results.specs.Access.{MessageFacts as Facts};
 
     ghost Value = { Facts };
 
@@ -58,8 +58,8 @@ impl Model for Marks {
 /// Whether a message is the own one of a reader with this address. It takes memory only where there is one.
 fn is_own(alloc: Global, address: &Option<String>, message: &Message) -> Result<bool, Memory>
     ensures own { (list : List ℕ)
-        → IfOk result (λ own. own ≡ own_of (option_map string_bytes address.now)
-        (remembered list message.now)) }
+        → IfOk result (λ own. own ≡ is_own_by_address (option_map string_bytes address.now)
+        (archived_message list message.now)) }
     ensures free { address.now ≡ None → IsOk result }
 {
     let Some(address) = address else {
@@ -70,12 +70,12 @@ fn is_own(alloc: Global, address: &Option<String>, message: &Message) -> Result<
 }
 
 /// The marks of a message that is the reader's own or is not.
-#[tactic(auto, unfolding(crate::specs::Access::marks_of))]
-fn marks_with(own: bool, message: &Message) -> Marks
+#[tactic(auto, unfolding(crate::specs::Access::message_facts))]
+fn marks_with(own: bool, message: &Message) -> MessageFacts
     ensures { (list : List ℕ)
-        → result ≡ record (marks_of None (remembered list message.now)) { own = own } }
+        → result ≡ record (message_facts None (archived_message list message.now)) { own = own } }
 {
-    Marks {
+    MessageFacts {
         arrival: message.item.as_item().envelope.arrival,
         withdrawn: message.withdrawn,
         embargo_until: message.embargo_until,
@@ -85,10 +85,14 @@ fn marks_with(own: bool, message: &Message) -> Marks
 
 /// What a policy asks of a message, where the reader has this address. `Memory` where no memory is left for the author key,
 /// which is made only where there is an address.
-pub fn marks_of(alloc: Global, address: &Option<String>, message: &Message) -> Result<Marks, Memory>
+pub fn message_facts(
+    alloc: Global,
+    address: &Option<String>,
+    message: &Message,
+) -> Result<MessageFacts, Memory>
     ensures marks { (list : List ℕ)
-        → IfOk result (λ marks. marks ≡ marks_of (option_map string_bytes address.now)
-        (remembered list message.now)) }
+        → IfOk result (λ marks. marks ≡ message_facts (option_map string_bytes address.now)
+        (archived_message list message.now)) }
     ensures free { address.now ≡ None → IsOk result }
 {
     let own = is_own(alloc, address, message)?;
@@ -97,8 +101,8 @@ pub fn marks_of(alloc: Global, address: &Option<String>, message: &Message) -> R
 
 /// What the policy says of a message of these marks to a reader of these. It takes no memory.
 #[tactic(auto, unfolding(crate::specs::Access::ruling_on))]
-pub fn verdict<'a>(ask: &Ask<'a>, reader: &ReaderMarks, marks: Marks) -> Verdict<'a>
-    ensures { ruling result ≡ ruling_on ask.now reader.now marks }
+pub fn verdict<'a>(ask: &Ask<'a>, reader: &ReaderFacts, marks: MessageFacts) -> Verdict<'a>
+    ensures { ruling_of_verdict result ≡ ruling_on ask.now reader.now marks }
 {
     let facts = Facts {
         list: ask.list,
@@ -117,36 +121,36 @@ pub fn verdict<'a>(ask: &Ask<'a>, reader: &ReaderMarks, marks: Marks) -> Verdict
 fn judge<'a>(
     alloc: Global,
     ask: &Ask<'a>,
-    reader: &ReaderMarks,
+    reader: &ReaderFacts,
     message: &Message,
 ) -> Result<Verdict<'a>, Memory>
     ensures said { (list : List ℕ) → IfOk result (λ verdict.
-        ruling verdict ≡ ruling_on ask.now reader.now
-        (marks_of reader.now.address (remembered list message.now))) }
+        ruling_of_verdict verdict ≡ ruling_on ask.now reader.now
+        (message_facts reader.now.address (archived_message list message.now))) }
     ensures free { asks_author ask.now reader.now ≡ false → IsOk result }
 {
     if !ask.policy.asks_own() {
         return Ok(verdict(ask, reader, marks_with(false, message)));
     }
-    let marks = marks_of(alloc, &reader.address, message)?;
+    let marks = message_facts(alloc, &reader.address, message)?;
     Ok(verdict(ask, reader, marks))
 }
 
 /// Whether who wrote a message matters to this reader: a rule asks whether it is the reader's own, and the reader has an address.
 /// Where it does not, a message that is not the reader's own is judged as any other of its marks.
-pub fn asks_author(ask: &Ask<'_>, reader: &ReaderMarks) -> bool
+pub fn asks_author(ask: &Ask<'_>, reader: &ReaderFacts) -> bool
     ensures value { result ≡ asks_author ask.now reader.now }
     ensures alike { result ≡ false → (m : Remembered)
-        → ruling_on ask.now reader.now (record (marks_of None m)
-        { own = false }) ≡ ruling_on ask.now reader.now (marks_of reader.now.address m) }
+        → ruling_on ask.now reader.now (record (message_facts None m)
+        { own = false }) ≡ ruling_on ask.now reader.now (message_facts reader.now.address m) }
 {
     ask.policy.asks_own() && reader.address.is_some()
 }
 
 /// Whether the policy denies a message of these marks to a reader of these, whatever its text is. It says so of none where who
 /// wrote it matters, and takes no memory.
-pub fn is_withheld(ask: &Ask<'_>, reader: &ReaderMarks, marks: Marks) -> bool
-    ensures { (m : Remembered) → marks ≡ record (marks_of None m) { own = false }
+pub fn is_withheld(ask: &Ask<'_>, reader: &ReaderFacts, marks: MessageFacts) -> bool
+    ensures { (m : Remembered) → marks ≡ record (message_facts None m) { own = false }
         → result ≡ is_withheld ask.now reader.now m }
 {
     if asks_author(ask, reader) {
@@ -163,11 +167,11 @@ pub fn is_withheld(ask: &Ask<'_>, reader: &ReaderMarks, marks: Marks) -> bool
 pub fn is_shown(
     alloc: Global,
     ask: &Ask<'_>,
-    reader: &ReaderMarks,
+    reader: &ReaderFacts,
     message: &Message,
 ) -> Result<bool, Memory>
     ensures shown { (list : List ℕ)
-        → IfOk result (λ shown. shown ≡ is_shown ask.now reader.now (remembered list message.now)) }
+        → IfOk result (λ shown. shown ≡ is_shown ask.now reader.now (archived_message list message.now)) }
     ensures free { asks_author ask.now reader.now ≡ false → IsOk result }
 {
     match judge(alloc, ask, reader, message)? {
@@ -178,14 +182,14 @@ pub fn is_shown(
 
 /// What a reader of these marks gets who asks for a message that the list holds, or for one that it does not hold. `Memory`
 /// where no memory is left for its text, or for its author key.
-pub fn asked<'a>(
+pub fn lookup_message<'a>(
     alloc: Global,
     ask: &Ask<'a>,
-    reader: &ReaderMarks,
+    reader: &ReaderFacts,
     held: &Option<Message>,
 ) -> Result<Asked<'a>, Memory>
     ensures { (list : List ℕ) → IfOk result (λ asked.
-        told asked ≡ asked_on ask.now reader.now (option_map (remembered list) held.now)) }
+        spec_asked asked ≡ asked_of_message ask.now reader.now (option_map (archived_message list) held.now)) }
 {
     let Some(message) = held else {
         return Ok(Asked::Absent);

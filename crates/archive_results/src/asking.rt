@@ -24,11 +24,11 @@ pub struct Ask<'a> {
 }
 
 impl<'a> Model for Ask<'a> {
-    ghost use Rattle.archive_results.specs.Access.{Ask as Question, name_of};
+    ghost use Rattle.archive_results.specs.Access.{Ask as Question, reader_name};
 
     ghost Value = { Question };
 
-    ghost view = { λ a. record { rules = a.policy.now; reader = name_of a.reader; list = a.list.now; day = a.day } };
+    ghost view = { λ a. record { rules = a.policy.now; reader = reader_name a.reader; list = a.list.now; day = a.day } };
 }
 
 /// What who asks for a message by its key gets.

@@ -1,11 +1,11 @@
 //! What the header of a message says. Each call reads the header once, and no byte behind it.
 ghost use Rattle.std.specs.Prelude.{◌≡◌, IfOk};
-ghost use Rattle.mail_core.specs.Author.{key_of_body, trimmed};
+ghost use Rattle.mail_core.specs.Author.{author_of_body, trimmed};
 ghost use Rattle.mail_core.specs.Headers.{own_id_in, references_in};
-ghost use Rattle.subject_core.specs.BaseSubject.{base_of, is_reply};
+ghost use Rattle.subject_core.specs.BaseSubject.{base_subject_of, is_reply};
 
 use crate::lines::Line;
-use archive_machine::Key;
+use archive_model::Key;
 use civil_time::Instant;
 use mail_core::{Header as Fields, Memory, trimmed};
 use std::alloc::Global;
@@ -23,7 +23,7 @@ pub(crate) fn entry_in(
       id = own_id_in fields.now;
       refs = references_in fields.now;
       sent = sent;
-      base = base_of subject.now;
+      base = base_subject_of subject.now;
       reply = is_reply subject.now;
     }) }
 {
@@ -50,7 +50,7 @@ pub(crate) fn line_in(
     ensures { IfOk result (λ line. line ≡ record {
       key = key;
       sent = sent;
-      author = key_of_body fields.now.from;
+      author = author_of_body fields.now.from;
       subject = trimmed subject.now;
     }) }
 {

@@ -1,11 +1,11 @@
 //! What lists and threads ask of a message, without its text.
 ghost use Rattle.std.specs.Prelude.{◌≡◌, ℕ, List, IfOk};
-ghost use Rattle.archive_machine.specs.Messages.{remembered};
-ghost use Rattle.archive_results.specs.Index.{header_of};
+ghost use Rattle.archive_model.specs.Messages.{archived_message};
+ghost use Rattle.archive_results.specs.Index.{summary_of};
 
 use crate::entries::{entry_in, line_in};
 use crate::lines::Line;
-use archive_machine::Message;
+use archive_model::Message;
 use mail_core::{Header as Fields, Memory};
 use std::alloc::Global;
 use std::marker::Model;
@@ -13,15 +13,15 @@ use thread_core::Entry;
 
 /// A message without its text: its line, and what it says about threads.
 #[derive(Drop)]
-pub struct Header {
+pub struct MessageSummary {
     /// What a list shows of it.
     pub line: Line,
     /// What a threader asks of it.
     pub entry: Entry,
 }
 
-impl Model for Header {
-    ghost use Rattle.archive_results.specs.Index.{Header as Shown};
+impl Model for MessageSummary {
+    ghost use Rattle.archive_results.specs.Index.{MessageSummary as Shown};
 
     ghost Value = { Shown };
 
@@ -30,9 +30,9 @@ impl Model for Header {
 
 /// The header of a message, by one pass over its lines. `Memory` where no memory is left. No byte of the message behind its
 /// header is read.
-pub fn header_of(alloc: Global, message: &Message) -> Result<Header, Memory>
+pub fn summary_of(alloc: Global, message: &Message) -> Result<MessageSummary, Memory>
     ensures { (list : List ℕ)
-        → IfOk result (λ header. header ≡ header_of (remembered list message.now)) }
+        → IfOk result (λ header. header ≡ summary_of (archived_message list message.now)) }
 {
     let item = message.item.as_item();
     let fields = Fields::of(item.text);
@@ -40,5 +40,5 @@ pub fn header_of(alloc: Global, message: &Message) -> Result<Header, Memory>
     let subject = fields.unfolded_subject(alloc)?;
     let line = line_in(alloc, message.key, &fields, sent, &subject)?;
     let entry = entry_in(alloc, &fields, sent, &subject)?;
-    Ok(Header { line, entry })
+    Ok(MessageSummary { line, entry })
 }

@@ -11,9 +11,12 @@ mod lines;
 mod threads;
 
 pub use access::{
-    Marks, ReaderMarks, asked, asks_author, is_shown, is_withheld, marks_of, verdict,
+    MessageFacts, ReaderFacts, asks_author, is_shown, is_withheld, lookup_message, message_facts,
+    verdict,
 };
 pub use asking::{Ask, Asked, Reader};
-pub use headers::{Header, header_of};
+pub use headers::{MessageSummary, summary_of};
 pub use lines::{Line, TreeLine};
-pub use threads::{Columns, columns_of, line_at, thread_lines, tree_lines, within};
+pub use threads::{
+    ThreadColumns, columns_of, elements_in_range, line_at, thread_lines, tree_lines,
+};

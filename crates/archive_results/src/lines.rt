@@ -1,7 +1,7 @@
 //! What a list shows of one message, and a row of a thread.
 ghost use Rattle.std.specs.Prelude.{◌≡◌, IfOk};
 
-use archive_machine::Key;
+use archive_model::Key;
 use civil_time::Instant;
 use mail_core::Memory;
 use std::alloc::Global;
@@ -30,7 +30,7 @@ impl Model for Line {
 
 impl Line {
     /// The same line once more. `Memory` where no memory is left.
-    pub fn try_copy(&self, alloc: Global) -> Result<Line, Memory>
+    pub fn try_clone(&self, alloc: Global) -> Result<Line, Memory>
         ensures { IfOk result (λ own. own ≡ self.now) }
     {
         Ok(Line {

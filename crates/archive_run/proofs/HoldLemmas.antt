@@ -2,27 +2,27 @@
 use Rattle.std.proofs.Common.{◌≡◌, ◌∙◌, inl, inr, ap, subst, sym, refl, ℕ, ℤ, Bool, List, [], ◌∷◌, ◌++◌, Option, Ok}
 use Rattle.sqlite.specs.Store.{Ghosts}
 use Rattle.policy_core.specs.Rules.{Rule}
-use Rattle.archive_machine.specs.Records.{Archive}
-use Rattle.archive_store.specs.Told.{Goes, HasReturned, HoldsTables, IsOpen, archive_in}
-use Rattle.archive_desk.specs.Holding.{GoesHeld}
+use Rattle.archive_model.specs.Records.{Archive}
+use Rattle.archive_store.specs.Told.{RelatesReadyArchives, StoreHasCleanDisk, HoldsTables, IsOpen, archive_in}
+use Rattle.archive_desk.specs.Holding.{RelatesTableArchives}
 use Rattle.archive_store.specs.declared.store.Store.{Store as Open}
 use Rattle.archive_store.proofs.Joins.{ready_with}
-use Rattle.archive_listen.specs.Connections.{Exchange, Outcome}
-use Rattle.archive_listen.specs.Serving.{Served, ServesEach, ServesOne}
-use Rattle.archive_listen.specs.declared.faults.AcceptFault.{AcceptFault}
-use Rattle.archive_serve.specs.Runs.{AnswersIn, AreReplied, CanServe, EachGetsItsReply, RunLaw}
-use Rattle.archive_run.specs.Databases.{Works}
-use Rattle.archive_run.specs.Holding.{Leads, LeadsHeld}
-use Rattle.archive_run.specs.Remembering.{ClosesHeld, OpensHeld}
+use Rattle.archive_listen.specs.Connections.{Exchange, ConnectionResult}
+use Rattle.archive_listen.specs.Serving.{ServerState, ServesEachConnection, ServesOneConnection}
+use Rattle.archive_listen.specs.declared.faults.AcceptError.{AcceptError}
+use Rattle.archive_serve.specs.Runs.{AnswersFromArchiveInRun, ExchangesAreAnswered, HasSoundStore, EachGetsItsReply, ServingAnswerLaw}
+use Rattle.archive_run.specs.Databases.{UsesDatabase}
+use Rattle.archive_run.specs.Holding.{RelatesHeldArchives, KeepsHeldArchive}
+use Rattle.archive_run.specs.Remembering.{ClosedDatabaseHoldsArchive, OpenedStoreHoldsArchive}
 use Rattle.archive_run.specs.declared.databases.Databases.{Ghosts as Keeps}
 
 -- ---- one call, or none
 
-module _ {S D : Type 0} (g : Ghosts S) (keeps : Keeps D (Open S)) (opens : OpensHeld g keeps) (closes : ClosesHeld g keeps)
+module _ {S D : Type 0} (g : Ghosts S) (keeps : Keeps D (Open S)) (opens : OpenedStoreHoldsArchive g keeps) (closes : ClosedDatabaseHoldsArchive g keeps)
     (old new : D) (file : List ℕ) where
   -- a call that is promised of a store which is ready
-  pub leads_by : (Becomes : Open S → Open S → Type 0) (R : Archive → Archive → Type 0) → ((o c : Open S) → Becomes o c → Goes g o c R)
-      → Works keeps old new file Becomes → Leads g keeps old new file R
+  pub leads_by : (Becomes : Open S → Open S → Type 0) (R : Archive → Archive → Type 0) → ((o c : Open S) → Becomes o c → RelatesReadyArchives g o c R)
+      → UsesDatabase keeps old new file Becomes → RelatesHeldArchives g keeps old new file R
   leads_by Becomes R goes works =
       let it = goes works.before works.after works.becomes in
       record {
@@ -36,14 +36,14 @@ module _ {S D : Type 0} (g : Ghosts S) (keeps : Keeps D (Open S)) (opens : Opens
             let there = it.1 returned (ready_with g works.before first was.0 was.1 right) in (
               archive_in g works.after,
               subst (λ a. R a (archive_in g works.after)) was.1 there.1,
-              there.0.filed_right,
+              there.0.is_indexed_correctly,
               closes old works.device new file works.before works.after first held works.opened works.closed returned there.0.held,
             );
       }
 
   -- a call that is promised of tables, whatever is filed of a message, and leaves the archive
   pub leads_held : (Becomes : Open S → Open S → Type 0) (Says : Archive → Type 0)
-      → ((o c : Open S) → Becomes o c → GoesHeld g o c (λ a b. (b ≡ a) × Says a)) → Works keeps old new file Becomes → LeadsHeld g keeps old new file Says
+      → ((o c : Open S) → Becomes o c → RelatesTableArchives g o c (λ a b. (b ≡ a) × Says a)) → UsesDatabase keeps old new file Becomes → KeepsHeldArchive g keeps old new file Says
   leads_held Becomes Says goes works =
       let it = goes works.before works.after works.becomes in
       record {
@@ -63,52 +63,54 @@ module _ {S D : Type 0} (g : Ghosts S) (keeps : Keeps D (Open S)) (opens : Opens
 
 -- ---- a run of connections
 
-module _ {S L : Type 0} (g : Ghosts S) (accepts : L → L → Option AcceptFault → Type 0) (closes : L → L → Exchange → Bool → Type 0)
+module _ {S L : Type 0} (g : Ghosts S) (accepts : L → L → Option AcceptError → Type 0) (closes : L → L → Exchange → Bool → Type 0)
     (If : Type 0) (archive : Archive) (rules : List Rule) (day : ℤ) where
   -- a disk that has returned what was written so far had done so before
-  had_one : (outcome : Outcome) (before after : Served L (Open S)) → ServesOne (AnswersIn g If archive rules day) accepts closes outcome before after
-      → HasReturned g after.state → HasReturned g before.state
+  had_one : (outcome : ConnectionResult) (before after : ServerState L (Open S)) → ServesOneConnection (AnswersFromArchiveInRun g If archive rules day) accepts closes outcome before after
+      → StoreHasCleanDisk g after.state → StoreHasCleanDisk g before.state
   had_one outcome before after (inl takes) returned = takes.answered.answered.ends.stays.same.0.returned returned
-  had_one outcome before after (inr misses) returned = subst (λ (s : Open S). HasReturned g s) misses.unanswered returned
+  had_one outcome before after (inr misses) returned = subst (λ (s : Open S). StoreHasCleanDisk g s) misses.unanswered returned
 
-  pub had_before : (outcomes : List Outcome) (before after : Served L (Open S)) → ServesEach (AnswersIn g If archive rules day) accepts closes outcomes before after
-      → HasReturned g after.state → HasReturned g before.state
-  had_before [] before after same returned = subst (λ (s : Served L (Open S)). HasReturned g s.state) same returned
+  pub had_before : (outcomes : List ConnectionResult) (before after : ServerState L (Open S))
+      → ServesEachConnection (AnswersFromArchiveInRun g If archive rules day) accepts closes outcomes before after
+      → StoreHasCleanDisk g after.state → StoreHasCleanDisk g before.state
+  had_before [] before after same returned = subst (λ (s : ServerState L (Open S)). StoreHasCleanDisk g s.state) same returned
   had_before (outcome ∷ outcomes) before after (between, first, rest) returned =
       had_one outcome before between first (had_before outcomes between after rest returned)
 
   -- where its premise holds, the store remembers this archive behind the last connection, if it is still open
-  remembers_one : If → (outcome : Outcome) (before after : Served L (Open S)) → ServesOne (AnswersIn g If archive rules day) accepts closes outcome before after
+  remembers_one : If → (outcome : ConnectionResult) (before after : ServerState L (Open S)) → ServesOneConnection (AnswersFromArchiveInRun g If archive rules day) accepts closes outcome before after
       → (IsOpen g before.state → HoldsTables g before.state × (archive_in g before.state ≡ archive))
       → IsOpen g after.state → HoldsTables g after.state × (archive_in g after.state ≡ archive)
   remembers_one so outcome before after (inl takes) holds = takes.answered.answered.left so
   remembers_one so outcome before after (inr misses) holds =
       subst (λ (s : Open S). IsOpen g s → HoldsTables g s × (archive_in g s ≡ archive)) (sym misses.unanswered) holds
 
-  pub remembers_each : If → (outcomes : List Outcome) (before after : Served L (Open S)) → ServesEach (AnswersIn g If archive rules day) accepts closes outcomes before after
+  pub remembers_each : If → (outcomes : List ConnectionResult) (before after : ServerState L (Open S))
+      → ServesEachConnection (AnswersFromArchiveInRun g If archive rules day) accepts closes outcomes before after
       → (IsOpen g before.state → HoldsTables g before.state × (archive_in g before.state ≡ archive))
       → IsOpen g after.state → HoldsTables g after.state × (archive_in g after.state ≡ archive)
   remembers_each so [] before after same holds =
-      subst (λ (s : Served L (Open S)). IsOpen g s.state → HoldsTables g s.state × (archive_in g s.state ≡ archive)) (sym same) holds
+      subst (λ (s : ServerState L (Open S)). IsOpen g s.state → HoldsTables g s.state × (archive_in g s.state ≡ archive)) (sym same) holds
   remembers_each so (outcome ∷ outcomes) before after (between, first, rest) holds =
       remembers_each so outcomes between after rest (remembers_one so outcome before between first holds)
 
 -- what was served, of the archive that its database held, over a listener that had taken no connection back
-module _ {S L D : Type 0} (g : Ghosts S) (over : L → List Exchange) (accepts : L → L → Option AcceptFault → Type 0) (closes : L → L → Exchange → Bool → Type 0)
-    (gets : EachGetsItsReply g over accepts closes) (keeps : Keeps D (Open S)) (opened : OpensHeld g keeps) (closed : ClosesHeld g keeps) where
-  pub serves_held : (old device new : D) (file : List ℕ) (rules : List Rule) (day : ℤ) (outcomes : List Outcome) (first last : Served L (Open S)) (archive : Archive)
+module _ {S L D : Type 0} (g : Ghosts S) (over : L → List Exchange) (accepts : L → L → Option AcceptError → Type 0) (closes : L → L → Exchange → Bool → Type 0)
+    (gets : EachGetsItsReply g over accepts closes) (keeps : Keeps D (Open S)) (opened : OpenedStoreHoldsArchive g keeps) (closed : ClosedDatabaseHoldsArchive g keeps) where
+  pub serves_held : (old device new : D) (file : List ℕ) (rules : List Rule) (day : ℤ) (outcomes : List ConnectionResult) (first last : ServerState L (Open S)) (archive : Archive)
       → over first.listener ≡ [] → keeps.opens old device file (Ok first.state) → keeps.closes device new last.state
-      → ServesEach (RunLaw g rules day first.state last.state) accepts closes outcomes first last
-      → HasReturned g last.state → keeps.holds old file archive
-      → AreReplied archive rules day outcomes (over last.listener) × (IsOpen g last.state → keeps.holds new file archive)
+      → ServesEachConnection (ServingAnswerLaw g rules day first.state last.state) accepts closes outcomes first last
+      → StoreHasCleanDisk g last.state → keeps.holds old file archive
+      → ExchangesAreAnswered archive rules day outcomes (over last.listener) × (IsOpen g last.state → keeps.holds new file archive)
   serves_held old device new file rules day outcomes first last archive fresh opens shuts each returned held =
-      let If = CanServe g first.state last.state in
+      let If = HasSoundStore g first.state last.state in
       let was = opened old device file first.state archive held opens
       (had_before g accepts closes If (archive_in g first.state) rules day outcomes first last each returned) in
       let so : If = (returned, was.0) in
       let it = gets rules day outcomes first.listener last.listener first.state last.state each so in
       let is_all : it.0 ≡ over last.listener = sym (it.1 ∙ ap (λ (before : List Exchange). before ++ it.0) fresh) in (
-        subst (λ all. AreReplied archive rules day outcomes all) is_all (subst (λ a. AreReplied a rules day outcomes it.0) was.1 it.2),
+        subst (λ all. ExchangesAreAnswered archive rules day outcomes all) is_all (subst (λ a. ExchangesAreAnswered a rules day outcomes it.0) was.1 it.2),
         λ up.
             let left = remembers_each g accepts closes If (archive_in g first.state) rules day so outcomes first last each (λ was_up. (was.0, refl)) up in
             subst (λ a. keeps.holds new file a) (left.1 ∙ was.1) (closed old device new file first.state last.state archive held opens shuts returned left.0),

@@ -6,7 +6,7 @@ use Rattle.archive_run.specs.declared.databases.Databases.{Ghosts}
 
 module _ {S D : Type 0} (keeps : Ghosts D (Store S)) (old new : D) (file : List ℕ) where
   -- The database of this name was opened; this became of its store; and it was closed. Nothing else was asked of the device.
-  pub record Works (Becomes : Store S → Store S → Type 0) : Type 0 where
+  pub record UsesDatabase (Becomes : Store S → Store S → Type 0) : Type 0 where
     pub device : D
     pub before : Store S
     pub after : Store S
@@ -15,5 +15,5 @@ module _ {S D : Type 0} (keeps : Ghosts D (Store S)) (old new : D) (file : List 
     pub closed : keeps.closes device new after
 
   -- It was not opened, for this fault.
-  abbrev pub IsUnopened : StoreFault → Type 0
-  IsUnopened fault = keeps.opens old new file (Err fault)
+  abbrev pub GivesNoDatabase : StoreFault → Type 0
+  GivesNoDatabase fault = keeps.opens old new file (Err fault)

@@ -1,24 +1,24 @@
 -- What is read of a file that is opened by its name.
 use Rattle.std.specs.Prelude.{◌≡◌, ◌+◌, ◌++◌, ℕ, List, Ok, Err}
 use Rattle.byte_device.specs.declared.devices.Source.{Ghosts as Reads}
-use Rattle.sift_run.specs.declared.files.FileFault.{FileFault}
-use Rattle.sift_run.specs.declared.files.OpenFiles.{Ghosts}
+use Rattle.sift_run.specs.declared.files.FileError.{FileError}
+use Rattle.sift_run.specs.declared.files.StreamedFiles.{Ghosts}
 
 module _ {F I : Type 0} (opens : Ghosts F I) (reads : Reads I) (files : F) (name : List ℕ) where
   -- The file of this name gave an input. From there on this text was read of it, it met its end so often, and failed so often;
   -- and this became of what was read.
-  pub record FileTells (Becomes : (text : List ℕ) → (ended failed : ℕ) → Type 0) : Type 0 where
+  pub record ReadsOpenedFile (Becomes : (text : List ℕ) → (ended failed : ℕ) → Type 0) : Type 0 where
     pub before : I
     pub after : I
     pub given : opens.inputs files name (Ok before)
     pub text : List ℕ
     pub ended : ℕ
     pub failed : ℕ
-    pub told_more : reads.told after ≡ reads.told before ++ text
-    pub ended_more : reads.ends after ≡ reads.ends before + ended
-    pub failed_more : reads.failures after ≡ reads.failures before + failed
+    pub reads_text : reads.told after ≡ reads.told before ++ text
+    pub adds_end_reads : reads.ends after ≡ reads.ends before + ended
+    pub adds_failed_reads : reads.failures after ≡ reads.failures before + failed
     pub becomes : Becomes text ended failed
 
   -- It gave none, for this fault.
-  abbrev pub GivesNone : FileFault → Type 0
-  GivesNone fault = opens.inputs files name (Err fault)
+  abbrev pub GivesNoInput : FileError → Type 0
+  GivesNoInput fault = opens.inputs files name (Err fault)

@@ -1,5 +1,5 @@
 pub mod Refusals
-pub mod World
+pub mod Environments
 pub mod Databases
 pub mod Remembering
 pub mod Files

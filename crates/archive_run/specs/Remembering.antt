@@ -1,23 +1,23 @@
 -- The laws of a device of databases: what it holds under a name is what an opened store remembers, and what a closed one remembered.
 use Rattle.std.specs.Prelude.{◌≡◌, ℕ, List, Ok}
 use Rattle.sqlite.specs.Store.{Ghosts}
-use Rattle.archive_machine.specs.Records.{Archive}
-use Rattle.archive_store.specs.Told.{HasReturned, HoldsTables, archive_in}
+use Rattle.archive_model.specs.Records.{Archive}
+use Rattle.archive_store.specs.Told.{StoreHasCleanDisk, HoldsTables, archive_in}
 use Rattle.archive_store.specs.declared.store.Store.{Store}
 use Rattle.archive_run.specs.declared.databases.Databases.{Ghosts as Keeps}
 
 -- where its disk has returned what was written to it, the tables of a store are an archive's, and hold this one
-abbrev pub Remembers : {S : Type 0} → Ghosts S → Store S → Archive → Type 0
-Remembers g store archive = HasReturned g store → HoldsTables g store × (archive_in g store ≡ archive)
+abbrev pub StoreHoldsArchive : {S : Type 0} → Ghosts S → Store S → Archive → Type 0
+StoreHoldsArchive g store archive = StoreHasCleanDisk g store → HoldsTables g store × (archive_in g store ≡ archive)
 
 module _ {S D : Type 0} (g : Ghosts S) (keeps : Keeps D (Store S)) where
   -- A database that holds an archive gives a store that remembers it.
-  abbrev pub OpensHeld : Type 0
-  OpensHeld = (old new : D) (file : List ℕ) (store : Store S) (archive : Archive) → keeps.holds old file archive
-      → keeps.opens old new file (Ok store) → Remembers g store archive
+  abbrev pub OpenedStoreHoldsArchive : Type 0
+  OpenedStoreHoldsArchive = (old new : D) (file : List ℕ) (store : Store S) (archive : Archive) → keeps.holds old file archive
+      → keeps.opens old new file (Ok store) → StoreHoldsArchive g store archive
 
   -- A database that held one when it was opened holds what its store remembers when it is closed.
-  abbrev pub ClosesHeld : Type 0
-  ClosesHeld = (old device new : D) (file : List ℕ) (before after : Store S) (archive : Archive) → keeps.holds old file archive
-      → keeps.opens old device file (Ok before) → keeps.closes device new after → HasReturned g after → HoldsTables g after
+  abbrev pub ClosedDatabaseHoldsArchive : Type 0
+  ClosedDatabaseHoldsArchive = (old device new : D) (file : List ℕ) (before after : Store S) (archive : Archive) → keeps.holds old file archive
+      → keeps.opens old device file (Ok before) → keeps.closes device new after → StoreHasCleanDisk g after → HoldsTables g after
       → keeps.holds new file (archive_in g after)

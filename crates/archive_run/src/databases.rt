@@ -5,11 +5,11 @@ use std::alloc::Global;
 /// Whoever has databases, each of which is opened as an archive of the type `T`.
 pub trait Databases<T> {
     ghost use Rattle.std.specs.Prelude.{◌≡◌, ℕ, List, Result, None, IfErr, ⊤};
-    ghost use Rattle.archive_machine.specs.Records.{Archive};
-    ghost use Rattle.archive_port.specs.Replies.{refusal};
+    ghost use Rattle.archive_model.specs.Records.{Archive};
+    ghost use Rattle.archive_port.specs.Replies.{refusal_of_fault};
     ghost use Rattle.archive_port.specs.declared.faults.StoreFault.{StoreFault};
 
-    // The database of this name holds this archive, while it is closed. What a device says of it keeps the laws of `System`.
+    // The database of this name holds this archive, while it is closed. What a device says of it keeps the laws of `Platform`.
     ghost holds: { Self → List ℕ → Archive → Type 0 } = { λ _ _ _. ⊥ };
 
     // Holds of the databases before one is opened and after, of its name, and of what is given.
@@ -22,7 +22,7 @@ pub trait Databases<T> {
     /// memory. E15: it cannot be opened, or is no archive.
     fn open(&mut self, alloc: Global, name: &str) -> Result<T, StoreFault>
         ensures opened { opens self.old self.new name.now result }
-        ensures fault { IfErr result (λ fault. refusal fault ≡ None) };
+        ensures fault { IfErr result (λ fault. refusal_of_fault fault ≡ None) };
 
     /// Closes a database that was opened.
     fn close(&mut self, store: T)

@@ -1,22 +1,22 @@
 //! What the program says where it refuses.
 ghost use Rattle.std.specs.Prelude.{◌≡◌, ◌++◌, codes, decimal};
-ghost use Rattle.sift_run.specs.Refusals.{IsSaid};
-ghost use Rattle.archive_run.specs.Refusals.{import_text, visible, visible_byte};
+ghost use Rattle.sift_run.specs.Refusals.{WritesErrorTextOrFails};
+ghost use Rattle.archive_run.specs.Refusals.{import_error_text, visible_bytes, visible_byte};
 
-use archive_desk::{DeskFault, ImportFault, ImportStop};
+use archive_desk::{DeskError, ImportError, ImportStop};
 use archive_store::StoreFault;
 use mbox_core::device::{DeviceFailure, Sink};
-use sift_run::{Refuses, RunFault, put, put_number};
+use sift_run::{CommandError, PrintsError, put_number, write_piece};
 
 /// Why an order was not carried out. It says its number and its name.
 #[derive(Debug, PartialEq, Eq, Drop)]
-pub enum Refusal {
+pub enum RunError {
     /// M1 to M4, P1 to P8, F1 to F3, F5: what stops any run.
-    Run(RunFault),
+    Run(CommandError),
     /// E1 to E15: a command, or a database that is not opened.
     Store(StoreFault),
     /// G1 to G6: a question of a reader.
-    Desk(DeskFault),
+    Desk(DeskError),
     /// M1 to M3, E4, E12, E14, E15: an import, with the number of messages that were done.
     Import(ImportStop),
     /// E16: the message of this list and key is damaged.
@@ -28,19 +28,19 @@ pub enum Refusal {
 }
 
 /// Says why an import stopped.
-fn say_taking<E: Sink>(faults: &mut E, fault: ImportFault) -> Result<(), DeviceFailure>
-    ensures { IsSaid E.Sink faults.old faults.new (import_text fault) result }
+fn say_taking<E: Sink>(faults: &mut E, fault: ImportError) -> Result<(), DeviceFailure>
+    ensures { WritesErrorTextOrFails E.Sink faults.old faults.new (import_error_text fault) result }
 {
     match fault {
-        ImportFault::Mbox(fault) => fault.say(faults),
-        ImportFault::Store(fault) => put(faults, fault.name().as_bytes()),
+        ImportError::Mbox(fault) => fault.say(faults),
+        ImportError::Store(fault) => write_piece(faults, fault.name().as_bytes()),
     }
 }
 
 /// Says why an import stopped, and behind how many messages.
 fn say_import<E: Sink>(faults: &mut E, stop: ImportStop) -> Result<(), DeviceFailure>
-    ensures { IsSaid E.Sink faults.old faults.new
-        (import_text stop.fault ++ (codes " after " ++ decimal stop.done)) result }
+    ensures { WritesErrorTextOrFails E.Sink faults.old faults.new
+        (import_error_text stop.fault ++ (codes " after " ++ decimal stop.done)) result }
 {
     say_taking(faults, stop.fault)?;
     put_number(faults, b" after ", stop.done)
@@ -58,47 +58,47 @@ fn visible_byte(byte: u8) -> u8
 
 /// Writes bytes of a database as a line shows them.
 fn put_visible<E: Sink>(faults: &mut E, bytes: &[u8]) -> Result<(), DeviceFailure>
-    ensures { IsSaid E.Sink faults.old faults.new (visible bytes.now) result }
+    ensures { WritesErrorTextOrFails E.Sink faults.old faults.new (visible_bytes bytes.now) result }
 {
     for byte in bytes.iter() {
-        put(faults, &[visible_byte(*byte)])?;
+        write_piece(faults, &[visible_byte(*byte)])?;
     }
     Ok(())
 }
 
 /// Says which message is damaged.
 fn say_damaged<E: Sink>(faults: &mut E, list: &[u8], key: &[u8]) -> Result<(), DeviceFailure>
-    ensures { IsSaid E.Sink faults.old faults.new
-        (codes "E16 Damaged " ++ (visible list.now ++ (codes " " ++ visible key.now))) result }
+    ensures { WritesErrorTextOrFails E.Sink faults.old faults.new
+        (codes "E16 Damaged " ++ (visible_bytes list.now ++ (codes " " ++ visible_bytes key.now))) result }
 {
-    put(faults, b"E16 Damaged ")?;
+    write_piece(faults, b"E16 Damaged ")?;
     put_visible(faults, list)?;
-    put(faults, b" ")?;
+    write_piece(faults, b" ")?;
     put_visible(faults, key)
 }
 
 /// Says which rule denies a message.
 fn say_denied<E: Sink>(faults: &mut E, rule: &str) -> Result<(), DeviceFailure>
-    ensures { IsSaid E.Sink faults.old faults.new (codes "denied by " ++ rule.now) result }
+    ensures { WritesErrorTextOrFails E.Sink faults.old faults.new (codes "denied by " ++ rule.now) result }
 {
-    put(faults, b"denied by ")?;
-    put(faults, rule.as_bytes())
+    write_piece(faults, b"denied by ")?;
+    write_piece(faults, rule.as_bytes())
 }
 
-impl Refuses for Refusal {
+impl PrintsError for RunError {
     ghost use Rattle.archive_run.specs.Refusals.{refusal_text};
 
     ghost text = { λ refusal. refusal_text refusal };
 
     fn say<E: Sink>(&self, faults: &mut E) -> Result<(), DeviceFailure> {
         match self {
-            Refusal::Run(fault) => fault.say(faults),
-            Refusal::Store(fault) => put(faults, fault.name().as_bytes()),
-            Refusal::Desk(fault) => put(faults, fault.name().as_bytes()),
-            Refusal::Import(stop) => say_import(faults, *stop),
-            Refusal::Damaged { list, key } => say_damaged(faults, list, key),
-            Refusal::Denied(rule) => say_denied(faults, rule.as_str()),
-            Refusal::Net => put(faults, b"F4 Net"),
+            RunError::Run(fault) => fault.say(faults),
+            RunError::Store(fault) => write_piece(faults, fault.name().as_bytes()),
+            RunError::Desk(fault) => write_piece(faults, fault.name().as_bytes()),
+            RunError::Import(stop) => say_import(faults, *stop),
+            RunError::Damaged { list, key } => say_damaged(faults, list, key),
+            RunError::Denied(rule) => say_denied(faults, rule.as_str()),
+            RunError::Net => write_piece(faults, b"F4 Net"),
         }
     }
 }

@@ -12,7 +12,7 @@ mod working;
 mod world;
 
 pub use databases::Databases;
-pub use faults::Refusal;
+pub use faults::RunError;
 pub use running::run;
 pub use threaders::Threaders;
-pub use world::{System, World};
+pub use world::{Environment, Platform};

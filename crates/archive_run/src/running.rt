@@ -1,31 +1,31 @@
 //! Running the order that words give.
 ghost use Rattle.std.specs.Prelude.{◌≡◌, ◌≤◌, ◌⊎◌, map, false, None, Ok};
 ghost use Rattle.clap.specs.Words.{takes};
-ghost use Rattle.archive_words.specs.Program.{archive_app};
-ghost use Rattle.archive_words.specs.Orders.{AreBad, IsStopOf, ordered};
-ghost use Rattle.archive_words.specs.declared.orders.OrderStop.{OrderStop};
-ghost use Rattle.archive_words.specs.declared.orders.Order.{Order};
-ghost use Rattle.sift_run.specs.Running.{GiveOrder};
+ghost use Rattle.archive_args.specs.Program.{archive_app};
+ghost use Rattle.archive_args.specs.Orders.{IsUsageError, IsOrderStopOf, order_of_args};
+ghost use Rattle.archive_args.specs.declared.orders.OrderStop.{OrderStop};
+ghost use Rattle.archive_args.specs.declared.orders.Order.{Order};
+ghost use Rattle.sift_run.specs.Running.{ParseAsOrder};
 ghost use Rattle.archive_run.specs.Orders.{RunsSift};
-ghost use Rattle.archive_run.specs.Holding.{RunsOver};
-ghost use Rattle.archive_run.specs.Runs.{IsRefused, Runs, RunSaysStop};
-ghost use Rattle.archive_run.specs.World.{devices};
+ghost use Rattle.archive_run.specs.Holding.{RunsOrderOnArchive};
+ghost use Rattle.archive_run.specs.Runs.{OrderIsRefused, RunsOrder, RunReportsOrderStop};
+ghost use Rattle.archive_run.specs.Environments.{devices};
 
-use crate::faults::Refusal;
+use crate::faults::RunError;
 use crate::ordering::{run_check, run_export, run_get, run_import, run_table};
 use crate::serving::run_serve;
-use crate::world::{System, World};
-use archive_words::{Order, SiftOrder, order};
-use sift_run::{finish, say_stop};
+use crate::world::{Environment, Platform};
+use archive_args::{Order, SiftArgs, order};
+use sift_run::{finish, report_parse_error};
 use std::alloc::Global;
 
 /// Reads the policy, asks the day, and then sifts.
-fn run_sift<Y: System>(
+fn run_sift<Y: Platform>(
     alloc: Global,
-    world: &mut World<Y>,
-    asked: &SiftOrder<'_>,
-) -> Result<(), Refusal>
-    ensures { RunsSift world.old world.new Y.Output.Sink Y.Output.Outgoing.own Y.Files.ReadFiles Y.Clock.DayClock Y.Input.Source
+    world: &mut Environment<Y>,
+    asked: &SiftArgs<'_>,
+) -> Result<(), RunError>
+    ensures { RunsSift world.old world.new Y.Output.Sink Y.Output.BufferedSink.own Y.Files.ReadFiles Y.Clock.DayClock Y.Input.Source
         asked.now result }
 {
     match sift_run::run_sift(
@@ -37,18 +37,18 @@ fn run_sift<Y: System>(
         asked,
     ) {
         Ok(()) => Ok(()),
-        Err(fault) => Err(Refusal::Run(fault)),
+        Err(fault) => Err(RunError::Run(fault)),
     }
 }
 
 /// Carries out an order.
-fn run_order<Y: System>(
+fn run_order<Y: Platform>(
     alloc: Global,
-    world: &mut World<Y>,
+    world: &mut Environment<Y>,
     asked: &Order<'_>,
-) -> Result<(), Refusal>
-    ensures { Runs (devices Y.Storage.Store Y.Files.ReadFiles Y.Files.OpenFiles Y.Files.Input.Source Y.Databases.Databases Y.Clock.DayClock
-        Y.Ports.listens Y.Ports.Listener.accepts Y.Ports.Listener.closes Y.Ports.Listener.over Y.Ports.went Y.Threaders.makes Y.Input.Source Y.Output.Sink Y.Output.Outgoing.own Y.Faults.Sink)
+) -> Result<(), RunError>
+    ensures { RunsOrder (devices Y.Storage.Store Y.Files.ReadFiles Y.Files.StreamedFiles Y.Files.Input.Source Y.Databases.Databases Y.Clock.DayClock
+        Y.Ports.listens Y.Ports.Listener.accepts Y.Ports.Listener.closes Y.Ports.Listener.over Y.Ports.went Y.Threaders.makes Y.Input.Source Y.Output.Sink Y.Output.BufferedSink.own Y.Faults.Sink)
         world.old world.new asked.now result }
 {
     match asked {
@@ -66,37 +66,37 @@ fn run_order<Y: System>(
 /// 1 refused, 2 bad words. Help and the version go to the output; a refusal is one line, and what is wrong with bad
 /// words is a text, both to the stream of faults. At 0 all that went out was passed on; what an order that is refused left in the
 /// output the caller passes on.
-pub fn run<Y: System>(alloc: Global, world: &mut World<Y>, words: &[&str]) -> u8
+pub fn run<Y: Platform>(alloc: Global, world: &mut Environment<Y>, words: &[&str]) -> u8
     // At 0 an order is carried out, whole.
-    ensures done { (order : Order) → GiveOrder (map (λ w. w.now) words.now) order → result ≡ 0
-        → Runs (devices Y.Storage.Store Y.Files.ReadFiles Y.Files.OpenFiles Y.Files.Input.Source Y.Databases.Databases Y.Clock.DayClock
-        Y.Ports.listens Y.Ports.Listener.accepts Y.Ports.Listener.closes Y.Ports.Listener.over Y.Ports.went Y.Threaders.makes Y.Input.Source Y.Output.Sink Y.Output.Outgoing.own Y.Faults.Sink)
+    ensures done { (order : Order) → ParseAsOrder (map (λ w. w.now) words.now) order → result ≡ 0
+        → RunsOrder (devices Y.Storage.Store Y.Files.ReadFiles Y.Files.StreamedFiles Y.Files.Input.Source Y.Databases.Databases Y.Clock.DayClock
+        Y.Ports.listens Y.Ports.Listener.accepts Y.Ports.Listener.closes Y.Ports.Listener.over Y.Ports.went Y.Threaders.makes Y.Input.Source Y.Output.Sink Y.Output.BufferedSink.own Y.Faults.Sink)
         world.old world.new order (Ok tt) }
 
     // At 0 the database of the order holds what the order makes of the archive that it held, and what went out is of that archive.
-    ensures holds { (order : Order) → GiveOrder (map (λ w. w.now) words.now) order → result ≡ 0
-        → RunsOver (devices Y.Storage.Store Y.Files.ReadFiles Y.Files.OpenFiles Y.Files.Input.Source Y.Databases.Databases Y.Clock.DayClock
-        Y.Ports.listens Y.Ports.Listener.accepts Y.Ports.Listener.closes Y.Ports.Listener.over Y.Ports.went Y.Threaders.makes Y.Input.Source Y.Output.Sink Y.Output.Outgoing.own Y.Faults.Sink)
+    ensures holds { (order : Order) → ParseAsOrder (map (λ w. w.now) words.now) order → result ≡ 0
+        → RunsOrderOnArchive (devices Y.Storage.Store Y.Files.ReadFiles Y.Files.StreamedFiles Y.Files.Input.Source Y.Databases.Databases Y.Clock.DayClock
+        Y.Ports.listens Y.Ports.Listener.accepts Y.Ports.Listener.closes Y.Ports.Listener.over Y.Ports.went Y.Threaders.makes Y.Input.Source Y.Output.Sink Y.Output.BufferedSink.own Y.Faults.Sink)
         world.old world.new order }
 
     // At 1 it is refused: for a reason that holds, or for want of memory to read the words. One line tells the refusal.
-    ensures refused { (order : Order) → GiveOrder (map (λ w. w.now) words.now) order → result ≡ 1
-        → IsRefused (devices Y.Storage.Store Y.Files.ReadFiles Y.Files.OpenFiles Y.Files.Input.Source Y.Databases.Databases Y.Clock.DayClock
-        Y.Ports.listens Y.Ports.Listener.accepts Y.Ports.Listener.closes Y.Ports.Listener.over Y.Ports.went Y.Threaders.makes Y.Input.Source Y.Output.Sink Y.Output.Outgoing.own Y.Faults.Sink)
+    ensures refused { (order : Order) → ParseAsOrder (map (λ w. w.now) words.now) order → result ≡ 1
+        → OrderIsRefused (devices Y.Storage.Store Y.Files.ReadFiles Y.Files.StreamedFiles Y.Files.Input.Source Y.Databases.Databases Y.Clock.DayClock
+        Y.Ports.listens Y.Ports.Listener.accepts Y.Ports.Listener.closes Y.Ports.Listener.over Y.Ports.went Y.Threaders.makes Y.Input.Source Y.Output.Sink Y.Output.BufferedSink.own Y.Faults.Sink)
         world.old world.new order }
 
     // At 2 the words order nothing, for they are bad.
-    ensures bad { result ≡ 2 → AreBad (map (λ w. w.now) words.now)
+    ensures bad { result ≡ 2 → IsUsageError (map (λ w. w.now) words.now)
         × ((takes archive_app (map (λ w. w.now) words.now) ≡ false)
-        ⊎ (ordered (map (λ w. w.now) words.now) ≡ None)) }
+        ⊎ (order_of_args (map (λ w. w.now) words.now) ≡ None)) }
 
     // Words order something, and the status is 0 or 1. Or they order nothing, which has a cause, and then that alone is said of which
     // the cause is, with its status: help 0, bad words 2, want of memory 1.
-    ensures stopped { ((order : Order) × GiveOrder (map (λ w. w.now) words.now) order
+    ensures stopped { ((order : Order) × ParseAsOrder (map (λ w. w.now) words.now) order
         × (result ≤ 1))
-        ⊎ ((stop : OrderStop) × IsStopOf (map (λ w. w.now) words.now) stop
-        × RunSaysStop (devices Y.Storage.Store Y.Files.ReadFiles Y.Files.OpenFiles Y.Files.Input.Source Y.Databases.Databases Y.Clock.DayClock
-        Y.Ports.listens Y.Ports.Listener.accepts Y.Ports.Listener.closes Y.Ports.Listener.over Y.Ports.went Y.Threaders.makes Y.Input.Source Y.Output.Sink Y.Output.Outgoing.own Y.Faults.Sink)
+        ⊎ ((stop : OrderStop) × IsOrderStopOf (map (λ w. w.now) words.now) stop
+        × RunReportsOrderStop (devices Y.Storage.Store Y.Files.ReadFiles Y.Files.StreamedFiles Y.Files.Input.Source Y.Databases.Databases Y.Clock.DayClock
+        Y.Ports.listens Y.Ports.Listener.accepts Y.Ports.Listener.closes Y.Ports.Listener.over Y.Ports.went Y.Threaders.makes Y.Input.Source Y.Output.Sink Y.Output.BufferedSink.own Y.Faults.Sink)
         world.old world.new stop result) }
 {
     match order(alloc, words) {
@@ -104,6 +104,6 @@ pub fn run<Y: System>(alloc: Global, world: &mut World<Y>, words: &[&str]) -> u8
             let done = run_order(alloc, world, &asked);
             finish(&mut world.faults, &done)
         }
-        Err(stop) => say_stop(&mut world.output, &mut world.faults, &stop),
+        Err(stop) => report_parse_error(&mut world.output, &mut world.faults, &stop),
     }
 }

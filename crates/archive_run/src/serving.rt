@@ -1,21 +1,21 @@
 //! Serving an archive: the policy is read, the day asked and the database opened once, and then connections are answered.
 ghost use Rattle.std.specs.Prelude.{◌≡◌, ◌≤◌, Ok, Err, MatchResult};
-ghost use Rattle.archive_listen.specs.declared.faults.ListenFault.{ListenFault};
-ghost use Rattle.archive_run.specs.Serving.{AnswersAll, RunsServe, ServesIn, ServesNot, ServesOpen, ServesUnder, most_kept, said};
+ghost use Rattle.archive_listen.specs.declared.faults.ListenError.{ListenError};
+ghost use Rattle.archive_run.specs.Serving.{AnnouncesThenServesAll, RunsServe, RunServesDatabase, RefusesServing, ServesOpenStore, RunServesDatabaseOnDay, max_cache_bytes, server_output};
 
 use crate::databases::Databases;
-use crate::faults::Refusal;
+use crate::faults::RunError;
 use crate::ordering::{asking_day, named_policy};
 use crate::threaders::Threaders;
-use crate::world::{System, World};
-use archive_listen::{Listening, Outgoing, Ports};
-use archive_serve::{ServeStop, Terms, serve};
+use crate::world::{Environment, Platform};
+use archive_args::ServeArgs;
+use archive_listen::{BoundListener, BufferedSink, Ports};
+use archive_serve::{ServingContext, ServingError, serve};
 use archive_store::Store;
-use archive_words::ServeOrder;
 use civil_time::Day;
 use mbox_core::device::Sink;
 use policy_core::Policy;
-use sift_run::RunFault;
+use sift_run::CommandError;
 use sqlite::Alter;
 use std::alloc::Global;
 use thread_core::Threader;
@@ -24,14 +24,14 @@ use thread_core::Threader;
 const KEPT_BYTES: usize = 256 << 20;
 
 /// Listens on a port. F4: it cannot be had.
-fn listen_on<P: Ports>(ports: &mut P, port: u16) -> Result<Listening<P::Listener>, Refusal>
+fn listen_on<P: Ports>(ports: &mut P, port: u16) -> Result<BoundListener<P::Listener>, RunError>
     ensures { MatchResult result (λ listening. P.listens ports.old ports.new port (Ok listening))
-        (λ refusal. (refusal ≡ Refusal.Net) × (fault : ListenFault)
+        (λ refusal. (refusal ≡ RunError.Net) × (fault : ListenError)
         × P.listens ports.old ports.new port (Err fault)) }
 {
     match ports.listen(port) {
         Ok(listening) => Ok(listening),
-        Err(_fault) => Err(Refusal::Net),
+        Err(_fault) => Err(RunError::Net),
     }
 }
 
@@ -41,12 +41,12 @@ fn serving_terms<'a, T>(
     policy: &'a Policy,
     threader: &'a T,
     day: Day,
-) -> Terms<'a, T>
+) -> ServingContext<'a, T>
     ensures rules { result.policy.now ≡ policy.now }
     ensures day { result.day ≡ day }
-    ensures most { result.most ≡ most_kept }
+    ensures most { result.most ≡ max_cache_bytes }
 {
-    Terms {
+    ServingContext {
         alloc,
         policy,
         threader,
@@ -57,53 +57,53 @@ fn serving_terms<'a, T>(
 
 /// Says where a listener listens, answers so many of its connections out of an open store, and ends it. F4: no more connections come.
 /// F2: it could not be said where. F5: there was no memory for the routes of the pages.
-fn serve_listening<T: Threader, S: Alter, P: Ports, O: Outgoing, E: Sink>(
+fn serve_listening<T: Threader, S: Alter, P: Ports, O: BufferedSink, E: Sink>(
     alloc: Global,
     store: &mut Store<S>,
     policy: &Policy,
     threader: &T,
     day: Day,
     ports: &mut P,
-    listening: Listening<P::Listener>,
+    listening: BoundListener<P::Listener>,
     count: u32,
     output: &mut O,
     faults: &mut E,
-) -> Result<(), Refusal>
+) -> Result<(), RunError>
     ensures served { MatchResult result
-        (λ _. AnswersAll S.Store P.Listener.accepts P.Listener.closes P.Listener.over P.went ports.old ports.new policy.now day listening
+        (λ _. AnnouncesThenServesAll S.Store P.Listener.accepts P.Listener.closes P.Listener.over P.went ports.old ports.new policy.now day listening
         store.old store.new
-        (said O.Sink O.Outgoing.own E.Sink output.old faults.old)
-        (said O.Sink O.Outgoing.own E.Sink output.new faults.new) count)
-        (ServesNot S.Store P.Listener.accepts P.Listener.closes P.Listener.over P.went ports.old ports.new policy.now day listening
+        (server_output O.Sink O.BufferedSink.own E.Sink output.old faults.old)
+        (server_output O.Sink O.BufferedSink.own E.Sink output.new faults.new) count)
+        (RefusesServing S.Store P.Listener.accepts P.Listener.closes P.Listener.over P.went ports.old ports.new policy.now day listening
         store.old store.new
-        (said O.Sink O.Outgoing.own E.Sink output.old faults.old)
-        (said O.Sink O.Outgoing.own E.Sink output.new faults.new) count) }
+        (server_output O.Sink O.BufferedSink.own E.Sink output.old faults.old)
+        (server_output O.Sink O.BufferedSink.own E.Sink output.new faults.new) count) }
     ensures failures { E.failures faults.old ≤ E.failures faults.new }
 {
-    let Listening { listener, port } = listening;
+    let BoundListener { listener, port } = listening;
     let mut listener = listener;
     let terms = serving_terms(alloc, policy, threader, day);
     let served = serve(store, &terms, &mut listener, port, count, output, faults);
     ports.end(listener);
     match served {
         Ok(()) => Ok(()),
-        Err(ServeStop::Listen) => Err(Refusal::Net),
-        Err(ServeStop::Write) => Err(Refusal::Run(RunFault::Write)),
-        Err(ServeStop::Memory) => Err(Refusal::Run(RunFault::Memory)),
+        Err(ServingError::Listen) => Err(RunError::Net),
+        Err(ServingError::Write) => Err(RunError::Run(CommandError::Write)),
+        Err(ServingError::Memory) => Err(RunError::Run(CommandError::Memory)),
     }
 }
 
 /// Listens on the port of an order, serves so many connections out of an open store, and ends the listener.
-fn serve_store<Y: System, T: Threader>(
+fn serve_store<Y: Platform, T: Threader>(
     alloc: Global,
-    world: &mut World<Y>,
+    world: &mut Environment<Y>,
     store: &mut Store<Y::Storage>,
     policy: &Policy,
     threader: &T,
     day: Day,
-    order: &ServeOrder<'_>,
-) -> Result<(), Refusal>
-    ensures served { ServesOpen world.old world.new Y.Output.Sink Y.Output.Outgoing.own Y.Faults.Sink Y.Storage.Store
+    order: &ServeArgs<'_>,
+) -> Result<(), RunError>
+    ensures served { ServesOpenStore world.old world.new Y.Output.Sink Y.Output.BufferedSink.own Y.Faults.Sink Y.Storage.Store
         Y.Ports.listens Y.Ports.Listener.accepts Y.Ports.Listener.closes Y.Ports.Listener.over Y.Ports.went store.old store.new order.now policy.now day result }
     ensures failures { Y.Faults.failures world.old.faults ≤ Y.Faults.failures world.new.faults }
 {
@@ -123,21 +123,21 @@ fn serve_store<Y: System, T: Threader>(
 }
 
 /// Serves the database of an order: opens it, listens on the port, answers so many connections, and closes it.
-fn work_serve<Y: System, T: Threader>(
+fn work_serve<Y: Platform, T: Threader>(
     alloc: Global,
-    world: &mut World<Y>,
+    world: &mut Environment<Y>,
     policy: &Policy,
     threader: &T,
     day: Day,
-    order: &ServeOrder<'_>,
-) -> Result<(), Refusal>
-    ensures served { ServesIn world.old world.new Y.Output.Sink Y.Output.Outgoing.own Y.Faults.Sink Y.Storage.Store
+    order: &ServeArgs<'_>,
+) -> Result<(), RunError>
+    ensures served { RunServesDatabase world.old world.new Y.Output.Sink Y.Output.BufferedSink.own Y.Faults.Sink Y.Storage.Store
         Y.Ports.listens Y.Ports.Listener.accepts Y.Ports.Listener.closes Y.Ports.Listener.over Y.Ports.went Y.Databases.Databases order.now policy.now day result }
     ensures failures { Y.Faults.failures world.old.faults ≤ Y.Faults.failures world.new.faults }
 {
     let mut store = match world.databases.open(alloc, order.file) {
         Ok(store) => store,
-        Err(fault) => return Err(Refusal::Store(fault)),
+        Err(fault) => return Err(RunError::Store(fault)),
     };
     let served = serve_store(alloc, world, &mut store, policy, threader, day, order);
     world.databases.close(store);
@@ -145,35 +145,35 @@ fn work_serve<Y: System, T: Threader>(
 }
 
 /// Serves under a policy, on the day of the order.
-fn serve_by<Y: System, T: Threader>(
+fn serve_by<Y: Platform, T: Threader>(
     alloc: Global,
-    world: &mut World<Y>,
+    world: &mut Environment<Y>,
     policy: &Policy,
     threader: &T,
-    order: &ServeOrder<'_>,
-) -> Result<(), Refusal>
-    ensures served { ServesUnder world.old world.new Y.Output.Sink Y.Output.Outgoing.own Y.Faults.Sink Y.Storage.Store Y.Ports.listens
+    order: &ServeArgs<'_>,
+) -> Result<(), RunError>
+    ensures served { RunServesDatabaseOnDay world.old world.new Y.Output.Sink Y.Output.BufferedSink.own Y.Faults.Sink Y.Storage.Store Y.Ports.listens
         Y.Ports.Listener.accepts Y.Ports.Listener.closes Y.Ports.Listener.over Y.Ports.went Y.Databases.Databases Y.Clock.DayClock order.now policy.now result }
     ensures failures { Y.Faults.failures world.old.faults ≤ Y.Faults.failures world.new.faults }
 {
     let Some(day) = asking_day(order.day, &mut world.clock) else {
-        return Err(Refusal::Run(RunFault::Clock));
+        return Err(RunError::Run(CommandError::Clock));
     };
     work_serve(alloc, world, policy, threader, day, order)
 }
 
 /// Serves an archive: sees to what threads messages (F1), reads the policy, asks the day, opens the database, listens, says where,
 /// and answers so many connections, each that fails in one line to the stream of faults.
-pub(crate) fn run_serve<Y: System>(
+pub(crate) fn run_serve<Y: Platform>(
     alloc: Global,
-    world: &mut World<Y>,
-    order: &ServeOrder<'_>,
-) -> Result<(), Refusal>
-    ensures { RunsServe world.old world.new Y.Output.Sink Y.Output.Outgoing.own Y.Faults.Sink Y.Storage.Store Y.Ports.listens
+    world: &mut Environment<Y>,
+    order: &ServeArgs<'_>,
+) -> Result<(), RunError>
+    ensures { RunsServe world.old world.new Y.Output.Sink Y.Output.BufferedSink.own Y.Faults.Sink Y.Storage.Store Y.Ports.listens
         Y.Ports.Listener.accepts Y.Ports.Listener.closes Y.Ports.Listener.over Y.Ports.went Y.Databases.Databases Y.Clock.DayClock Y.Files.ReadFiles Y.Threaders.makes order.now result }
 {
     let Some(threader) = world.threaders.threader() else {
-        return Err(Refusal::Run(RunFault::Read));
+        return Err(RunError::Run(CommandError::Read));
     };
     let policy = named_policy(alloc, &world.files, order.policy)?;
     serve_by(alloc, world, &policy, &threader, order)

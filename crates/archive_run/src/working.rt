@@ -1,21 +1,21 @@
 //! Orders over a database: each opens the database of the name, does one thing, and closes it.
 ghost use Rattle.std.specs.Prelude.{◌≡◌, ◌⊎◌, Ok, Err, MatchResult};
-ghost use Rattle.archive_work.specs.Working.{Carries, Gets};
-ghost use Rattle.archive_run.specs.Databases.{Works, IsUnopened};
-ghost use Rattle.archive_run.specs.Working.{Answers, CarriesNot, ChecksNot, ExportsNot, GetsNot, ImportsFile, ImportsNot, IsExported, NotOpened};
-ghost use Rattle.sift_run.specs.Streams.{sent};
-ghost use Rattle.archive_store.specs.Checking.{Checks};
+ghost use Rattle.archive_commands.specs.Working.{CarriesOutCommand, GetsMessage};
+ghost use Rattle.archive_run.specs.Databases.{UsesDatabase, GivesNoDatabase};
+ghost use Rattle.archive_run.specs.Working.{AnswersOrFails, RefusesCommand, RefusesCheck, RefusesExport, RefusesGet, ImportsFile, RefusesImport, ExportsWholeList, RefusesOpening};
+ghost use Rattle.sift_run.specs.Streams.{output_stream_state};
+ghost use Rattle.archive_store.specs.Checking.{ChecksArchive};
 
 use crate::databases::Databases;
-use crate::faults::Refusal;
-use archive_desk::{DeskFault, Report, export};
+use crate::faults::RunError;
+use archive_args::{CheckArgs, ImportArgs, StoreArgs};
+use archive_commands::{Answer, GetError, carry_out, get};
+use archive_desk::{DeskError, Report, export};
 use archive_import::import_from;
-use archive_listen::Outgoing;
+use archive_listen::BufferedSink;
 use archive_results::Ask;
-use archive_store::{CheckStop, Store, StoreFault};
-use archive_words::{CheckOrder, ImportOrder, TableOrder};
-use archive_work::{Answer, GetStop, carry_out, get};
-use sift_run::{FileFault, OpenFiles, RunFault};
+use archive_store::{CheckError, Store, StoreFault};
+use sift_run::{CommandError, FileError, StreamedFiles};
 use sqlite::Alter;
 use std::alloc::Global;
 
@@ -23,14 +23,14 @@ use std::alloc::Global;
 pub(crate) fn work_table<S: Alter, D: Databases<Store<S>>>(
     alloc: Global,
     databases: &mut D,
-    order: &TableOrder<'_>,
+    order: &StoreArgs<'_>,
 ) -> Result<Answer, StoreFault>
     ensures worked { MatchResult result
-        (λ answer. Works D.Databases databases.old databases.new order.now.file
-        (λ o c. Carries S.Store o c order.now.command (Ok answer)))
-        (λ fault. IsUnopened D.Databases databases.old databases.new order.now.file fault
-        ⊎ Works D.Databases databases.old databases.new order.now.file
-        (λ o c. CarriesNot S.Store o c order.now.command (Refusal.Store fault))) }
+        (λ answer. UsesDatabase D.Databases databases.old databases.new order.now.file
+        (λ o c. CarriesOutCommand S.Store o c order.now.command (Ok answer)))
+        (λ fault. GivesNoDatabase D.Databases databases.old databases.new order.now.file fault
+        ⊎ UsesDatabase D.Databases databases.old databases.new order.now.file
+        (λ o c. RefusesCommand S.Store o c order.now.command (RunError.Store fault))) }
 {
     let mut store = databases.open(alloc, order.file)?;
     let answer = carry_out(&mut store, alloc, &order.command);
@@ -40,42 +40,42 @@ pub(crate) fn work_table<S: Alter, D: Databases<Store<S>>>(
 
 /// Takes the messages of the file of this name, which is read piece by piece, into a list of an open store. F1: it cannot be
 /// opened; F5: there was no memory to open it. Nothing was taken in then. M1 to M3, E4, E12, E14 and E15 as `import_from`.
-fn import_file<S: Alter, F: OpenFiles>(
+fn import_file<S: Alter, F: StreamedFiles>(
     store: &mut Store<S>,
     alloc: Global,
     files: &F,
     list: &str,
     name: &str,
-) -> Result<Report, Refusal>
+) -> Result<Report, RunError>
     ensures imported { MatchResult result
-        (λ report. ImportsFile S.Store store.old store.new F.OpenFiles F.Input.Source files.now list.now name.now report)
-        (λ refusal. ImportsNot S.Store store.old store.new F.OpenFiles F.Input.Source files.now list.now name.now refusal) }
+        (λ report. ImportsFile S.Store store.old store.new F.StreamedFiles F.Input.Source files.now list.now name.now report)
+        (λ refusal. RefusesImport S.Store store.old store.new F.StreamedFiles F.Input.Source files.now list.now name.now refusal) }
 {
     let mut input = match files.open_file(alloc, name) {
         Ok(input) => input,
-        Err(FileFault::Read) => return Err(Refusal::Run(RunFault::Read)),
-        Err(FileFault::Memory) => return Err(Refusal::Run(RunFault::Memory)),
+        Err(FileError::Read) => return Err(RunError::Run(CommandError::Read)),
+        Err(FileError::Memory) => return Err(RunError::Run(CommandError::Memory)),
     };
     match import_from(store, alloc, list, &mut input) {
         Ok(report) => Ok(report),
-        Err(stop) => Err(Refusal::Import(stop)),
+        Err(stop) => Err(RunError::Import(stop)),
     }
 }
 
 /// Takes the messages of the mbox of the order into its list.
-pub(crate) fn work_import<S: Alter, D: Databases<Store<S>>, F: OpenFiles>(
+pub(crate) fn work_import<S: Alter, D: Databases<Store<S>>, F: StreamedFiles>(
     alloc: Global,
     databases: &mut D,
     files: &F,
-    order: &ImportOrder<'_>,
-) -> Result<Report, Refusal>
-    ensures { Answers D.Databases databases.old databases.new order.now.file result
-        (λ report o c. ImportsFile S.Store o c F.OpenFiles F.Input.Source files.now order.now.list order.now.mbox report)
-        (λ o c. ImportsNot S.Store o c F.OpenFiles F.Input.Source files.now order.now.list order.now.mbox) }
+    order: &ImportArgs<'_>,
+) -> Result<Report, RunError>
+    ensures { AnswersOrFails D.Databases databases.old databases.new order.now.file result
+        (λ report o c. ImportsFile S.Store o c F.StreamedFiles F.Input.Source files.now order.now.list order.now.mbox report)
+        (λ o c. RefusesImport S.Store o c F.StreamedFiles F.Input.Source files.now order.now.list order.now.mbox) }
 {
     let mut store = match databases.open(alloc, order.file) {
         Ok(store) => store,
-        Err(fault) => return Err(Refusal::Store(fault)),
+        Err(fault) => return Err(RunError::Store(fault)),
     };
     let imported = import_file(&mut store, alloc, files, order.list, order.mbox);
     databases.close(store);
@@ -88,20 +88,20 @@ fn get_text<S: Alter>(
     alloc: Global,
     ask: &Ask<'_>,
     key: &str,
-) -> Result<Vec<u8>, Refusal>
+) -> Result<Vec<u8>, RunError>
     ensures got { MatchResult result
-        (λ text. Gets S.Store store.old store.new ask.now key.now (Ok text))
-        (λ refusal. GetsNot S.Store store.old store.new ask.now key.now refusal) }
+        (λ text. GetsMessage S.Store store.old store.new ask.now key.now (Ok text))
+        (λ refusal. RefusesGet S.Store store.old store.new ask.now key.now refusal) }
 {
     match get(store, alloc, ask, key) {
         Ok(text) => Ok(text),
-        Err(GetStop::Fault(fault)) => Err(Refusal::Desk(fault)),
-        Err(GetStop::NoMessage) => Err(Refusal::Store(StoreFault::NoMessage)),
-        Err(GetStop::Denied(rule)) => match String::from_str(alloc, rule) {
-            Ok(rule) => Err(Refusal::Denied(rule)),
+        Err(GetError::Fault(fault)) => Err(RunError::Desk(fault)),
+        Err(GetError::NoMessage) => Err(RunError::Store(StoreFault::NoMessage)),
+        Err(GetError::Denied(rule)) => match String::from_str(alloc, rule) {
+            Ok(rule) => Err(RunError::Denied(rule)),
             Err(refused) => {
-                store.wants.raise(refused.into());
-                Err(Refusal::Run(RunFault::Memory))
+                store.wants.increment(refused.into());
+                Err(RunError::Run(CommandError::Memory))
             }
         },
     }
@@ -114,14 +114,14 @@ pub(crate) fn work_get<S: Alter, D: Databases<Store<S>>>(
     file: &str,
     ask: &Ask<'_>,
     key: &str,
-) -> Result<Vec<u8>, Refusal>
-    ensures { Answers D.Databases databases.old databases.new file.now result
-        (λ text o c. Gets S.Store o c ask.now key.now (Ok text))
-        (λ o c. GetsNot S.Store o c ask.now key.now) }
+) -> Result<Vec<u8>, RunError>
+    ensures { AnswersOrFails D.Databases databases.old databases.new file.now result
+        (λ text o c. GetsMessage S.Store o c ask.now key.now (Ok text))
+        (λ o c. RefusesGet S.Store o c ask.now key.now) }
 {
     let mut store = match databases.open(alloc, file) {
         Ok(store) => store,
-        Err(fault) => return Err(Refusal::Store(fault)),
+        Err(fault) => return Err(RunError::Store(fault)),
     };
     let text = get_text(&mut store, alloc, ask, key);
     databases.close(store);
@@ -129,15 +129,15 @@ pub(crate) fn work_get<S: Alter, D: Databases<Store<S>>>(
 }
 
 /// Looks whether an open store is whole.
-fn check_store<S: Alter>(store: &mut Store<S>, alloc: Global) -> Result<(), Refusal>
+fn check_store<S: Alter>(store: &mut Store<S>, alloc: Global) -> Result<(), RunError>
     ensures checked { MatchResult result
-        (λ _. Checks S.Store store.old store.new (Ok tt))
-        (λ refusal. ChecksNot S.Store store.old store.new refusal) }
+        (λ _. ChecksArchive S.Store store.old store.new (Ok tt))
+        (λ refusal. RefusesCheck S.Store store.old store.new refusal) }
 {
     match store.check(alloc) {
         Ok(()) => Ok(()),
-        Err(CheckStop::Failed(fault)) => Err(Refusal::Store(fault)),
-        Err(CheckStop::Damaged { list, key }) => Err(Refusal::Damaged { list, key }),
+        Err(CheckError::Failed(fault)) => Err(RunError::Store(fault)),
+        Err(CheckError::Damaged { list, key }) => Err(RunError::Damaged { list, key }),
     }
 }
 
@@ -145,14 +145,14 @@ fn check_store<S: Alter>(store: &mut Store<S>, alloc: Global) -> Result<(), Refu
 pub(crate) fn work_check<S: Alter, D: Databases<Store<S>>>(
     alloc: Global,
     databases: &mut D,
-    order: &CheckOrder<'_>,
-) -> Result<(), Refusal>
-    ensures { Answers D.Databases databases.old databases.new order.now.file result
-        (λ _ o c. Checks S.Store o c (Ok tt)) (λ o c. ChecksNot S.Store o c) }
+    order: &CheckArgs<'_>,
+) -> Result<(), RunError>
+    ensures { AnswersOrFails D.Databases databases.old databases.new order.now.file result
+        (λ _ o c. ChecksArchive S.Store o c (Ok tt)) (λ o c. RefusesCheck S.Store o c) }
 {
     let mut store = match databases.open(alloc, order.file) {
         Ok(store) => store,
-        Err(fault) => return Err(Refusal::Store(fault)),
+        Err(fault) => return Err(RunError::Store(fault)),
     };
     let checked = check_store(&mut store, alloc);
     databases.close(store);
@@ -160,49 +160,49 @@ pub(crate) fn work_check<S: Alter, D: Databases<Store<S>>>(
 }
 
 /// Writes the messages of a list of an open store that the reader may see, and passes them on (G6).
-fn export_text<S: Alter, O: Outgoing>(
+fn export_text<S: Alter, O: BufferedSink>(
     store: &mut Store<S>,
     alloc: Global,
     ask: &Ask<'_>,
     output: &mut O,
-) -> Result<(), Refusal>
+) -> Result<(), RunError>
     ensures { MatchResult result
-        (λ _. IsExported S.Store store.old store.new ask.now (sent O.Sink O.Outgoing.own output.old)
-        (sent O.Sink O.Outgoing.own output.new))
-        (ExportsNot S.Store store.old store.new ask.now (sent O.Sink O.Outgoing.own output.old)
-        (sent O.Sink O.Outgoing.own output.new)) }
+        (λ _. ExportsWholeList S.Store store.old store.new ask.now (output_stream_state O.Sink O.BufferedSink.own output.old)
+        (output_stream_state O.Sink O.BufferedSink.own output.new))
+        (RefusesExport S.Store store.old store.new ask.now (output_stream_state O.Sink O.BufferedSink.own output.old)
+        (output_stream_state O.Sink O.BufferedSink.own output.new)) }
 {
     match export(store, alloc, ask, output) {
         Ok(_count) => {}
-        Err(stop) => return Err(Refusal::Desk(stop.fault)),
+        Err(stop) => return Err(RunError::Desk(stop.fault)),
     }
     match output.flush() {
         Ok(()) => Ok(()),
-        Err(_) => Err(Refusal::Desk(DeskFault::Write)),
+        Err(_) => Err(RunError::Desk(DeskError::Write)),
     }
 }
 
 /// Writes the messages of a list of the database of this name that the reader may see, and passes them on (G6).
-pub(crate) fn work_export<S: Alter, D: Databases<Store<S>>, O: Outgoing>(
+pub(crate) fn work_export<S: Alter, D: Databases<Store<S>>, O: BufferedSink>(
     alloc: Global,
     databases: &mut D,
     file: &str,
     ask: &Ask<'_>,
     output: &mut O,
-) -> Result<(), Refusal>
+) -> Result<(), RunError>
     ensures { MatchResult result
-        (λ _. Works D.Databases databases.old databases.new file.now
-        (λ o c. IsExported S.Store o c ask.now
-        (sent O.Sink O.Outgoing.own output.old) (sent O.Sink O.Outgoing.own output.new)))
-        (λ refusal. (NotOpened D.Databases databases.old databases.new file.now refusal
+        (λ _. UsesDatabase D.Databases databases.old databases.new file.now
+        (λ o c. ExportsWholeList S.Store o c ask.now
+        (output_stream_state O.Sink O.BufferedSink.own output.old) (output_stream_state O.Sink O.BufferedSink.own output.new)))
+        (λ refusal. (RefusesOpening D.Databases databases.old databases.new file.now refusal
         × (output.new ≡ output.old))
-        ⊎ Works D.Databases databases.old databases.new file.now
-        (λ o c. ExportsNot S.Store o c ask.now
-        (sent O.Sink O.Outgoing.own output.old) (sent O.Sink O.Outgoing.own output.new) refusal)) }
+        ⊎ UsesDatabase D.Databases databases.old databases.new file.now
+        (λ o c. RefusesExport S.Store o c ask.now
+        (output_stream_state O.Sink O.BufferedSink.own output.old) (output_stream_state O.Sink O.BufferedSink.own output.new) refusal)) }
 {
     let mut store = match databases.open(alloc, file) {
         Ok(store) => store,
-        Err(fault) => return Err(Refusal::Store(fault)),
+        Err(fault) => return Err(RunError::Store(fault)),
     };
     let exported = export_text(&mut store, alloc, ask, output);
     databases.close(store);

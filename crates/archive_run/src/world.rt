@@ -1,21 +1,21 @@
 //! What a run is over: one device of each kind.
 use crate::databases::Databases;
 use crate::threaders::Threaders;
-use archive_listen::{Outgoing, Ports};
+use archive_listen::{BufferedSink, Ports};
 use archive_store::Store;
 use mbox_core::device::{Sink, Source};
-use sift_run::{DayClock, OpenFiles, ReadFiles};
+use sift_run::{DayClock, ReadFiles, StreamedFiles};
 use sqlite::Alter;
 
 /// The kinds of devices that a run is over. No value of it is ever made.
-pub trait System {
-    ghost use Rattle.archive_run.specs.Remembering.{ClosesHeld, OpensHeld};
+pub trait Platform {
+    ghost use Rattle.archive_run.specs.Remembering.{ClosedDatabaseHoldsArchive, OpenedStoreHoldsArchive};
 
     /// What the pages of a database lie in.
     type Storage: Alter;
 
     /// The files of policies, which are read whole, and of mboxes, which are read piece by piece.
-    type Files: ReadFiles + OpenFiles + Drop;
+    type Files: ReadFiles + StreamedFiles + Drop;
 
     type Databases: Databases<Store<Self::Storage>> + Drop;
 
@@ -28,21 +28,21 @@ pub trait System {
     type Input: Source + Drop;
 
     /// It may hold back what it is given: an order that is carried out passes it on.
-    type Output: Outgoing + Drop;
+    type Output: BufferedSink + Drop;
 
     /// Each line that is written to it goes out at once.
     type Faults: Sink + Drop;
 
     // A database that holds an archive gives a store that remembers it, where the disk has returned what was written to it.
-    ghost opens_held: { OpensHeld Self.Storage.Store Self.Databases.Databases };
+    ghost opens_held: { OpenedStoreHoldsArchive Self.Storage.Store Self.Databases.Databases };
 
     // When it is closed, it holds what its store remembers then.
-    ghost closes_held: { ClosesHeld Self.Storage.Store Self.Databases.Databases };
+    ghost closes_held: { ClosedDatabaseHoldsArchive Self.Storage.Store Self.Databases.Databases };
 }
 
 /// What a run is over.
 #[derive(Drop)]
-pub struct World<Y: System> {
+pub struct Environment<Y: Platform> {
     /// Policies and mboxes.
     pub files: Y::Files,
     /// The archives.

@@ -5,28 +5,28 @@ use Rattle.std.proofs.lemmas.Bool.{cases_Bool}
 use Rattle.sqlite.specs.Store.{Ghosts}
 use Rattle.sqlite.specs.Held.{state}
 use Rattle.policy_core.specs.Rules.{Rule}
-use Rattle.archive_machine.specs.Records.{Archive}
-use Rattle.archive_store.specs.Held.{held_of}
-use Rattle.archive_store.specs.Told.{HasReturned, HoldsTables, IsOpen, archive_in}
+use Rattle.archive_model.specs.Records.{Archive}
+use Rattle.archive_store.specs.Held.{store_connection}
+use Rattle.archive_store.specs.Told.{StoreHasCleanDisk, HoldsTables, IsOpen, archive_in}
 use Rattle.archive_store.specs.declared.store.Store.{Store}
-use Rattle.archive_kept.specs.Kept.{AreOf, Keeps}
-use Rattle.archive_pages.specs.Answered.{AnswersBy}
-use Rattle.archive_pages.specs.Calls.{AreKept, KeepsOn}
-use Rattle.archive_pages.specs.Causes.{IsUnreadIn, ServesOr}
-use Rattle.archive_pages.specs.KeptServing.{OfRemembered}
-use Rattle.archive_pages.specs.Replies.{IsServeStop}
-use Rattle.archive_pages.specs.Running.{AnswersFrom}
-use Rattle.archive_pages.specs.Serving.{Stays}
+use Rattle.archive_cache.specs.Coherence.{IsCacheCoherent, KeepsCacheCoherent}
+use Rattle.archive_pages.specs.Answered.{AnswersRequestFromStore}
+use Rattle.archive_pages.specs.Calls.{IsPagesCacheCoherent, ChangesOnlyPagesCache}
+use Rattle.archive_pages.specs.Causes.{IsInputDataUnreadable, ServesOr503}
+use Rattle.archive_pages.specs.KeptServing.{IsTrueOfRememberedArchive}
+use Rattle.archive_pages.specs.Replies.{HasServeFaultCause}
+use Rattle.archive_pages.specs.Headline.{AnswersRequestFromArchive}
+use Rattle.archive_pages.specs.Serving.{StoreKeepsArchive}
 use Rattle.archive_pages.specs.declared.faults.ServeFault.{ServeFault}
 use Rattle.archive_pages.specs.declared.pages.Pages.{Pages}
 use Rattle.archive_pages.proofs.RunningLemmas.{answers_left}
-use Rattle.archive_listen.specs.Connections.{Telling, Outcome, Exchange, Noted}
-use Rattle.archive_listen.specs.declared.faults.AcceptFault.{AcceptFault}
-use Rattle.archive_listen.specs.Serving.{AtWork, Served, ServesAll, ServesEach, ServesFewer, at_work, law_of, served}
+use Rattle.archive_listen.specs.Connections.{ConnectionTranscript, ConnectionResult, Exchange, ErrorStreamState}
+use Rattle.archive_listen.specs.declared.faults.AcceptError.{AcceptError}
+use Rattle.archive_listen.specs.Serving.{RunningService, ServerState, ServesAllConnections, ServesEachConnection, ServesFewerConnections, running_service, service_answer_law, server_state}
 use Rattle.archive_listen.proofs.ThroughLemmas.{each_had_through, part_of}
-use Rattle.archive_serve.specs.Keeping.{AnswersKept, Keeper, fresh_keeper}
-use Rattle.archive_serve.specs.Pages.{TellsUnrouted, outcome_of}
-use Rattle.archive_serve.specs.Runs.{AnswersIn, CanServe, IsSteady, RunLaw}
+use Rattle.archive_serve.specs.Keeping.{AnswersFromCache, ServingContextState, fresh_serving_context}
+use Rattle.archive_serve.specs.Pages.{Answers404IfUnrouted, connection_result_of}
+use Rattle.archive_serve.specs.Runs.{AnswersFromArchiveInRun, HasSoundStore, IsNeither503NorWriteError, ServingAnswerLaw}
 use Rattle.archive_serve.proofs.SteadyLemmas.{goes_by}
 
 pub on_ok : {A E : Type 0} (result : Result A E) {P Q : Type 0} → (P → Q) → OnOk result P → OnOk result Q
@@ -37,8 +37,8 @@ pub on_err : {A E : Type 0} (result : Result A E) {P Q : Type 0} → (P → Q) �
 on_err (Ok a) f it = tt
 on_err (Err e) f it = f it
 
-pub same_state : {V St : Type 0} (service : V) (store : St) (w : AtWork V St) → at_work service store ≡ w → store ≡ w.state
-same_state {V} {St} service store w same = ap (λ (x : AtWork V St). x.state) same
+pub same_state : {V St : Type 0} (service : V) (store : St) (w : RunningService V St) → running_service service store ≡ w → store ≡ w.state
+same_state {V} {St} service store w same = ap (λ (x : RunningService V St). x.state) same
 
 -- what is said with routes, where there are some
 with_routes : {A P : Type 0} (routes : Option A) → IfSome routes (λ _. P) → is_some routes ≡ true → P
@@ -46,15 +46,15 @@ with_routes None says some = absurd (cc)
 with_routes (Some routes) says some = says
 
 -- what a call that answers says
-module _ {S T : Type 0} (g : Ghosts S) (pages later : Pages T) (old new : Store S) (before after : Telling) (result : Result ℕ ServeFault) where
-  pub answers_kept : (outcome : Outcome) → outcome ≡ outcome_of result
-      → (OfRemembered g old new (AreKept pages)
-      → AnswersBy g old new pages.policy.now pages.day before.read after.read before.ends after.ends before.written after.written result)
-      → KeepsOn g old new pages later → Stays g old new result
+module _ {S T : Type 0} (g : Ghosts S) (pages later : Pages T) (old new : Store S) (before after : ConnectionTranscript) (result : Result ℕ ServeFault) where
+  pub answers_kept : (outcome : ConnectionResult) → outcome ≡ connection_result_of result
+      → (IsTrueOfRememberedArchive g old new (IsPagesCacheCoherent pages)
+      → AnswersRequestFromStore g old new pages.policy.now pages.day before.read after.read before.ends after.ends before.written after.written result)
+      → ChangesOnlyPagesCache g old new pages later → StoreKeepsArchive g old new result
       → OnOk result ((after.read_failures ≡ before.read_failures) × (after.write_failures ≡ before.write_failures))
-      → IfErr result (λ fault. IsServeStop before.written after.written before.read_failures after.read_failures before.write_failures after.write_failures fault)
-      → ServesOr g old new result (IsUnreadIn before.read after.read pages.policy.now pages.day) → IfSome pages.routes (λ _. TellsUnrouted before after result)
-      → AnswersKept g (record { rules = pages.policy.now; day = pages.day; routes = is_some pages.routes; kept = pages.kept })
+      → IfErr result (λ fault. HasServeFaultCause before.written after.written before.read_failures after.read_failures before.write_failures after.write_failures fault)
+      → ServesOr503 g old new result (IsInputDataUnreadable before.read after.read pages.policy.now pages.day) → IfSome pages.routes (λ _. Answers404IfUnrouted before after result)
+      → AnswersFromCache g (record { rules = pages.policy.now; day = pages.day; routes = is_some pages.routes; kept = pages.kept })
       (record { rules = later.policy.now; day = later.day; routes = is_some later.routes; kept = later.kept })
       old new before after outcome
   answers_kept outcome is answered keeps stays quiet cause caused unrouted = record {
@@ -72,10 +72,10 @@ module _ {S T : Type 0} (g : Ghosts S) (pages later : Pages T) (old new : Store 
 module _ {S : Type 0} (g : Ghosts S) (rules : List Rule) (day : ℤ) where
   -- pages and the store that they answer out of
   abbrev Serving : Type 0
-  Serving = AtWork Keeper (Store S)
+  Serving = RunningService ServingContextState (Store S)
 
-  abbrev pub KeptLaw : Serving → Serving → Telling → Telling → Outcome → Type 0
-  KeptLaw = law_of (λ keeper later. AnswersKept g keeper later)
+  abbrev pub KeptLaw : Serving → Serving → ConnectionTranscript → ConnectionTranscript → ConnectionResult → Type 0
+  KeptLaw = service_answer_law (λ keeper later. AnswersFromCache g keeper later)
 
   -- the pages go by these rules, on this day, and have routes
   abbrev pub SameBy : Serving → Type 0
@@ -83,24 +83,24 @@ module _ {S : Type 0} (g : Ghosts S) (rules : List Rule) (day : ℤ) where
 
   -- What the pages keep is of this archive, which the store remembers, unless it is shut.
   pub record IsSound (archive : Archive) (serving : Serving) : Type 0 where
-    pub kept : AreOf archive rules day serving.service.kept
+    pub kept : IsCacheCoherent archive rules day serving.service.kept
     pub left : IsOpen g serving.state → HoldsTables g serving.state × (archive_in g serving.state ≡ archive)
 
   -- one answer on, by pages that go by these rules, on this day
-  module _ (archive : Archive) (old new : Serving) (same : SameBy old) (before after : Telling) (outcome : Outcome)
+  module _ (archive : Archive) (old new : Serving) (same : SameBy old) (before after : ConnectionTranscript) (outcome : ConnectionResult)
       (law : KeptLaw old new before after outcome) where
     same_on : SameBy new
     same_on = (law.same_rules ∙ same.0, law.same_day ∙ same.1, law.same_routes ∙ same.2)
 
     -- where the disk has returned what was written, and what is kept is of the archive
-    module _ (had : HasReturned g new.state) (sound : IsSound archive old) where
-      of_held : OfRemembered g old.state new.state (λ a. AreOf a rules day old.service.kept)
-      of_held returned held = subst (λ a. AreOf a rules day old.service.kept) (sym (sound.left held.is_open).1) sound.kept
+    module _ (had : StoreHasCleanDisk g new.state) (sound : IsSound archive old) where
+      serves_held_archive : IsTrueOfRememberedArchive g old.state new.state (λ a. IsCacheCoherent a rules day old.service.kept)
+      serves_held_archive returned held = subst (λ a. IsCacheCoherent a rules day old.service.kept) (sym (sound.left held.is_open).1) sound.kept
 
-      answered : AnswersBy g old.state new.state rules day before.read after.read before.ends after.ends before.written after.written law.result
-      answered = (rw (same.0, same.1) at law.answered) of_held
+      answered : AnswersRequestFromStore g old.state new.state rules day before.read after.read before.ends after.ends before.written after.written law.result
+      answered = (rw (same.0, same.1) at law.answered) serves_held_archive
 
-      reply : AnswersFrom archive rules day before.read after.read before.ends after.ends before.written after.written law.result
+      reply : AnswersRequestFromArchive archive rules day before.read after.read before.ends after.ends before.written after.written law.result
       reply = answers_left g old.state new.state archive had sound.left rules day law.result
           before.read after.read before.ends after.ends before.written after.written answered
 
@@ -110,24 +110,24 @@ module _ {S : Type 0} (g : Ghosts S) (rules : List Rule) (day : ℤ) where
           let now = law.ends.stays.same.1 had was.0 up in
           (now.0, now.1 ∙ was.1)
 
-      stays_open : IsSteady outcome → IsOpen g old.state → IsOpen g new.state
+      stays_open : IsNeither503NorWriteError outcome → IsOpen g old.state → IsOpen g new.state
       stays_open steady up =
-          let goes = goes_by g old.state new.state before after law.result _ (subst IsSteady law.is steady) answered law.ends.stays in
+          let goes = goes_by g old.state new.state before after law.result _ (subst IsNeither503NorWriteError law.is steady) answered law.ends.stays in
           (goes.1 had (sound.left up).0).0.is_open
 
-      kept_on : Keeps g old.state new.state rules day old.service.kept new.service.kept → AreOf archive rules day new.service.kept
-      kept_on keeps = elim (cases_Bool (state g (held_of old.state)).is_open) [
+      kept_on : KeepsCacheCoherent g old.state new.state rules day old.service.kept new.service.kept → IsCacheCoherent archive rules day new.service.kept
+      kept_on keeps = elim (cases_Bool (state g (store_connection old.state)).is_open) [
         | inl up ↦
             let was = sound.left up in
-            subst (λ a. AreOf a rules day new.service.kept) was.1 (keeps.held had was.0 (of_held had was.0))
-        | inr down ↦ subst (λ kept. AreOf archive rules day kept) (sym (keeps.shut had (λ up. let it = sym up ∙ down in absurd (cc)))) sound.kept
+            subst (λ a. IsCacheCoherent a rules day new.service.kept) was.1 (keeps.held had was.0 (serves_held_archive had was.0))
+        | inr down ↦ subst (λ kept. IsCacheCoherent archive rules day kept) (sym (keeps.shut had (λ up. let it = sym up ∙ down in absurd (cc)))) sound.kept
       ]
 
       sound_on : IsSound archive new
       sound_on = record { kept = kept_on (rw (same.0, same.1) at law.keeps); left = left }
 
-    module _ (If : Type 0) (had : If → HasReturned g new.state) (sound : If → IsSound archive old) where
-      answers_in : AnswersIn g If archive rules day old.state new.state before after outcome
+    module _ (If : Type 0) (had : If → StoreHasCleanDisk g new.state) (sound : If → IsSound archive old) where
+      answers_in : AnswersFromArchiveInRun g If archive rules day old.state new.state before after outcome
       answers_in = record {
         result = law.result;
         is = law.is;
@@ -138,7 +138,7 @@ module _ {S : Type 0} (g : Ghosts S) (rules : List Rule) (day : ℤ) where
         stays_open = λ i. stays_open (had i) (sound i);
       }
 
-  module _ {L : Type 0} (accepts : L → L → Option AcceptFault → Type 0) (closes : L → L → Exchange → Bool → Type 0) (If : Type 0) (archive : Archive) where
+  module _ {L : Type 0} (accepts : L → L → Option AcceptError → Type 0) (closes : L → L → Exchange → Bool → Type 0) (If : Type 0) (archive : Archive) where
     -- what a run hands on from connection to connection
     pub record GoesOn (serving : Serving) : Type 0 where
       pub same : SameBy serving
@@ -146,14 +146,14 @@ module _ {S : Type 0} (g : Ghosts S) (rules : List Rule) (day : ℤ) where
 
     -- Each connection is answered as if nothing were kept, and what is kept stays of the archive, where it was at first, the tables
     -- were an archive's, and the disk has returned what was written.
-    pub answers_each : (outcomes : List Outcome) (before after : Served L Serving) → (If → HasReturned g after.state.state) → GoesOn before.state
-        → ServesEach KeptLaw accepts closes outcomes before after
-        → ServesEach (AnswersIn g If archive rules day) accepts closes outcomes
-        (part_of KeptLaw (AnswersIn g If archive rules day) (λ (w : Serving). w.state) accepts closes before)
-        (part_of KeptLaw (AnswersIn g If archive rules day) (λ (w : Serving). w.state) accepts closes after)
+    pub answers_each : (outcomes : List ConnectionResult) (before after : ServerState L Serving) → (If → StoreHasCleanDisk g after.state.state) → GoesOn before.state
+        → ServesEachConnection KeptLaw accepts closes outcomes before after
+        → ServesEachConnection (AnswersFromArchiveInRun g If archive rules day) accepts closes outcomes
+        (part_of KeptLaw (AnswersFromArchiveInRun g If archive rules day) (λ (w : Serving). w.state) accepts closes before)
+        (part_of KeptLaw (AnswersFromArchiveInRun g If archive rules day) (λ (w : Serving). w.state) accepts closes after)
         × GoesOn after.state
     answers_each outcomes before after had goes each =
-        each_had_through KeptLaw (AnswersIn g If archive rules day) (λ (w : Serving). w.state) accepts closes (λ w. If → HasReturned g w.state) GoesOn
+        each_had_through KeptLaw (AnswersFromArchiveInRun g If archive rules day) (λ (w : Serving). w.state) accepts closes (λ w. If → StoreHasCleanDisk g w.state) GoesOn
         (λ old new first last outcome law returned i. law.ends.stays.same.0.returned (returned i))
         (λ old new first last outcome returned on law. (
           answers_in archive old new on.same first last outcome law If returned on.sound,
@@ -165,40 +165,40 @@ module _ {S : Type 0} (g : Ghosts S) (rules : List Rule) (day : ℤ) where
         outcomes before after had goes each
 
 -- a run of a service that keeps nothing before the first connection
-module _ {S L : Type 0} (g : Ghosts S) (accepts : L → L → Option AcceptFault → Type 0) (closes : L → L → Exchange → Bool → Type 0)
-    (rules : List Rule) (day : ℤ) (most : ℕ) (keeper : Keeper) (fresh : keeper ≡ fresh_keeper rules day most) (store : Store S) (listener : L) where
-  abbrev Law : AtWork Keeper (Store S) → AtWork Keeper (Store S) → Telling → Telling → Outcome → Type 0
+module _ {S L : Type 0} (g : Ghosts S) (accepts : L → L → Option AcceptError → Type 0) (closes : L → L → Exchange → Bool → Type 0)
+    (rules : List Rule) (day : ℤ) (most : ℕ) (keeper : ServingContextState) (fresh : keeper ≡ fresh_serving_context rules day most) (store : Store S) (listener : L) where
+  abbrev Law : RunningService ServingContextState (Store S) → RunningService ServingContextState (Store S) → ConnectionTranscript → ConnectionTranscript → ConnectionResult → Type 0
   Law = KeptLaw g rules day
 
-  run_each : (last : Store S) (outcomes : List Outcome) (after : Served L (AtWork Keeper (Store S))) → last ≡ after.state.state
-      → ServesEach Law accepts closes outcomes (served listener (at_work keeper store)) after
-      → ServesEach (RunLaw g rules day store last) accepts closes outcomes (served listener store) (served after.listener after.state.state)
+  run_each : (last : Store S) (outcomes : List ConnectionResult) (after : ServerState L (RunningService ServingContextState (Store S))) → last ≡ after.state.state
+      → ServesEachConnection Law accepts closes outcomes (server_state listener (running_service keeper store)) after
+      → ServesEachConnection (ServingAnswerLaw g rules day store last) accepts closes outcomes (server_state listener store) (server_state after.listener after.state.state)
   run_each last outcomes after same each =
-      let through = answers_each g rules day accepts closes (CanServe g store last) (archive_in g store) outcomes (served listener (at_work keeper store)) after
-      (λ i. subst (λ s. HasReturned g s) same i.0)
+      let through = answers_each g rules day accepts closes (HasSoundStore g store last) (archive_in g store) outcomes (server_state listener (running_service keeper store)) after
+      (λ i. subst (λ s. StoreHasCleanDisk g s) same i.0)
       (record {
-        same = (ap (λ (k : Keeper). k.rules) fresh, ap (λ (k : Keeper). k.day) fresh, ap (λ (k : Keeper). k.routes) fresh);
+        same = (ap (λ (k : ServingContextState). k.rules) fresh, ap (λ (k : ServingContextState). k.day) fresh, ap (λ (k : ServingContextState). k.routes) fresh);
         sound = λ i. record {
-          kept = subst (λ (k : Keeper). AreOf (archive_in g store) rules day k.kept) (sym fresh) (tt, tt);
+          kept = subst (λ (k : ServingContextState). IsCacheCoherent (archive_in g store) rules day k.kept) (sym fresh) (tt, tt);
           left = λ up. (i.1, refl);
         };
       }) each in
       through.0
 
-  module _ (before after : Noted) (count : ℕ) (service : Keeper) (last : Store S) (end : L) where
-    abbrev left_at : Served L (AtWork Keeper (Store S))
-    left_at = served end (at_work service last)
+  module _ (before after : ErrorStreamState) (count : ℕ) (service : ServingContextState) (last : Store S) (end : L) where
+    abbrev left_at : ServerState L (RunningService ServingContextState (Store S))
+    left_at = server_state end (running_service service last)
 
-    pub all_of_fresh : ServesAll Law accepts closes (served listener (at_work keeper store)) before after count left_at
-        → ServesAll (RunLaw g rules day store last) accepts closes (served listener store) before after count (served end last)
+    pub all_of_fresh : ServesAllConnections Law accepts closes (server_state listener (running_service keeper store)) before after count left_at
+        → ServesAllConnections (ServingAnswerLaw g rules day store last) accepts closes (server_state listener store) before after count (server_state end last)
     all_of_fresh it = (it.0, it.1, record { each = run_each last it.0 left_at refl it.2.each; told = it.2.told })
 
-    pub fewer_of_fresh : ServesFewer Law accepts closes (served listener (at_work keeper store)) before after count left_at
-        → ServesFewer (RunLaw g rules day store last) accepts closes (served listener store) before after count (served end last)
+    pub fewer_of_fresh : ServesFewerConnections Law accepts closes (server_state listener (running_service keeper store)) before after count left_at
+        → ServesFewerConnections (ServingAnswerLaw g rules day store last) accepts closes (server_state listener store) before after count (server_state end last)
     fewer_of_fresh it =
         let same = same_state service last it.1.state it.4 in (
           it.0,
-          served it.1.listener it.1.state.state,
+          server_state it.1.listener it.1.state.state,
           it.2,
           record { each = run_each last it.0 it.1 same it.3.each; told = it.3.told },
           same,

@@ -3,29 +3,29 @@ use Rattle.std.proofs.Common.{◌≡◌, ◌<◌, ◌∙◌, inl, inr, ℤ, List
 use Rattle.std.proofs.lemmas.List.{append-nil}
 use Rattle.sqlite.specs.Store.{Ghosts}
 use Rattle.policy_core.specs.Rules.{Rule}
-use Rattle.archive_machine.specs.Records.{Archive}
+use Rattle.archive_model.specs.Records.{Archive}
 use Rattle.archive_store.specs.Told.{archive_in}
 use Rattle.archive_store.specs.declared.store.Store.{Store}
-use Rattle.archive_pages.specs.Running.{AnswersFrom}
-use Rattle.archive_listen.specs.Connections.{Outcome, Exchange, Reaches, exchange}
-use Rattle.archive_listen.specs.Serving.{Served, ServesEach, Takes}
-use Rattle.archive_listen.specs.declared.faults.AcceptFault.{AcceptFault}
-use Rattle.archive_listen.specs.declared.faults.ConnectionFault.TheVariants.{Read}
-use Rattle.archive_serve.specs.Runs.{AnswersIn, AreReplied, CanServe, EachGetsItsReply, IsReplied}
+use Rattle.archive_pages.specs.Headline.{AnswersRequestFromArchive}
+use Rattle.archive_listen.specs.Connections.{ConnectionResult, Exchange, ClientReceives, exchange}
+use Rattle.archive_listen.specs.Serving.{ServerState, ServesEachConnection, AcceptsAndAnswers}
+use Rattle.archive_listen.specs.declared.faults.AcceptError.{AcceptError}
+use Rattle.archive_listen.specs.declared.faults.ConnectionError.TheVariants.{Read}
+use Rattle.archive_serve.specs.Runs.{AnswersFromArchiveInRun, ExchangesAreAnswered, HasSoundStore, EachGetsItsReply, ExchangeIsAnswered}
 
-module _ {S L : Type 0} (g : Ghosts S) (over : L → List Exchange) (accepts : L → L → Option AcceptFault → Type 0)
+module _ {S L : Type 0} (g : Ghosts S) (over : L → List Exchange) (accepts : L → L → Option AcceptError → Type 0)
     (closes : L → L → Exchange → Bool → Type 0)
-    (accepts_none : (old new : L) (fault : Option AcceptFault) → accepts old new fault → over new ≡ over old)
+    (accepts_none : (old new : L) (fault : Option AcceptError) → accepts old new fault → over new ≡ over old)
     (closes_one : (old new : L) (went : Exchange) (broke_off : Bool) → closes old new went broke_off → over new ≡ over old ++ went ∷ []) where
   module _ (If : Type 0) (archive : Archive) (rules : List Rule) (day : ℤ) where
     -- one that was gone
-    replied_gone : (outcome : Outcome) (outcomes : List Outcome) (others : List Exchange) → outcome ≡ Err Read
-        → AreReplied archive rules day outcomes others → AreReplied archive rules day (outcome ∷ outcomes) others
+    replied_gone : (outcome : ConnectionResult) (outcomes : List ConnectionResult) (others : List Exchange) → outcome ≡ Err Read
+        → ExchangesAreAnswered archive rules day outcomes others → ExchangesAreAnswered archive rules day (outcome ∷ outcomes) others
     replied_gone outcome outcomes [] gone rest = (gone, rest)
     replied_gone outcome outcomes (one ∷ others) gone rest = inr (gone, rest)
 
-    module _ (before between : Served L (Store S)) (outcome : Outcome)
-        (takes : Takes (AnswersIn g If archive rules day) accepts closes before between outcome) where
+    module _ (before between : ServerState L (Store S)) (outcome : ConnectionResult)
+        (takes : AcceptsAndAnswers (AnswersFromArchiveInRun g If archive rules day) accepts closes before between outcome) where
       abbrev went : Exchange
       went = exchange takes.told.read takes.sent
 
@@ -34,7 +34,7 @@ module _ {S L : Type 0} (g : Ghosts S) (over : L → List Exchange) (accepts : L
           closes_one takes.listening between.listener went _ takes.closed
           ∙ ap (λ (all : List Exchange). all ++ went ∷ []) (accepts_none before.listener takes.listening _ takes.accepted)
 
-      replied : If → IsReplied archive rules day outcome went
+      replied : If → ExchangeIsAnswered archive rules day outcome went
       replied i =
           let a = takes.answered in
           let it = a.answered in
@@ -42,17 +42,17 @@ module _ {S L : Type 0} (g : Ghosts S) (over : L → List Exchange) (accepts : L
             result = it.result;
             ends = a.told.ends;
             written = a.told.written;
-            reply = subst (λ read. AnswersFrom archive rules day [] read 0 a.told.ends [] a.told.written it.result) (sym a.read) (it.reply i);
+            reply = subst (λ read. AnswersRequestFromArchive archive rules day [] read 0 a.told.ends [] a.told.written it.result) (sym a.read) (it.reply i);
             made = a.told.write_failures;
             passed = takes.told.write_failures;
-            sent = subst (λ answer. Reaches answer outcome a.told.written (a.told.write_failures < takes.told.write_failures) takes.sent) it.is a.reached;
+            sent = subst (λ answer. ClientReceives answer outcome a.told.written (a.told.write_failures < takes.told.write_failures) takes.sent) it.is a.reached;
           }
 
-    each_replied : (outcomes : List Outcome) (before after : Served L (Store S))
-        → ServesEach (AnswersIn g If archive rules day) accepts closes outcomes before after → If
-        → (all : List Exchange) × (over after.listener ≡ over before.listener ++ all) × AreReplied archive rules day outcomes all
+    each_replied : (outcomes : List ConnectionResult) (before after : ServerState L (Store S))
+        → ServesEachConnection (AnswersFromArchiveInRun g If archive rules day) accepts closes outcomes before after → If
+        → (all : List Exchange) × (over after.listener ≡ over before.listener ++ all) × ExchangesAreAnswered archive rules day outcomes all
     each_replied [] before after same i =
-        ([], ap (λ (s : Served L (Store S)). over s.listener) same ∙ sym (append-nil (over before.listener)), tt)
+        ([], ap (λ (s : ServerState L (Store S)). over s.listener) same ∙ sym (append-nil (over before.listener)), tt)
     each_replied (outcome ∷ outcomes) before after (between, inl takes, rest) i =
         let others = each_replied outcomes between after rest i in
         let one = went before between outcome takes in (
@@ -70,5 +70,5 @@ module _ {S L : Type 0} (g : Ghosts S) (over : L → List Exchange) (accepts : L
 
   pub each_gets : EachGetsItsReply g over accepts closes
   each_gets rules day outcomes first last old new each can =
-      each_replied (CanServe g old new) (archive_in g old) rules day outcomes
+      each_replied (HasSoundStore g old new) (archive_in g old) rules day outcomes
       (record { listener = first; state = old }) (record { listener = last; state = new }) each can

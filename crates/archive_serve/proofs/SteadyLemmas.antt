@@ -5,41 +5,43 @@ use Rattle.std.specs.List.{AllByRecursion}
 use Rattle.httparse.specs.Grammar.{HasNoRequest}
 use Rattle.sqlite.specs.Store.{Ghosts}
 use Rattle.policy_core.specs.Rules.{Rule}
-use Rattle.archive_machine.specs.Records.{Archive}
-use Rattle.archive_store.specs.Told.{GoesIn, HoldsTables, archive_in}
+use Rattle.archive_model.specs.Records.{Archive}
+use Rattle.archive_store.specs.Told.{RelatesArchivesUnder, HoldsTables, archive_in}
 use Rattle.archive_store.specs.declared.store.Store.{Store}
-use Rattle.archive_pages.specs.Answered.{ByOutcome}
-use Rattle.archive_pages.specs.Serving.{Stays}
+use Rattle.archive_pages.specs.Answered.{IfAnsweredOrUnread}
+use Rattle.archive_pages.specs.Serving.{StoreKeepsArchive}
 use Rattle.archive_pages.specs.declared.faults.ServeFault.{ServeFault}
 use Rattle.archive_pages.specs.declared.faults.ServeFault.TheVariants as answering
-use Rattle.archive_listen.specs.Connections.{Telling, Outcome, Exchange, Reaches}
-use Rattle.archive_listen.specs.declared.faults.AcceptFault.{AcceptFault}
-use Rattle.archive_listen.specs.declared.faults.ConnectionFault.TheVariants.{Read, Write, Broken}
-use Rattle.archive_listen.specs.Serving.{Served, ServesOne, ServesEach, served}
-use Rattle.archive_serve.specs.Pages.{outcome_of}
-use Rattle.archive_serve.specs.Runs.{AnswersIn, CanServe, IsSteady, LeaveItReady}
+use Rattle.archive_listen.specs.Connections.{ConnectionTranscript, ConnectionResult, Exchange, ClientReceives}
+use Rattle.archive_listen.specs.declared.faults.AcceptError.{AcceptError}
+use Rattle.archive_listen.specs.declared.faults.ConnectionError.TheVariants.{Read, Write, Broken}
+use Rattle.archive_listen.specs.Serving.{ServerState, ServesOneConnection, ServesEachConnection, server_state}
+use Rattle.archive_serve.specs.Pages.{connection_result_of}
+use Rattle.archive_serve.specs.Runs.{AnswersFromArchiveInRun, HasSoundStore, IsNeither503NorWriteError, WholeRepliesLeaveStoreOpen}
 
-steady_answer : (answer outcome : Outcome) (written : List ℕ) (failed : Type 0) (sent : List ℕ) → Reaches answer outcome written failed sent → IsSteady outcome → IsSteady answer
+steady_answer : (answer outcome : ConnectionResult) (written : List ℕ) (failed : Type 0) (sent : List ℕ) → ClientReceives answer outcome written failed sent
+    → IsNeither503NorWriteError outcome → IsNeither503NorWriteError answer
 steady_answer (Ok status) (Ok told) written failed sent reached steady = subst (λ s. s ≢ 503) reached.0 steady
 steady_answer (Ok status) (Err Read) written failed sent reached steady = absurd reached
 steady_answer (Ok status) (Err Write) written failed sent reached steady = absurd steady
 steady_answer (Ok status) (Err Broken) written failed sent reached steady = absurd steady
 steady_answer (Err fault) (Ok told) written failed sent reached steady = absurd reached
-steady_answer (Err fault) (Err told) written failed sent reached steady = subst (λ f. IsSteady (Err f)) reached.0 steady
+steady_answer (Err fault) (Err told) written failed sent reached steady = subst (λ f. IsNeither503NorWriteError (Err f)) reached.0 steady
 
 -- one answer, by what the call that answers says
-pub goes_by : {S : Type 0} (g : Ghosts S) (old new : Store S) (before after : Telling) (result : Result ℕ ServeFault) (X : Type 0) → IsSteady (outcome_of result)
-    → ByOutcome result X ((given : List ℕ) × (after.read ≡ before.read ++ given) × HasNoRequest given × (after.written ≡ before.written)
-    × GoesIn g (HoldsTables g) old new (λ a b. b ≡ a)) → Stays g old new result → GoesIn g (HoldsTables g) old new (λ a b. b ≡ a)
+pub goes_by : {S : Type 0} (g : Ghosts S) (old new : Store S) (before after : ConnectionTranscript) (result : Result ℕ ServeFault) (X : Type 0)
+    → IsNeither503NorWriteError (connection_result_of result)
+    → IfAnsweredOrUnread result X ((given : List ℕ) × (after.read ≡ before.read ++ given) × HasNoRequest given × (after.written ≡ before.written)
+    × RelatesArchivesUnder g (HoldsTables g) old new (λ a b. b ≡ a)) → StoreKeepsArchive g old new result → RelatesArchivesUnder g (HoldsTables g) old new (λ a b. b ≡ a)
 goes_by g old new before after (Ok status) X steady answered stays = stays.ready steady
 goes_by g old new before after (Err answering.Read) X steady answered stays = answered.4
 goes_by g old new before after (Err (answering.Write written)) X steady answered stays = absurd steady
 goes_by g old new before after (Err (answering.Broken written)) X steady answered stays = absurd steady
 
-module _ {S L : Type 0} (g : Ghosts S) (If : Type 0) (archive : Archive) (rules : List Rule) (day : ℤ) (accepts : L → L → Option AcceptFault → Type 0)
+module _ {S L : Type 0} (g : Ghosts S) (If : Type 0) (archive : Archive) (rules : List Rule) (day : ℤ) (accepts : L → L → Option AcceptError → Type 0)
     (closes : L → L → Exchange → Bool → Type 0) where
-  one_ready : (before after : Served L (Store S)) (outcome : Outcome) → ServesOne (AnswersIn g If archive rules day) accepts closes outcome before after
-      → If → IsSteady outcome → HoldsTables g before.state → (archive_in g before.state ≡ archive)
+  one_ready : (before after : ServerState L (Store S)) (outcome : ConnectionResult) → ServesOneConnection (AnswersFromArchiveInRun g If archive rules day) accepts closes outcome before after
+      → If → IsNeither503NorWriteError outcome → HoldsTables g before.state → (archive_in g before.state ≡ archive)
       → HoldsTables g after.state × (archive_in g after.state ≡ archive)
   one_ready before after outcome (inl takes) i steady held is =
       let a = takes.answered in
@@ -49,19 +51,19 @@ module _ {S L : Type 0} (g : Ghosts S) (If : Type 0) (archive : Archive) (rules 
   one_ready before after outcome (inr misses) i steady held is =
       (subst (λ s. HoldsTables g s) (sym misses.unanswered) held, ap (λ s. archive_in g s) misses.unanswered ∙ is)
 
-  each_ready : (outcomes : List Outcome) (before after : Served L (Store S)) → ServesEach (AnswersIn g If archive rules day) accepts closes outcomes before after
-      → If → AllByRecursion IsSteady outcomes → HoldsTables g before.state → (archive_in g before.state ≡ archive)
+  each_ready : (outcomes : List ConnectionResult) (before after : ServerState L (Store S)) → ServesEachConnection (AnswersFromArchiveInRun g If archive rules day) accepts closes outcomes before after
+      → If → AllByRecursion IsNeither503NorWriteError outcomes → HoldsTables g before.state → (archive_in g before.state ≡ archive)
       → HoldsTables g after.state × (archive_in g after.state ≡ archive)
   each_ready [] before after same i steady held is = (
-    subst (λ (s : Served L (Store S)). HoldsTables g s.state) (sym same) held,
-    ap (λ (s : Served L (Store S)). archive_in g s.state) same ∙ is,
+    subst (λ (s : ServerState L (Store S)). HoldsTables g s.state) (sym same) held,
+    ap (λ (s : ServerState L (Store S)). archive_in g s.state) same ∙ is,
   )
   each_ready (outcome ∷ outcomes) before after (between, one, rest) i steady held is =
       let it = one_ready before between outcome one i steady.0 held is in
       each_ready outcomes between after rest i steady.1 it.0 it.1
 
-pub leaves_ready : {S L : Type 0} (g : Ghosts S) (accepts : L → L → Option AcceptFault → Type 0) (closes : L → L → Exchange → Bool → Type 0)
-    → LeaveItReady g accepts closes
+pub leaves_ready : {S L : Type 0} (g : Ghosts S) (accepts : L → L → Option AcceptError → Type 0) (closes : L → L → Exchange → Bool → Type 0)
+    → WholeRepliesLeaveStoreOpen g accepts closes
 leaves_ready g accepts closes rules day outcomes listener later old new each can steady =
-    each_ready g (CanServe g old new) (archive_in g old) rules day accepts closes outcomes
-    (served listener old) (served later new) each can steady can.1 refl
+    each_ready g (HasSoundStore g old new) (archive_in g old) rules day accepts closes outcomes
+    (server_state listener old) (server_state later new) each can steady can.1 refl

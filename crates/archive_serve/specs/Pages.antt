@@ -3,32 +3,32 @@ use Rattle.std.specs.Prelude.{◌≡◌, ⊤, ℕ, ℤ, List, Result, Ok, Err, O
 use Rattle.sqlite.specs.Store.{Ghosts}
 use Rattle.policy_core.specs.Rules.{Rule}
 use Rattle.archive_store.specs.declared.store.Store.{Store}
-use Rattle.archive_pages.specs.Answered.{ByOutcome, IsUnrouted, Reads}
-use Rattle.archive_pages.specs.Causes.{IsUnreadIn, ServesOr}
-use Rattle.archive_pages.specs.Replies.{IsServeStop}
-use Rattle.archive_pages.specs.Serving.{Stays}
+use Rattle.archive_pages.specs.Answered.{IfAnsweredOrUnread, Sends404IfUnrouted, ReadsRequestInput}
+use Rattle.archive_pages.specs.Causes.{IsInputDataUnreadable, ServesOr503}
+use Rattle.archive_pages.specs.Replies.{HasServeFaultCause}
+use Rattle.archive_pages.specs.Serving.{StoreKeepsArchive}
 use Rattle.archive_pages.specs.declared.faults.ServeFault.{ServeFault}
 use Rattle.archive_pages.specs.declared.faults.ServeFault.TheVariants as answering
-use Rattle.archive_listen.specs.Connections.{Telling, Outcome}
-use Rattle.archive_listen.specs.declared.faults.ConnectionFault.TheVariants.{Read, Write, Broken}
+use Rattle.archive_listen.specs.Connections.{ConnectionTranscript, ConnectionResult}
+use Rattle.archive_listen.specs.declared.faults.ConnectionError.TheVariants.{Read, Write, Broken}
 
 -- how a connection ends by the answer to its request
-abbrev pub outcome_of : Result ℕ ServeFault → Outcome
-outcome_of (Ok status) = Ok status
-outcome_of (Err answering.Read) = Err Read
-outcome_of (Err (answering.Write written)) = Err Write
-outcome_of (Err (answering.Broken written)) = Err Broken
+abbrev pub connection_result_of : Result ℕ ServeFault → ConnectionResult
+connection_result_of (Ok status) = Ok status
+connection_result_of (Err answering.Read) = Err Read
+connection_result_of (Err (answering.Write written)) = Err Write
+connection_result_of (Err (answering.Broken written)) = Err Broken
 
 -- How one answer by these rules, on this day, ends, whatever the store is: the store is left, no direction failed where a reply went
 -- out, each fault has its cause, and so have 503 and S3. What went out is not said.
-pub record EndsAs {S : Type 0} (g : Ghosts S) (rules : List Rule) (day : ℤ) (old new : Store S) (before after : Telling) (result : Result ℕ ServeFault) : Type 0 where
-  pub stays : Stays g old new result
+pub record EndsConnection {S : Type 0} (g : Ghosts S) (rules : List Rule) (day : ℤ) (old new : Store S) (before after : ConnectionTranscript) (result : Result ℕ ServeFault) : Type 0 where
+  pub stays : StoreKeepsArchive g old new result
   pub quiet : OnOk result ((after.read_failures ≡ before.read_failures) × (after.write_failures ≡ before.write_failures))
-  pub cause : IfErr result (λ fault. IsServeStop before.written after.written
+  pub cause : IfErr result (λ fault. HasServeFaultCause before.written after.written
       before.read_failures after.read_failures before.write_failures after.write_failures fault)
-  pub caused : ServesOr g old new result (IsUnreadIn before.read after.read rules day)
+  pub caused : ServesOr503 g old new result (IsInputDataUnreadable before.read after.read rules day)
 
 -- A head without a token that asks for a path that no route fits got 404 and nothing else: never 503, whatever the store is.
-abbrev pub TellsUnrouted : (before after : Telling) → Result ℕ ServeFault → Type 0
-TellsUnrouted before after result = ByOutcome result
-    (Reads before.read after.read before.ends after.ends (λ given all. IsUnrouted all before.written after.written result)) ⊤
+abbrev pub Answers404IfUnrouted : (before after : ConnectionTranscript) → Result ℕ ServeFault → Type 0
+Answers404IfUnrouted before after result = IfAnsweredOrUnread result
+    (ReadsRequestInput before.read after.read before.ends after.ends (λ given all. Sends404IfUnrouted all before.written after.written result)) ⊤

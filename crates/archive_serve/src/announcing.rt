@@ -1,13 +1,13 @@
 //! Saying where the archive listens, and then serving it.
 ghost use Rattle.std.specs.Prelude.{◌≡◌, ◌≢◌, ◌≤◌, ◌<◌, Err, IfErr, OnOk};
-ghost use Rattle.archive_listen.specs.Connections.{noted};
-ghost use Rattle.archive_listen.specs.Serving.{ServesAll, ServesFewer, served};
-ghost use Rattle.archive_serve.specs.Announced.{IsAnnounced};
-ghost use Rattle.archive_serve.specs.Runs.{RunLaw};
+ghost use Rattle.archive_listen.specs.Connections.{error_stream_state};
+ghost use Rattle.archive_listen.specs.Serving.{ServesAllConnections, ServesFewerConnections, server_state};
+ghost use Rattle.archive_serve.specs.Announced.{WritesListeningLine};
+ghost use Rattle.archive_serve.specs.Runs.{ServingAnswerLaw};
 
-use crate::faults::ServeStop;
-use crate::pages::{PageService, Terms};
-use archive_listen::{Listener, Outgoing, serve_each};
+use crate::faults::ServingError;
+use crate::pages::{PageService, ServingContext};
+use archive_listen::{BufferedSink, Listener, serve_each};
 use archive_store::Store;
 use itoa::Buffer;
 use mbox_core::device::{Sink, write_bytes};
@@ -15,62 +15,62 @@ use sqlite::Alter;
 use thread_core::Threader;
 
 /// Writes the line that says where the archive listens, and passes it on. It takes no memory.
-fn announce<O: Outgoing>(port: u16, output: &mut O) -> Result<(), ServeStop>
-    ensures ok { OnOk result (IsAnnounced port (O.told output.old) (O.told output.new)
+fn announce<O: BufferedSink>(port: u16, output: &mut O) -> Result<(), ServingError>
+    ensures ok { OnOk result (WritesListeningLine port (O.told output.old) (O.told output.new)
         (O.sent output.new)) }
-    ensures write { IfErr result (λ stop. (stop ≡ ServeStop.Write)
+    ensures write { IfErr result (λ stop. (stop ≡ ServingError.Write)
         × (O.failures output.old < O.failures output.new)) }
 {
     let mut digits = Buffer::new();
     let Ok(()) = write_bytes(output, b"listening on 127.0.0.1:") else {
-        return Err(ServeStop::Write);
+        return Err(ServingError::Write);
     };
     let Ok(()) = write_bytes(output, digits.format(port).as_bytes()) else {
-        return Err(ServeStop::Write);
+        return Err(ServingError::Write);
     };
     let Ok(()) = write_bytes(output, b"\n") else {
-        return Err(ServeStop::Write);
+        return Err(ServingError::Write);
     };
     match output.flush() {
         Ok(()) => Ok(()),
-        Err(_) => Err(ServeStop::Write),
+        Err(_) => Err(ServingError::Write),
     }
 }
 
 /// Says on the output where the archive listens, and then answers `count` connections as `serve_on` does. The listener listens
 /// on that port already, and the line is passed on before the first connection is taken.
-pub fn serve<T: Threader, S: Alter, L: Listener, O: Outgoing, E: Sink>(
+pub fn serve<T: Threader, S: Alter, L: Listener, O: BufferedSink, E: Sink>(
     store: &mut Store<S>,
-    terms: &Terms<'_, T>,
+    terms: &ServingContext<'_, T>,
     listener: &mut L,
     port: u16,
     count: u32,
     output: &mut O,
     faults: &mut E,
-) -> Result<(), ServeStop>
-    ensures served { OnOk result (IsAnnounced port (O.told output.old) (O.told output.new)
+) -> Result<(), ServingError>
+    ensures served { OnOk result (WritesListeningLine port (O.told output.old) (O.told output.new)
         (O.sent output.new)
-        × ServesAll (RunLaw S.Store terms.now.policy.now terms.now.day store.old store.new) L.accepts L.closes
-        (served listener.old store.old)
-        (noted E.Sink faults.old) (noted E.Sink faults.new) count (served listener.new store.new)) }
+        × ServesAllConnections (ServingAnswerLaw S.Store terms.now.policy.now terms.now.day store.old store.new) L.accepts L.closes
+        (server_state listener.old store.old)
+        (error_stream_state E.Sink faults.old) (error_stream_state E.Sink faults.new) count (server_state listener.new store.new)) }
 
     // At F4 it was said where the archive listens, and fewer connections were answered; before that nothing was touched, and at F5 no
     // output either.
-    ensures stopped { result ≡ Err ServeStop.Listen
-        → IsAnnounced port (O.told output.old) (O.told output.new) (O.sent output.new)
-        × ServesFewer (RunLaw S.Store terms.now.policy.now terms.now.day store.old store.new) L.accepts L.closes
-        (served listener.old store.old)
-        (noted E.Sink faults.old) (noted E.Sink faults.new) count (served listener.new store.new) }
-    ensures untouched { IfErr result (λ stop. stop ≢ ServeStop.Listen
+    ensures stopped { result ≡ Err ServingError.Listen
+        → WritesListeningLine port (O.told output.old) (O.told output.new) (O.sent output.new)
+        × ServesFewerConnections (ServingAnswerLaw S.Store terms.now.policy.now terms.now.day store.old store.new) L.accepts L.closes
+        (server_state listener.old store.old)
+        (error_stream_state E.Sink faults.old) (error_stream_state E.Sink faults.new) count (server_state listener.new store.new) }
+    ensures untouched { IfErr result (λ stop. stop ≢ ServingError.Listen
         → (store.new ≡ store.old) × (listener.new ≡ listener.old) × (faults.new ≡ faults.old)
-        × (stop ≡ ServeStop.Write → O.failures output.old < O.failures output.new)
-        × (stop ≡ ServeStop.Memory → output.new ≡ output.old)) }
+        × (stop ≡ ServingError.Write → O.failures output.old < O.failures output.new)
+        × (stop ≡ ServingError.Memory → output.new ≡ output.old)) }
     ensures failures { E.failures faults.old ≤ E.failures faults.new }
 {
     let mut service = PageService::new(terms)?;
     announce(port, output)?;
     match serve_each(&mut service, store, listener, count, faults) {
         Ok(()) => Ok(()),
-        Err(_) => Err(ServeStop::Listen),
+        Err(_) => Err(ServingError::Listen),
     }
 }

@@ -5,7 +5,7 @@ use std::fmt;
 
 /// Why serving ended early, or did not begin. It prints its number and its name.
 #[derive(Clone, Copy, Debug, PartialEq, Eq, Drop)]
-pub enum ServeStop {
+pub enum ServingError {
     /// F2: the line that says where the archive listens could not be written. No connection was taken.
     Write,
     /// F4: the listener gave no more connections.
@@ -14,25 +14,25 @@ pub enum ServeStop {
     Memory,
 }
 
-impl fmt::Display for ServeStop {
+impl fmt::Display for ServingError {
     fn fmt<W: fmt::Write>(&self, f: &mut fmt::Formatter<W>) -> fmt::Result {
         f.write_str(match self {
-            ServeStop::Write => "F2 Write",
-            ServeStop::Listen => "F4 Net",
-            ServeStop::Memory => "F5 Memory",
+            ServingError::Write => "F2 Write",
+            ServingError::Listen => "F4 Net",
+            ServingError::Memory => "F5 Memory",
         })
     }
 }
 
-impl Error for ServeStop {}
+impl Error for ServingError {}
 
-impl From<Memory> for ServeStop {
+impl From<Memory> for ServingError {
     ghost use Rattle.std.specs.Prelude.{◌≡◌};
-    ghost use Rattle.archive_serve.specs.declared.faults.ServeStop.TheVariants as stops;
+    ghost use Rattle.archive_serve.specs.declared.faults.ServingError.TheVariants as stops;
 
     ghost from_gives = { λ _ stop. stop ≡ stops.Memory };
 
-    fn from(_refused: Memory) -> ServeStop {
-        ServeStop::Memory
+    fn from(_refused: Memory) -> ServingError {
+        ServingError::Memory
     }
 }

@@ -8,6 +8,6 @@ mod pages;
 mod serving;
 
 pub use announcing::serve;
-pub use faults::ServeStop;
-pub use pages::Terms;
+pub use faults::ServingError;
+pub use pages::ServingContext;
 pub use serving::serve_on;

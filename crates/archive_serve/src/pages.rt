@@ -1,10 +1,10 @@
 //! The archive's pages as a service.
 ghost use Rattle.std.specs.Prelude.{◌≡◌, IfOk};
-ghost use Rattle.archive_serve.specs.Keeping.{fresh_keeper};
+ghost use Rattle.archive_serve.specs.Keeping.{fresh_serving_context};
 
-use archive_kept::Kept;
-use archive_listen::{ConnectionFault, Service};
-use archive_pages::{Pages, ServeFault, answer_kept};
+use archive_cache::Cache;
+use archive_listen::{ConnectionError, Service};
+use archive_pages::{Pages, ServeFault, answer_cached};
 use archive_requests::Routes;
 use archive_store::Store;
 use civil_time::Day;
@@ -18,7 +18,7 @@ use thread_core::Threader;
 
 /// By what connections are answered.
 #[derive(Drop)]
-pub struct Terms<'a, T> {
+pub struct ServingContext<'a, T> {
     /// What gives memory.
     pub alloc: Global,
     /// Decides what each reader is shown.
@@ -40,17 +40,17 @@ pub(crate) struct PageService<'a, T> {
 
 impl<'a, T> Model for PageService<'a, T> {
     ghost use Rattle.std.specs.Prelude.{is_some};
-    ghost use Rattle.archive_serve.specs.Keeping.{Keeper};
+    ghost use Rattle.archive_serve.specs.Keeping.{ServingContextState};
 
-    ghost Value = { Keeper };
+    ghost Value = { ServingContextState };
 
     ghost view = { λ p. record { rules = p.pages.policy.now; day = p.pages.day; routes = is_some p.pages.routes; kept = p.pages.kept } };
 }
 
 impl<'a, T> PageService<'a, T> {
     /// It has routes, and keeps nothing yet. `Memory`: that of the routes was refused.
-    pub(crate) fn new(terms: &Terms<'a, T>) -> Result<PageService<'a, T>, Memory>
-        ensures { IfOk result (λ service. service ≡ fresh_keeper terms.now.policy.now terms.now.day terms.now.most) }
+    pub(crate) fn new(terms: &ServingContext<'a, T>) -> Result<PageService<'a, T>, Memory>
+        ensures { IfOk result (λ service. service ≡ fresh_serving_context terms.now.policy.now terms.now.day terms.now.most) }
     {
         let routes = Routes::new(terms.alloc)?;
         Ok(PageService {
@@ -60,29 +60,29 @@ impl<'a, T> PageService<'a, T> {
                 threader: terms.threader,
                 day: terms.day,
                 routes: Some(routes),
-                kept: Kept::new(terms.alloc, terms.most),
+                kept: Cache::new(terms.alloc, terms.most),
             },
         })
     }
 }
 
 impl<'a, T: Threader, S: Alter> Service<Store<S>> for PageService<'a, T> {
-    ghost use Rattle.archive_serve.specs.Keeping.{AnswersKept};
+    ghost use Rattle.archive_serve.specs.Keeping.{AnswersFromCache};
 
-    ghost answers = { λ p q. AnswersKept S.Store p q };
+    ghost answers = { λ p q. AnswersFromCache S.Store p q };
 
     fn answer<R: Source, W: Sink>(
         &mut self,
         state: &mut Store<S>,
         input: &mut R,
         output: &mut W,
-    ) -> Result<u16, ConnectionFault> {
-        let answered = answer_kept(state, &mut self.pages, input, output);
+    ) -> Result<u16, ConnectionError> {
+        let answered = answer_cached(state, &mut self.pages, input, output);
         match answered {
             Ok(status) => Ok(status.as_u16()),
-            Err(ServeFault::Read) => Err(ConnectionFault::Read),
-            Err(ServeFault::Write { .. }) => Err(ConnectionFault::Write),
-            Err(ServeFault::Broken { .. }) => Err(ConnectionFault::Broken),
+            Err(ServeFault::Read) => Err(ConnectionError::Read),
+            Err(ServeFault::Write { .. }) => Err(ConnectionError::Write),
+            Err(ServeFault::Broken { .. }) => Err(ConnectionError::Broken),
         }
     }
 }

@@ -1,11 +1,11 @@
 //! Answering connections out of a store.
 ghost use Rattle.std.specs.Prelude.{◌≡◌, ◌≢◌, ◌≤◌, Err, IfErr, OnOk};
-ghost use Rattle.archive_listen.specs.Connections.{noted};
-ghost use Rattle.archive_listen.specs.Serving.{ServesAll, ServesFewer, served};
-ghost use Rattle.archive_serve.specs.Runs.{RunLaw};
+ghost use Rattle.archive_listen.specs.Connections.{error_stream_state};
+ghost use Rattle.archive_listen.specs.Serving.{ServesAllConnections, ServesFewerConnections, server_state};
+ghost use Rattle.archive_serve.specs.Runs.{ServingAnswerLaw};
 
-use crate::faults::ServeStop;
-use crate::pages::{PageService, Terms};
+use crate::faults::ServingError;
+use crate::pages::{PageService, ServingContext};
 use archive_listen::{Listener, serve_each};
 use archive_store::Store;
 use mbox_core::device::Sink;
@@ -19,25 +19,25 @@ use thread_core::Threader;
 /// routes, and nothing was touched.
 pub fn serve_on<T: Threader, S: Alter, L: Listener, E: Sink>(
     store: &mut Store<S>,
-    terms: &Terms<'_, T>,
+    terms: &ServingContext<'_, T>,
     listener: &mut L,
     count: u32,
     faults: &mut E,
-) -> Result<(), ServeStop>
-    ensures served { OnOk result (ServesAll (RunLaw S.Store terms.now.policy.now terms.now.day store.old store.new) L.accepts L.closes
-        (served listener.old store.old)
-        (noted E.Sink faults.old) (noted E.Sink faults.new) count (served listener.new store.new)) }
-    ensures stopped { result ≡ Err ServeStop.Listen
-        → ServesFewer (RunLaw S.Store terms.now.policy.now terms.now.day store.old store.new) L.accepts L.closes
-        (served listener.old store.old)
-        (noted E.Sink faults.old) (noted E.Sink faults.new) count (served listener.new store.new) }
-    ensures untouched { IfErr result (λ stop. stop ≢ ServeStop.Listen → (stop ≡ ServeStop.Memory)
+) -> Result<(), ServingError>
+    ensures served { OnOk result (ServesAllConnections (ServingAnswerLaw S.Store terms.now.policy.now terms.now.day store.old store.new) L.accepts L.closes
+        (server_state listener.old store.old)
+        (error_stream_state E.Sink faults.old) (error_stream_state E.Sink faults.new) count (server_state listener.new store.new)) }
+    ensures stopped { result ≡ Err ServingError.Listen
+        → ServesFewerConnections (ServingAnswerLaw S.Store terms.now.policy.now terms.now.day store.old store.new) L.accepts L.closes
+        (server_state listener.old store.old)
+        (error_stream_state E.Sink faults.old) (error_stream_state E.Sink faults.new) count (server_state listener.new store.new) }
+    ensures untouched { IfErr result (λ stop. stop ≢ ServingError.Listen → (stop ≡ ServingError.Memory)
         × (store.new ≡ store.old) × (listener.new ≡ listener.old) × (faults.new ≡ faults.old)) }
     ensures failures { E.failures faults.old ≤ E.failures faults.new }
 {
     let mut service = PageService::new(terms)?;
     match serve_each(&mut service, store, listener, count, faults) {
         Ok(()) => Ok(()),
-        Err(_) => Err(ServeStop::Listen),
+        Err(_) => Err(ServingError::Listen),
     }
 }

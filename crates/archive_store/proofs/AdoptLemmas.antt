@@ -8,24 +8,25 @@ use Rattle.sqlite.specs.Held.{Held, IsNew, state}
 use Rattle.sqlite.specs.Steps.{IsEmpty, over_memory}
 use Rattle.sqlite.specs.State.{State}
 use Rattle.sqlite.proofs.Callers.{memory_is_clean}
-use Rattle.archive_tables.specs.Schema.{no_schema, schema_of}
-use Rattle.archive_tables.specs.Tables.{IsKnown}
+use Rattle.archive_tables.specs.Schema.{empty_schema, schema_of_version}
+use Rattle.archive_tables.specs.Tables.{IsKnownVersion}
 use Rattle.archive_tables.specs.Making.{IsIdle}
-use Rattle.archive_database.specs.Adopting.{HasVersion, IsUnderstood, IsOlder, IsNotTaken}
-use Rattle.archive_store.specs.Adopting.{IsLeft}
-use Rattle.archive_port.specs.Replies.{refusal}
+use Rattle.archive_database.specs.Adopting.{IsSchemaOfSomeVersion, IsEmptyOrArchiveSchema, IsOlderVersion, IsAdoptionRefused}
+use Rattle.archive_store.specs.Adopting.{IsNotAdopted}
+use Rattle.archive_port.specs.Replies.{refusal_of_fault}
 use Rattle.archive_port.specs.declared.faults.StoreFault.{StoreFault}
 use Rattle.archive_store.specs.declared.adopting.AdoptStop.{AdoptStop}
 use Rattle.archive_port.specs.declared.faults.StoreFault.TheVariants as faults
 use Rattle.archive_database.specs.Faults.{FailsByDiskOr}
-use Rattle.archive_database.specs.declared.faults.Fault.{Fault}
-use Rattle.archive_database.specs.declared.faults.Fault.TheVariants as inner
+use Rattle.archive_database.specs.declared.faults.DatabaseError.{DatabaseError}
+use Rattle.archive_database.specs.declared.faults.DatabaseError.TheVariants as inner
 
-pub refused_by : {A : Type 0} (old new : State) (done : Result A Fault) (fault : Fault) (Refused : Type 0) → done ≡ Err fault → FailsByDiskOr old new done Refused → fault ≡ inner.Database
+pub refused_by : {A : Type 0} (old new : State) (done : Result A DatabaseError) (fault : DatabaseError) (Refused : Type 0) → done ≡ Err fault → FailsByDiskOr old new done Refused
+    → fault ≡ inner.Database
     → MoreFaults old.faults new.faults ⊎ Refused
 refused_by old new done fault Refused is fails it = subst (λ r. FailsByDiskOr old new r Refused) is fails it
 
-pub has_version : {schema : Schema} → ¬ (schema ≡ no_schema) → IsUnderstood schema → HasVersion schema
+pub has_version : {schema : Schema} → ¬ (schema ≡ empty_schema) → IsEmptyOrArchiveSchema schema → IsSchemaOfSomeVersion schema
 has_version some (inl empty) = absurd (some empty)
 has_version some (inr it) = it
 
@@ -34,26 +35,26 @@ has_version some (inr it) = it
 never_more : MoreFaults 0 0 → ⊥
 never_more more = absurd (omega (arith, more))
 
-is_some : (number : ℕ) → IsKnown number → schema_of number ≡ no_schema → ⊥
+is_some : (number : ℕ) → IsKnownVersion number → schema_of_version number ≡ empty_schema → ⊥
 is_some zero known is = absurd (omega (arith, known.least))
 is_some (suc zero) known is = absurd (let tables = ap (λ (s : Schema). s.tables) is in cc)
 is_some (suc (suc zero)) known is = absurd (let tables = ap (λ (s : Schema). s.tables) is in cc)
 is_some (suc (suc (suc zero))) known is = absurd (let tables = ap (λ (s : Schema). s.tables) is in cc)
 is_some (suc (suc (suc (suc n)))) known is = absurd (omega (arith, known.most))
 
-is_known : (number : ℕ) → IsOlder number → IsKnown number
+is_known : (number : ℕ) → IsOlderVersion number → IsKnownVersion number
 is_known number older = record { least = older.least; most = omega (arith, older.most) }
 
-always_taken : (db : Database) → db.schema ≡ no_schema → ¬ IsNotTaken db
+always_taken : (db : Database) → db.schema ≡ empty_schema → ¬ IsAdoptionRefused db
 always_taken db empty (inl (number, known, schema, other)) = is_some number known (sym schema ∙ empty)
 always_taken db empty (inr (number, older, schema, refused)) = is_some number (is_known number older) (sym schema ∙ empty)
 
-only_memory : (fault : StoreFault) → refusal fault ≡ None → ¬ (fault ≡ faults.Store) → fault ≡ faults.Memory
+only_memory : (fault : StoreFault) → refusal_of_fault fault ≡ None → ¬ (fault ≡ faults.Store) → fault ≡ faults.Memory
 only_memory faults.Memory none other = refl
 only_memory faults.Store none other = absurd (other refl)
 only_memory _ none other = absurd cc
 
-pub memory_refuses : (connection : Held MemStore) (stop : AdoptStop MemStore) → IsEmpty (state over_memory connection) → IsNew connection → IsLeft over_memory connection stop
+pub memory_refuses : (connection : Held MemStore) (stop : AdoptStop MemStore) → IsEmpty (state over_memory connection) → IsNew connection → IsNotAdopted over_memory connection stop
     → stop.fault ≡ faults.Memory
 memory_refuses connection stop empty new left = only_memory stop.fault left.fault (λ store.
     let s = state over_memory connection in

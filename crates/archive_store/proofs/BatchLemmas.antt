@@ -11,19 +11,19 @@ use Rattle.std.proofs.lemmas.Slice.Eq.{bytes_eq-Decides}
 use Rattle.sqlite.specs.Effect.{Database}
 use Rattle.sqlite.specs.State.{State}
 use Rattle.mbox_items.specs.Division.{Item, whole}
-use Rattle.archive_machine.specs.Records.{Archive, Message}
-use Rattle.archive_machine.specs.Commands.{add, Reply, Refusal, refused, no_list, too_large, already_known, list_full, taken_in}
-use Rattle.archive_machine.specs.Keys.{item_key}
-use Rattle.archive_machine.specs.Questions.{has_list, has_message, is_message, messages_in}
-use Rattle.archive_machine.specs.Machine.{Outcome, added_within, longest_text, message_limit, keyed_message, with_keyed, with_message}
-use Rattle.archive_machine.specs.Runs.{taken, run, Tally, tally, is_new, is_known, is_too_large}
-use Rattle.archive_tables.specs.Tables.{IsHeld, IsKept, archive_of}
-use Rattle.archive_tables.specs.Calls.{ChangesOver, Rests, RestsOver, StaysOver, IsHeldOrBack}
+use Rattle.archive_model.specs.Records.{Archive, Message}
+use Rattle.archive_model.specs.Commands.{add, CommandReply, Refusal, refused, no_list, too_large, already_known, list_full, taken_in}
+use Rattle.archive_model.specs.Keys.{item_key}
+use Rattle.archive_model.specs.Questions.{has_list, has_message, is_message_at_key, messages_in}
+use Rattle.archive_model.specs.Machine.{StepOutcome, add_within_limit, longest_text, message_limit, keyed_message, with_message_under_key, with_message}
+use Rattle.archive_model.specs.Runs.{taken, run, Tally, tally_replies, is_added_reply, is_known_reply, is_too_large_reply}
+use Rattle.archive_tables.specs.Tables.{IsOpenArchive, IsArchiveAtRest, archive_of}
+use Rattle.archive_tables.specs.Calls.{ChangesArchive, FaultKeepsRows, FaultKeepsRowsOrRollsBack, LeavesRowsUnchanged, IsOpenArchiveOrRolledBack}
 use Rattle.archive_tables.proofs.EndLemmas.{archive_stays}
-use Rattle.archive_store.specs.Batches.{IsCounted, AddsTo, HasTaken, IsAfter}
-use Rattle.archive_port.specs.Adding.{IsFullAt, IsRefusedAt, text_bytes, tally_of}
-use Rattle.archive_port.specs.Replies.{refusal, says_added}
-use Rattle.archive_store.specs.Replies.{Steps}
+use Rattle.archive_store.specs.Batches.{ListHasMessageCount, AddsMessageToState, HoldsAddedItems, HoldsAddedItemsIfOpen}
+use Rattle.archive_port.specs.Adding.{IsListFullAt, IsRefusedAt, total_text_bytes, tally_of_report}
+use Rattle.archive_port.specs.Replies.{refusal_of_fault, reply_if_added}
+use Rattle.archive_store.specs.Replies.{MatchesModelStep}
 use Rattle.archive_port.specs.declared.reports.AddReport.{AddReport}
 use Rattle.archive_port.specs.declared.faults.StoreFault.{StoreFault}
 use Rattle.archive_port.specs.declared.words.Added.{Added}
@@ -58,83 +58,85 @@ counted_same p (y ∷ ys) x h = elim (cases_Bool (p y)) [
 same_word : (a : List ℕ) → bytes_eq a a ≡ true
 same_word a = (bytes_eq-Decides a a).1 refl
 
-module _ (behind : Option Database) (old new : State) (list : List ℕ) (item : Item) (count : ℕ) (n : IsCounted (archive_of old) list count) where
-  pub large_over : true ≡ nat_lt longest_text (length (whole item.text)) → StaysOver behind old new → AddsTo behind old new list item count (refused too_large)
+module _ (behind : Option Database) (old new : State) (list : List ℕ) (item : Item) (count : ℕ) (n : ListHasMessageCount (archive_of old) list count) where
+  pub large_over : true ≡ nat_lt longest_text (length (whole item.text)) → LeavesRowsUnchanged behind old new → AddsMessageToState behind old new list item count (refused too_large)
   large_over large stays = (
     stays.0,
     ap (λ a. (a, refused too_large)) (archive_stays stays.1) ∙ rw (n.is_there, sym large) refl,
-    subst (λ a. IsCounted a list count) (sym (archive_stays stays.1)) n,
+    subst (λ a. ListHasMessageCount a list count) (sym (archive_stays stays.1)) n,
   )
 
   module _ (k : List ℕ) (small : false ≡ nat_lt longest_text (length (whole item.text))) where
-    pub known_over : k ≡ item_key item → true ≡ list_any (is_message list k) (archive_of old).messages → StaysOver behind old new
-        → AddsTo behind old new list item count already_known
+    pub known_over : k ≡ item_key item → true ≡ list_any (is_message_at_key list k) (archive_of old).messages → LeavesRowsUnchanged behind old new
+        → AddsMessageToState behind old new list item count already_known
     known_over e known stays = (
       stays.0,
       ap (λ a. (a, already_known)) (archive_stays stays.1) ∙ sym (add_known message_limit list k item e small (archive_of old) ((tt, sym n.is_there), known)),
-      subst (λ a. IsCounted a list count) (sym (archive_stays stays.1)) n,
+      subst (λ a. ListHasMessageCount a list count) (sym (archive_stays stays.1)) n,
     )
 
-    pub full_over : k ≡ item_key item → false ≡ list_any (is_message list k) (archive_of old).messages → 50000 ≤ count → StaysOver behind old new
-        → AddsTo behind old new list item count (refused list_full)
+    pub full_over : k ≡ item_key item → false ≡ list_any (is_message_at_key list k) (archive_of old).messages → 50000 ≤ count → LeavesRowsUnchanged behind old new
+        → AddsMessageToState behind old new list item count (refused list_full)
     full_over e none full stays = (
       stays.0,
       ap (λ a. (a, refused list_full)) (archive_stays stays.1)
           ∙ sym (add_full message_limit list k item e small (archive_of old) (((tt, sym n.is_there), none), subst (λ m. true ≡ nat_le message_limit m) (sym n.length_is) (is_full count full))),
-      subst (λ a. IsCounted a list count) (sym (archive_stays stays.1)) n,
+      subst (λ a. ListHasMessageCount a list count) (sym (archive_stays stays.1)) n,
     )
 
-    pub new_is : (key : List ℕ) → k ≡ key → key ≡ item_key item → false ≡ list_any (is_message list k) (archive_of old).messages → count < 50000
-        → added_within message_limit (archive_of old) list item ≡ (with_keyed (archive_of old) list key item, taken_in)
+    pub new_is : (key : List ℕ) → k ≡ key → key ≡ item_key item → false ≡ list_any (is_message_at_key list k) (archive_of old).messages → count < 50000
+        → add_within_limit message_limit (archive_of old) list item ≡ (with_message_under_key (archive_of old) list key item, taken_in)
     new_is key e ek none room =
         add_new message_limit list k key item e ek small (archive_of old) (((tt, sym n.is_there), none), subst (λ m. false ≡ nat_le message_limit m) (sym n.length_is) (has_room count room))
 
-    pub new_over : (key : List ℕ) (mid : State) → k ≡ key → key ≡ item_key item → false ≡ list_any (is_message list k) (archive_of old).messages → count < 50000
-        → StaysOver behind old mid → ChangesOver behind mid new (λ a. with_keyed a list key item)
-        → AddsTo behind old new list item (count + 1) taken_in
+    pub new_over : (key : List ℕ) (mid : State) → k ≡ key → key ≡ item_key item → false ≡ list_any (is_message_at_key list k) (archive_of old).messages → count < 50000
+        → LeavesRowsUnchanged behind old mid → ChangesArchive behind mid new (λ a. with_message_under_key a list key item)
+        → AddsMessageToState behind old new list item (count + 1) taken_in
     new_over key mid e ek none room stays written =
-        let change : Archive → Archive = λ a. with_keyed a list key item in
+        let change : Archive → Archive = λ a. with_message_under_key a list key item in
         let is : archive_of new ≡ change (archive_of old) = written.1 ∙ ap change (archive_stays stays.1) in
-        let more : IsCounted (change (archive_of old)) list (count + 1) = record {
+        let more : ListHasMessageCount (change (archive_of old)) list (count + 1) = record {
           is_there = n.is_there;
           length_is = counted_more (λ (m : Message). bytes_eq m.list list) (archive_of old).messages (keyed_message list key item) (same_word list) ∙ ap (λ m. m + 1) n.length_is;
         } in (
           written.0,
           ap (λ a. (a, taken_in)) is
               ∙ sym (new_is key e ek none room),
-          subst (λ a. IsCounted a list (count + 1)) (sym is) more,
+          subst (λ a. ListHasMessageCount a list (count + 1)) (sym is) more,
         )
 
 -- the same outside a transaction, of the tables before a question on them
 module _ (old mid new : State) (list : List ℕ) (same : mid.now ≡ old.now) where
-  pub counted_at : (count : ℕ) → true ≡ has_list (archive_of old) list → length (messages_in (archive_of old) list) ≡ count → IsCounted (archive_of mid) list count
-  counted_at count there n = subst (λ a. IsCounted a list count) (sym (archive_stays same)) (record { is_there = sym there; length_is = n })
+  pub counted_at : (count : ℕ) → true ≡ has_list (archive_of old) list → length (messages_in (archive_of old) list) ≡ count → ListHasMessageCount (archive_of mid) list count
+  counted_at count there n = subst (λ a. ListHasMessageCount a list count) (sym (archive_stays same)) (record { is_there = sym there; length_is = n })
 
-  pub steps_counted : (item : Item) (after : ℕ) (reply : Reply) → AddsTo None mid new list item after reply
-      → (IsKept new × ((archive_of new, reply) ≡ added_within message_limit (archive_of old) list item)) × (IsTrue new.is_open → length (messages_in (archive_of new) list) ≡ after)
-  steps_counted item after reply it = ((it.0, it.1 ∙ ap (λ a. added_within message_limit a list item) (archive_stays same)), λ up. it.2.length_is)
+  pub steps_counted : (item : Item) (after : ℕ) (reply : CommandReply) → AddsMessageToState None mid new list item after reply
+      → (IsArchiveAtRest new × ((archive_of new, reply) ≡ add_within_limit message_limit (archive_of old) list item)) × (IsTrue new.is_open → length (messages_in (archive_of new) list) ≡ after)
+  steps_counted item after reply it = ((it.0, it.1 ∙ ap (λ a. add_within_limit message_limit a list item) (archive_stays same)), λ up. it.2.length_is)
 
-  pub rests_counted : (before after : ℕ) → after ≡ before → length (messages_in (archive_of old) list) ≡ before → Rests mid new
-      → Rests old new × (IsTrue new.is_open → length (messages_in (archive_of new) list) ≡ after)
+  pub rests_counted : (before after : ℕ) → after ≡ before → length (messages_in (archive_of old) list) ≡ before → FaultKeepsRows mid new
+      → FaultKeepsRows old new × (IsTrue new.is_open → length (messages_in (archive_of new) list) ≡ after)
   rests_counted before after is n rests = (
     λ up. ((rests up).0, (rests up).1 ∙ same),
     λ up. subst (λ a. length (messages_in a list) ≡ after) (sym (archive_stays ((rests up).1 ∙ same))) (n ∙ sym is),
   )
 
 -- a fault is no answer
-pub fails_to_add : (old new : State) (step : Archive → Outcome) (r : Result Added StoreFault) (Q : StoreFault → Type 0) → IsErrAnd r Q → ((fault : StoreFault) → Q fault → refusal fault ≡ None)
-    → Rests old new → Steps old new step (says_added r)
+pub fails_to_add : (old new : State) (step : Archive → StepOutcome) (r : Result Added StoreFault) (Q : StoreFault → Type 0) → IsErrAnd r Q
+    → ((fault : StoreFault) → Q fault → refusal_of_fault fault ≡ None)
+    → FaultKeepsRows old new → MatchesModelStep old new step (reply_if_added r)
 fails_to_add old new step (Ok added) Q none why rests = absurd none
 fails_to_add old new step (Err fault) Q it why rests = rw (why fault it) rests
 
-pub none_of : (old mid : State) (list k key : List ℕ) → k ≡ key → false ≡ list_any (is_message list k) (archive_of old).messages → mid.now ≡ old.now
-    → list_any (is_message list key) (archive_of mid).messages ≡ false
+pub none_of : (old mid : State) (list k key : List ℕ) → k ≡ key → false ≡ list_any (is_message_at_key list k) (archive_of old).messages → mid.now ≡ old.now
+    → list_any (is_message_at_key list key) (archive_of mid).messages ≡ false
 none_of old mid list k key e none same =
-    subst (λ (a : Archive). list_any (is_message list key) a.messages ≡ false) (sym (archive_stays same)) (subst (λ w. list_any (is_message list w) (archive_of old).messages ≡ false) e (sym none))
+    subst (λ (a : Archive). list_any (is_message_at_key list key) a.messages ≡ false) (sym (archive_stays same))
+    (subst (λ w. list_any (is_message_at_key list w) (archive_of old).messages ≡ false) e (sym none))
 
 -- ---- messages one after the other
 
-abbrev outcome_by : Archive → Archive → Bool → Bool → Bool → Bool → Outcome
+abbrev outcome_by : Archive → Archive → Bool → Bool → Bool → Bool → StepOutcome
 outcome_by a x there large known full =
     if not there then (a, refused no_list) else if large then (a, refused too_large) else if known then (a, already_known) else if full then (a, refused list_full) else (x, taken_in)
 
@@ -164,11 +166,11 @@ module _ (a : Archive) (list : List ℕ) (item : Item) where
   large : Bool
   large = nat_lt longest_text (length (whole item.text))
 
-  pub holds_50000 : (added_within message_limit a list item).1 ≡ refused list_full → 50000 ≤ length (messages_in a list)
+  pub holds_50000 : (add_within_limit message_limit a list item).1 ≡ refused list_full → 50000 ≤ length (messages_in a list)
   unfolding the_new large
   holds_50000 is = is_limit _ (full_is a the_new (has_list a list) large (has_message a list (item_key item)) (nat_le message_limit (length (messages_in a list))) is)
 
-  pub refused_stays : (added_within message_limit a list item).1 ≡ refused list_full → (added_within message_limit a list item).0 ≡ a
+  pub refused_stays : (add_within_limit message_limit a list item).1 ≡ refused list_full → (add_within_limit message_limit a list item).0 ≡ a
   unfolding the_new large
   refused_stays is = refusal_stays a the_new (has_list a list) large (has_message a list (item_key item)) (nat_le message_limit (length (messages_in a list))) list_full is
 
@@ -176,107 +178,108 @@ module _ (a : Archive) (list : List ℕ) (items : List Item) (i : ℕ) (item : I
   one_more_is : map (add list) (take (i + 1) items) ≡ map (add list) (take i items) ++ add list item ∷ []
   one_more_is = map_more (add list) items i item within ∙ ap (λ x. map (add list) (take i items) ++ add list x ∷ []) (sym is)
 
-  pub taken_more : (taken a list (take (i + 1) items)).archive ≡ (added_within message_limit (taken a list (take i items)).archive list item).0
+  pub taken_more : (taken a list (take (i + 1) items)).archive ≡ (add_within_limit message_limit (taken a list (take i items)).archive list item).0
   taken_more = ap (λ cs. (run a cs).archive) one_more_is ∙ run_archive a (map (add list) (take i items)) (add list item)
 
-  pub told_more : (taken a list (take (i + 1) items)).replies ≡ (taken a list (take i items)).replies ++ (added_within message_limit (taken a list (take i items)).archive list item).1 ∷ []
-  told_more = ap (λ cs. (run a cs).replies) one_more_is ∙ run_replies a (map (add list) (take i items)) (add list item)
+  pub reads_text : (taken a list (take (i + 1) items)).replies ≡ (taken a list (take i items)).replies ++ (add_within_limit message_limit (taken a list (take i items)).archive list item).1 ∷ []
+  reads_text = ap (λ cs. (run a cs).replies) one_more_is ∙ run_replies a (map (add list) (take i items)) (add list item)
 
 -- ---- the report
 
 same_tally : (n k l n' k' l' : ℕ) → n ≡ n' → k ≡ k' → l ≡ l' → tally_is n k l ≡ tally_is n' k' l'
 same_tally n k l n' k' l' e f g = λ i. tally_is (e i) (f i) (g i)
 
-module _ (r : AddReport) (replies : List Reply) (t : tally_of r ≡ tally replies) where
-  pub told_new : tally_is (r.new + 1) r.known r.too_large ≡ tally (replies ++ taken_in ∷ [])
+module _ (r : AddReport) (replies : List CommandReply) (t : tally_of_report r ≡ tally_replies replies) where
+  pub told_new : tally_is (r.new + 1) r.known r.too_large ≡ tally_replies (replies ++ taken_in ∷ [])
   told_new = same_tally _ _ _ _ _ _
-      (ap (λ (x : Tally). x.new + 1) t ∙ sym (counted_more is_new replies taken_in refl))
-      (ap (λ (x : Tally). x.known) t ∙ sym (counted_same is_known replies taken_in refl))
-      (ap (λ (x : Tally). x.too_large) t ∙ sym (counted_same is_too_large replies taken_in refl))
+      (ap (λ (x : Tally). x.new + 1) t ∙ sym (counted_more is_added_reply replies taken_in refl))
+      (ap (λ (x : Tally). x.known) t ∙ sym (counted_same is_known_reply replies taken_in refl))
+      (ap (λ (x : Tally). x.too_large) t ∙ sym (counted_same is_too_large_reply replies taken_in refl))
 
-  pub told_known : tally_is r.new (r.known + 1) r.too_large ≡ tally (replies ++ already_known ∷ [])
+  pub told_known : tally_is r.new (r.known + 1) r.too_large ≡ tally_replies (replies ++ already_known ∷ [])
   told_known = same_tally _ _ _ _ _ _
-      (ap (λ (x : Tally). x.new) t ∙ sym (counted_same is_new replies already_known refl))
-      (ap (λ (x : Tally). x.known + 1) t ∙ sym (counted_more is_known replies already_known refl))
-      (ap (λ (x : Tally). x.too_large) t ∙ sym (counted_same is_too_large replies already_known refl))
+      (ap (λ (x : Tally). x.new) t ∙ sym (counted_same is_added_reply replies already_known refl))
+      (ap (λ (x : Tally). x.known + 1) t ∙ sym (counted_more is_known_reply replies already_known refl))
+      (ap (λ (x : Tally). x.too_large) t ∙ sym (counted_same is_too_large_reply replies already_known refl))
 
-  pub told_too_large : tally_is r.new r.known (r.too_large + 1) ≡ tally (replies ++ refused too_large ∷ [])
+  pub told_too_large : tally_is r.new r.known (r.too_large + 1) ≡ tally_replies (replies ++ refused too_large ∷ [])
   told_too_large = same_tally _ _ _ _ _ _
-      (ap (λ (x : Tally). x.new) t ∙ sym (counted_same is_new replies (refused too_large) refl))
-      (ap (λ (x : Tally). x.known) t ∙ sym (counted_same is_known replies (refused too_large) refl))
-      (ap (λ (x : Tally). x.too_large + 1) t ∙ sym (counted_more is_too_large replies (refused too_large) refl))
+      (ap (λ (x : Tally). x.new) t ∙ sym (counted_same is_added_reply replies (refused too_large) refl))
+      (ap (λ (x : Tally). x.known) t ∙ sym (counted_same is_known_reply replies (refused too_large) refl))
+      (ap (λ (x : Tally). x.too_large + 1) t ∙ sym (counted_more is_too_large_reply replies (refused too_large) refl))
 
 -- ---- one item more
 
 module _ (behind : Option Database) (mid new : State) (a : Archive) (list : List ℕ) (items : List Item) (i before after : ℕ) (item : Item) (told : AddReport)
-    (so_far : HasTaken behind mid a list (take i items) before told) (within : i < length items) (is : item ≡ get_or items i item) where
+    (so_far : HoldsAddedItems behind mid a list (take i items) before told) (within : i < length items) (is : item ≡ get_or items i item) where
   -- the machine's answer
-  answer_is : (reply : Reply) → AddsTo behind mid new list item after reply → reply ≡ (added_within message_limit (taken a list (take i items)).archive list item).1
-  answer_is reply adds = ap (λ (p : Outcome). p.1) adds.1 ∙ ap (λ x. (added_within message_limit x list item).1) so_far.archive_is
+  answer_is : (reply : CommandReply) → AddsMessageToState behind mid new list item after reply → reply ≡ (add_within_limit message_limit (taken a list (take i items)).archive list item).1
+  answer_is reply adds = ap (λ (p : StepOutcome). p.1) adds.1 ∙ ap (λ x. (add_within_limit message_limit x list item).1) so_far.archive_is
 
-  pub one_taken : (reply : Reply) (telling : AddReport) → AddsTo behind mid new list item after reply
-      → tally_of telling ≡ tally ((taken a list (take i items)).replies ++ reply ∷ []) → HasTaken behind new a list (take (i + 1) items) after telling
+  pub one_taken : (reply : CommandReply) (telling : AddReport) → AddsMessageToState behind mid new list item after reply
+      → tally_of_report telling ≡ tally_replies ((taken a list (take i items)).replies ++ reply ∷ []) → HoldsAddedItems behind new a list (take (i + 1) items) after telling
   one_taken reply telling adds tells = record {
     held = adds.0;
-    archive_is = ap (λ (p : Outcome). p.0) adds.1 ∙ ap (λ x. (added_within message_limit x list item).0) so_far.archive_is ∙ sym (taken_more a list items i item within is);
+    archive_is = ap (λ (p : StepOutcome). p.0) adds.1 ∙ ap (λ x. (add_within_limit message_limit x list item).0) so_far.archive_is ∙ sym (taken_more a list items i item within is);
     counted = adds.2;
-    told = tells ∙ ap (λ r. tally ((taken a list (take i items)).replies ++ r ∷ [])) (answer_is reply adds) ∙ ap tally (sym (told_more a list items i item within is));
+    told = tells ∙ ap (λ r. tally_replies ((taken a list (take i items)).replies ++ r ∷ [])) (answer_is reply adds) ∙ ap tally_replies (sym (reads_text a list items i item within is));
   }
 
-  pub none_taken : AddsTo behind mid new list item after (refused list_full) → HasTaken behind new a list (take i items) after told × IsFullAt a list items i
+  pub none_taken : AddsMessageToState behind mid new list item after (refused list_full) → HoldsAddedItems behind new a list (take i items) after told × IsListFullAt a list items i
   none_taken adds =
       let full = answer_is (refused list_full) adds in (
         record {
           held = adds.0;
-          archive_is = ap (λ (p : Outcome). p.0) adds.1 ∙ refused_stays (archive_of mid) list item (sym (ap (λ (p : Outcome). p.1) adds.1)) ∙ so_far.archive_is;
+          archive_is = ap (λ (p : StepOutcome). p.0) adds.1 ∙ refused_stays (archive_of mid) list item (sym (ap (λ (p : StepOutcome). p.1) adds.1)) ∙ so_far.archive_is;
           counted = adds.2;
           told = so_far.told;
         },
         record {
           within = within;
           full = holds_50000 (taken a list (take i items)).archive list item (sym full);
-          refuses = told_more a list items i item within is ∙ ap (λ r. (taken a list (take i items)).replies ++ r ∷ []) (sym full);
+          refuses = reads_text a list items i item within is ∙ ap (λ r. (taken a list (take i items)).replies ++ r ∷ []) (sym full);
         },
       )
 
-pub held_or_back : (db : Database) (old new : State) → RestsOver (Some db) old new → IsHeldOrBack db new
+pub held_or_back : (db : Database) (old new : State) → FaultKeepsRowsOrRollsBack (Some db) old new → IsOpenArchiveOrRolledBack db new
 held_or_back db old new rests up = elim (rests up) [ inl held ↦ inl held.0 | inr back ↦ inr back ]
 
 -- ---- transactions one after the other
 
 -- the same rows, over something else
 pub stays_taken : (before after : Option Database) (old new : State) (a : Archive) (list : List ℕ) (items : List Item) (count : ℕ) (told : AddReport)
-    → HasTaken before old a list items count told → StaysOver after old new → HasTaken after new a list items count told
+    → HoldsAddedItems before old a list items count told → LeavesRowsUnchanged after old new → HoldsAddedItems after new a list items count told
 stays_taken before after old new a list items count told t stays = record {
   held = stays.0;
   archive_is = archive_stays stays.1 ∙ t.archive_is;
-  counted = subst (λ x. IsCounted x list count) (sym (archive_stays stays.1)) t.counted;
+  counted = subst (λ x. ListHasMessageCount x list count) (sym (archive_stays stays.1)) t.counted;
   told = t.told;
 }
 
 abbrev pub no_report : AddReport
 no_report = record { new = 0; known = 0; too_large = 0 }
 
-no_replies : (a : Archive) → tally_of no_report ≡ tally (run a []).replies
+no_replies : (a : Archive) → tally_of_report no_report ≡ tally_replies (run a []).replies
 unfolding run
 no_replies a = refl
 
 -- nothing is taken yet
-pub first_taken : (behind : Option Database) (s : State) (a : Archive) (list : List ℕ) (items : List Item) (count : ℕ) → IsHeld behind s → archive_of s ≡ a → IsCounted (archive_of s) list count
-    → HasTaken behind s a list (take 0 items) count no_report
+pub first_taken : (behind : Option Database) (s : State) (a : Archive) (list : List ℕ) (items : List Item) (count : ℕ) → IsOpenArchive behind s → archive_of s ≡ a
+    → ListHasMessageCount (archive_of s) list count
+    → HoldsAddedItems behind s a list (take 0 items) count no_report
 first_taken behind s a list items count k is n = record { held = k; archive_is = is ∙ run_nothing a; counted = n; told = no_replies a }
 
 -- ---- the bytes of a transaction
 
-pub bytes_more : (items : List Item) (i : ℕ) (item : Item) → i < length items → item ≡ get_or items i item → text_bytes (take (i + 1) items) ≡ text_bytes (take i items) + length item.text
-bytes_more items i item within is = sum_by_more (λ (x : Item). length x.text) items i item within ∙ ap (λ x. text_bytes (take i items) + length x.text) (sym is)
+pub bytes_more : (items : List Item) (i : ℕ) (item : Item) → i < length items → item ≡ get_or items i item → total_text_bytes (take (i + 1) items) ≡ total_text_bytes (take i items) + length item.text
+bytes_more items i item within is = sum_by_more (λ (x : Item). length x.text) items i item within ∙ ap (λ x. total_text_bytes (take i items) + length x.text) (sym is)
 
 -- ---- where no message was added
 
 pub none_added : (o : Option Refusal) (old new : State) (list : List ℕ) (items : List Item)
-    → MatchOption o (Rests old new) (λ r. StaysOver None old new × (r ≡ no_list) × (has_list (archive_of old) list ≡ false))
-    → MatchOption o (IsAfter new (archive_of old) list (take 0 items))
-    (λ r. IsKept new × (archive_of new ≡ (taken (archive_of old) list (take 0 items)).archive) × IsRefusedAt (archive_of old) list items 0 r)
+    → MatchOption o (FaultKeepsRows old new) (λ r. LeavesRowsUnchanged None old new × (r ≡ no_list) × (has_list (archive_of old) list ≡ false))
+    → MatchOption o (HoldsAddedItemsIfOpen new (archive_of old) list (take 0 items))
+    (λ r. IsArchiveAtRest new × (archive_of new ≡ (taken (archive_of old) list (take 0 items)).archive) × IsRefusedAt (archive_of old) list items 0 r)
 none_added None old new list items rests = λ up. let r = rests up in (r.0, archive_stays r.1 ∙ run_nothing (archive_of old))
 none_added (Some r) old new list items it =
     (it.0.0, archive_stays it.0.1 ∙ run_nothing (archive_of old), subst (λ why. IsRefusedAt (archive_of old) list items 0 why) (sym it.1) (refl, it.2))

@@ -7,37 +7,39 @@ use Rattle.sqlite.specs.declared.error.Error.{Error}
 use Rattle.sqlite.specs.Effect.{Database}
 use Rattle.sqlite.specs.Store.{Ghosts}
 use Rattle.sqlite.specs.Held.{state}
-use Rattle.archive_machine.specs.Records.{Archive, Message}
-use Rattle.archive_machine.specs.Commands.{Command, list_add, person_add, grant, revoke, add, withdraw, restore, embargo, lift, merge_set, address_set, Refusal, bad_name, bad_text}
-use Rattle.archive_machine.specs.Commands.{list_exists, no_list, person_exists, no_person, token_taken, no_message, already_withdrawn, not_withdrawn, bad_days, list_full, too_large}
-use Rattle.archive_machine.specs.Commands.{Reply, refused, taken_in, already_known}
-use Rattle.archive_machine.specs.Machine.{Outcome, Test, when, nothing, found_within, tests_of, changed_by, reply_to, unless_so, longest_text, step_within}
-use Rattle.archive_machine.specs.declared.found.Found.{Found}
-use Rattle.archive_machine.specs.Addresses.{is_address}
-use Rattle.archive_machine.specs.Tokens.{is_token}
+use Rattle.archive_model.specs.Records.{Archive, Message}
+use Rattle.archive_model.specs.Commands.{Command, list_add, person_add, grant, revoke, add, withdraw, restore, embargo, lift, merge_set, address_set, Refusal, bad_name, bad_text}
+use Rattle.archive_model.specs.Commands.{list_exists, no_list, person_exists, no_person, token_taken, no_message, already_withdrawn, not_withdrawn, bad_days, list_full, too_large}
+use Rattle.archive_model.specs.Commands.{CommandReply, refused, taken_in, already_known}
+use Rattle.archive_model.specs.Machine.{StepOutcome, GuardedReply, refuse_if, no_command_facts, command_facts_within_limit}
+use Rattle.archive_model.specs.Machine.{guarded_replies_of, archive_changed_by, reply_if_carried_out, outcome_unless_guarded, longest_text, step_within_limit}
+use Rattle.archive_model.specs.declared.found.CommandFacts.{CommandFacts}
+use Rattle.archive_model.specs.Addresses.{is_address}
+use Rattle.archive_model.specs.BearerTokens.{is_token}
 use Rattle.policy_core.specs.Names.{is_name}
-use Rattle.archive_machine.specs.Questions.{is_message, is_withdrawn, is_embargoed}
-use Rattle.archive_machine.specs.Keys.{item_key}
+use Rattle.archive_model.specs.Questions.{is_message_at_key, is_withdrawn, has_embargo}
+use Rattle.archive_model.specs.Keys.{item_key}
 use Rattle.mbox_items.specs.Division.{Item, whole}
 use Rattle.std.specs.List.{list_any}
 use Rattle.archive_store.proofs.StepEquations.{is_some-find}
-use Rattle.archive_tables.specs.Statements.{Statement, IsRefused}
-use Rattle.archive_tables.specs.Rows.{marks_of}
-use Rattle.archive_tables.specs.Tables.{archive_in as archive_of_trees}
-use Rattle.archive_tables.specs.Calls.{Asks, Writes, StaysOver}
-use Rattle.archive_tables.specs.Crashes.{IsStored}
+use Rattle.archive_tables.specs.Statements.{Statement, IsStatementRefused}
+use Rattle.archive_tables.specs.Rows.{decoded_marks}
+use Rattle.archive_tables.specs.Tables.{archive_in_trees as archive_of_trees}
+use Rattle.archive_tables.specs.Calls.{AnswersFromDatabase, WritesByStatement, LeavesRowsUnchanged}
+use Rattle.archive_tables.specs.Crashes.{IsArchiveStored}
 use Rattle.archive_tables.proofs.EndLemmas.{archive_stays, stays_then, rests_behind}
 use Rattle.archive_tables.proofs.LastLemmas.{lasts_then}
-use Rattle.archive_store.specs.Held.{held_of, wants_of}
-use Rattle.archive_port.specs.Words.{added_if, added_reply}
-use Rattle.archive_port.specs.Wanting.{IsWant, Raises}
-use Rattle.archive_port.specs.Replies.{refusal, IsOneOf, reply_of}
-use Rattle.archive_store.specs.Replies.{Does, Steps}
-use Rattle.archive_store.specs.Refusals.{IsCarried, IsWriteRefused}
-use Rattle.archive_store.specs.Told.{Lasts, HasReturned, HoldsTables, archive_in}
+use Rattle.archive_store.specs.Held.{store_connection, memory_refusal_count}
+use Rattle.archive_port.specs.Words.{new_or_known, added_reply}
+use Rattle.archive_port.specs.Wanting.{IsMemoryRefusal, RaisesRefusalCount}
+use Rattle.archive_port.specs.Replies.{refusal_of_fault, IsOneOf, reply_of_result}
+use Rattle.archive_store.specs.Replies.{PerformsModelStep, MatchesModelStep}
+use Rattle.archive_store.specs.Refusals.{IsExecutedReply, IsWriteRefused}
+use Rattle.archive_store.specs.Told.{StaysOpenUnlessDiskFails, StoreHasCleanDisk, HoldsTables, archive_in}
 use Rattle.archive_store.specs.Crashes.{CrashSteps}
-use Rattle.archive_store.specs.Carrying.{Looks, Puts, PutsDown, Commands, CarriesWithin, IsToWrite, found_marks, first_so, reply_settled, said}
-use Rattle.archive_port.specs.Commands.{with_reason, reasons_among, reasons_of, answer_by}
+use Rattle.archive_store.specs.Carrying.{ReadsArchive, WritesToArchive, WritesCommandRows, ExecutesCommand, ExecutesWithinListLimit}
+use Rattle.archive_store.specs.Carrying.{PassesCommandTests, facts_from_marks_row, first_passing_reply, reply_without_write, map_store_result}
+use Rattle.archive_port.specs.Commands.{prepend_if_refusal, refusals_among, possible_refusals_of, reply_unless_refused}
 use Rattle.archive_store.specs.declared.store.Store.{Store}
 use Rattle.archive_port.specs.declared.faults.StoreFault.{StoreFault}
 use Rattle.archive_store.specs.declared.deciding.Settled.{Settled}
@@ -48,76 +50,84 @@ use Rattle.archive_store.proofs.PassLemmas.{Passes}
 use Rattle.archive_store.proofs.FindLemmas.{PassesFault, blames, blames_disk, blames_passed}
 use Rattle.archive_port.proofs.WantLemmas.{raises_after}
 use Rattle.archive_store.proofs.EndLemmas.{refuses}
-use Rattle.archive_tables.specs.Crashes.{AddsNothing}
+use Rattle.archive_tables.specs.Crashes.{CrashAddsNothing}
 use Rattle.archive_tables.proofs.LastLemmas.{lasts_same}
-use Rattle.archive_database.specs.declared.faults.Fault.{Fault}
-use Rattle.archive_database.specs.Taking.{TakesIn, FailsToTake, TakesWhole}
-use Rattle.archive_tables.specs.Calls.{Ends}
+use Rattle.archive_database.specs.declared.faults.DatabaseError.{DatabaseError}
+use Rattle.archive_database.specs.Taking.{InsertsMessage, FailsToInsertMessage, CrashLeavesWholeMessage}
+use Rattle.archive_tables.specs.Calls.{EndsConnectionCall}
 
 -- ---- the tables of the machine
 
 -- an answer that leaves the archive
-abbrev pub told_at : Archive → Reply → Outcome
+abbrev pub told_at : Archive → CommandReply → StepOutcome
 told_at a reply = (a, reply)
 
 -- by whether this test is so
-module _ (a : Archive) (reply : Reply) (made : Outcome) (other : Option Reply) (rest : Outcome) where
+module _ (a : Archive) (reply : CommandReply) (made : StepOutcome) (other : Option CommandReply) (rest : StepOutcome) where
   not_first : (b : Bool) → (if b then Some reply else other) ≡ None → (other ≡ None → rest ≡ made) → (if b then told_at a reply else rest) ≡ made
   not_first true none later = absurd cc
   not_first false none later = later none
 
-  is_first : (b : Bool) (told : Reply) → (if b then Some reply else other) ≡ Some told → (other ≡ Some told → rest ≡ told_at a told)
+  is_first : (b : Bool) (told : CommandReply) → (if b then Some reply else other) ≡ Some told → (other ≡ Some told → rest ≡ told_at a told)
       → (if b then told_at a reply else rest) ≡ told_at a told
-  is_first true told is later = ap (λ o. told_at a (option_map_or (λ (r : Reply). r) o reply)) is
+  is_first true told is later = ap (λ o. told_at a (option_map_or (λ (r : CommandReply). r) o reply)) is
   is_first false told is later = later is
 
-none_so : (a : Archive) (tests : List Test) (made : Outcome) → first_so tests ≡ None → unless_so a tests made ≡ made
+none_so : (a : Archive) (tests : List GuardedReply) (made : StepOutcome) → first_passing_reply tests ≡ None → outcome_unless_guarded a tests made ≡ made
 none_so a [] made none = refl
-none_so a (test ∷ tests) made none = not_first a test.1 made (first_so tests) (unless_so a tests made) test.0 none (none_so a tests made)
+none_so a (test ∷ tests) made none = not_first a test.1 made (first_passing_reply tests) (outcome_unless_guarded a tests made) test.0 none (none_so a tests made)
 
-one_so : (a : Archive) (tests : List Test) (made : Outcome) (told : Reply) → first_so tests ≡ Some told → unless_so a tests made ≡ told_at a told
+one_so : (a : Archive) (tests : List GuardedReply) (made : StepOutcome) (told : CommandReply) → first_passing_reply tests ≡ Some told → outcome_unless_guarded a tests made ≡ told_at a told
 one_so a [] made told is = absurd cc
-one_so a (test ∷ tests) made told is = is_first a test.1 made (first_so tests) (unless_so a tests made) test.0 told is (one_so a tests made told)
+one_so a (test ∷ tests) made told is = is_first a test.1 made (first_passing_reply tests) (outcome_unless_guarded a tests made) test.0 told is (one_so a tests made told)
 
 -- the step, by what was found
-told_step : (limit : ℕ) (a : Archive) (command : Command) (told : Reply) → first_so (tests_of command (found_within limit a command)) ≡ Some told → step_within limit a command ≡ told_at a told
-told_step limit a command told first = one_so a (tests_of command (found_within limit a command)) (changed_by command a, reply_to command (found_within limit a command)) told first
+told_step : (limit : ℕ) (a : Archive) (command : Command) (told : CommandReply) → first_passing_reply (guarded_replies_of command (command_facts_within_limit limit a command)) ≡ Some told
+    → step_within_limit limit a command ≡ told_at a told
+told_step limit a command told first = one_so a (guarded_replies_of command (command_facts_within_limit limit a command))
+    (archive_changed_by command a, reply_if_carried_out command (command_facts_within_limit limit a command)) told first
 
-made_step : (limit : ℕ) (a : Archive) (command : Command) (found : Found) → found ≡ found_within limit a command → first_so (tests_of command found) ≡ None
-    → step_within limit a command ≡ told_at (changed_by command a) (reply_to command found)
+made_step : (limit : ℕ) (a : Archive) (command : Command) (found : CommandFacts) → found ≡ command_facts_within_limit limit a command → first_passing_reply (guarded_replies_of command found) ≡ None
+    → step_within_limit limit a command ≡ told_at (archive_changed_by command a) (reply_if_carried_out command found)
 made_step limit a command found is none =
-    none_so a (tests_of command (found_within limit a command)) (changed_by command a, reply_to command (found_within limit a command)) (ap (λ f. first_so (tests_of command f)) (sym is) ∙ none)
-    ∙ ap (λ f. told_at (changed_by command a) (reply_to command f)) (sym is)
+    none_so a (guarded_replies_of command (command_facts_within_limit limit a command)) (
+      archive_changed_by command a,
+      reply_if_carried_out command
+          (command_facts_within_limit limit a command),
+    ) (ap (λ f. first_passing_reply (guarded_replies_of command f)) (sym is) ∙ none)
+    ∙ ap (λ f. told_at (archive_changed_by command a) (reply_if_carried_out command f)) (sym is)
 
 -- ---- its refusals
 
-among : (why : Refusal) (reply : Reply) (reasons : List Refusal) → IsOneOf why reasons → IsOneOf why (with_reason reply reasons)
+among : (why : Refusal) (reply : CommandReply) (reasons : List Refusal) → IsOneOf why reasons → IsOneOf why (prepend_if_refusal reply reasons)
 among why (refused other) reasons it = inr it
 among why _ reasons it = it
 
-one_behind : (b : Bool) (reply : Reply) (why : Refusal) (other : Option Reply) (reasons : List Refusal) → (if b then Some reply else other) ≡ Some (refused why)
-    → (other ≡ Some (refused why) → IsOneOf why reasons) → IsOneOf why (with_reason reply reasons)
+one_behind : (b : Bool) (reply : CommandReply) (why : Refusal) (other : Option CommandReply) (reasons : List Refusal) → (if b then Some reply else other) ≡ Some (refused why)
+    → (other ≡ Some (refused why) → IsOneOf why reasons) → IsOneOf why (prepend_if_refusal reply reasons)
 one_behind true reply why other reasons is later =
-    let same : reply ≡ refused why = cc in subst (λ r. IsOneOf why (with_reason r reasons)) (sym same) (inl refl)
+    let same : reply ≡ refused why = cc in subst (λ r. IsOneOf why (prepend_if_refusal r reasons)) (sym same) (inl refl)
 one_behind false reply why other reasons is later = among why reply reasons (later is)
 
-first_is_one : (tests : List Test) (why : Refusal) → first_so tests ≡ Some (refused why) → IsOneOf why (reasons_among tests)
+first_is_one : (tests : List GuardedReply) (why : Refusal) → first_passing_reply tests ≡ Some (refused why) → IsOneOf why (refusals_among tests)
 first_is_one [] why is = absurd cc
-first_is_one (test ∷ tests) why is = one_behind test.0 test.1 why (first_so tests) (reasons_among tests) is (first_is_one tests why)
+first_is_one (test ∷ tests) why is = one_behind test.0 test.1 why (first_passing_reply tests) (refusals_among tests) is (first_is_one tests why)
 
-same_reasons : (command : Command) (found : Found) → reasons_among (tests_of command found) ≡ reasons_of command
+same_reasons : (command : Command) (found : CommandFacts) → refusals_among (guarded_replies_of command found) ≡ possible_refusals_of command
 same_reasons (list_add name) found = refl
 same_reasons command found = refl
 
 -- one of the reasons of the command
-is_reason : (command : Command) (found : Found) (why : Refusal) → first_so (tests_of command found) ≡ Some (refused why) → IsOneOf why (reasons_of command)
-is_reason command found why is = subst (IsOneOf why) (same_reasons command found) (first_is_one (tests_of command found) why is)
+is_reason : (command : Command) (found : CommandFacts) (why : Refusal) → first_passing_reply (guarded_replies_of command found) ≡ Some (refused why) → IsOneOf why (possible_refusals_of command)
+is_reason command found why is = subst (IsOneOf why) (same_reasons command found) (first_is_one (guarded_replies_of command found) why is)
 
 -- the reason that a fault tells
-reason_told : (fault : StoreFault) (o : Option Reply) → Some (option_map refused (refusal fault)) ≡ option_map Some o → (why : Refusal) × (refusal fault ≡ Some why) × (o ≡ Some (refused why))
-reason_told fault o is = go (refusal fault) o refl is
+reason_told : (fault : StoreFault) (o : Option CommandReply) → Some (option_map refused (refusal_of_fault fault)) ≡ option_map Some o → (why : Refusal) × (refusal_of_fault fault ≡ Some why)
+    × (o ≡ Some (refused why))
+reason_told fault o is = go (refusal_of_fault fault) o refl is
   where
-    go : (r : Option Refusal) (o : Option Reply) → refusal fault ≡ r → Some (option_map refused r) ≡ option_map Some o → (why : Refusal) × (refusal fault ≡ Some why) × (o ≡ Some (refused why))
+    go : (r : Option Refusal) (o : Option CommandReply) → refusal_of_fault fault ≡ r → Some (option_map refused r) ≡ option_map Some o → (why : Refusal) × (refusal_of_fault fault ≡ Some why)
+        × (o ≡ Some (refused why))
     go None None e is = absurd cc
     go None (Some reply) e is = absurd cc
     go (Some why) None e is = absurd cc
@@ -125,15 +135,15 @@ reason_told fault o is = go (refusal fault) o refl is
 
 -- ---- its answer
 
-pub none_of : (o : Option Reply) → (let n : Option (Option Reply) = None in n) ≡ option_map Some o → o ≡ None
+pub none_of : (o : Option CommandReply) → (let n : Option (Option CommandReply) = None in n) ≡ option_map Some o → o ≡ None
 none_of None is = refl
 none_of (Some reply) is = absurd cc
 
-one_of : (o : Option Reply) (reply : Reply) → Some (Some reply) ≡ option_map Some o → o ≡ Some reply
+one_of : (o : Option CommandReply) (reply : CommandReply) → Some (Some reply) ≡ option_map Some o → o ≡ Some reply
 one_of None reply is = absurd cc
 one_of (Some other) reply is = cc
 
-same_of : (o p : Option Reply) → option_map Some o ≡ option_map Some p → o ≡ p
+same_of : (o p : Option CommandReply) → option_map Some o ≡ option_map Some p → o ≡ p
 same_of None None is = refl
 same_of None (Some q) is = absurd cc
 same_of (Some r) None is = absurd cc
@@ -159,22 +169,22 @@ is_known false false true full is = refl
 is_known false false false true is = absurd cc
 is_known false false false false is = absurd cc
 
-answer_made : (command : Command) (found : Found) → first_so (tests_of command found) ≡ None → answer_by command found ≡ reply_to command found
+answer_made : (command : Command) (found : CommandFacts) → first_passing_reply (guarded_replies_of command found) ≡ None → reply_unless_refused command found ≡ reply_if_carried_out command found
 answer_made (add list item) found none =
     ap (λ b. if b then already_known else taken_in) (unknown (not found.list) (nat_lt longest_text (length (whole item.text))) found.message found.full none)
 answer_made command found none = refl
 
 -- tests that refuse, and nothing else
-never_known : (tests : List (Bool × Refusal)) → first_so (map (λ t. when t.0 t.1) tests) ≡ Some already_known → ⊥
+never_known : (tests : List (Bool × Refusal)) → first_passing_reply (map (λ t. refuse_if t.0 t.1) tests) ≡ Some already_known → ⊥
 never_known [] is = absurd cc
 never_known (test ∷ tests) is = go test.0 (never_known tests) is
   where
-    go : (b : Bool) → (first_so (map (λ t. when t.0 t.1) tests) ≡ Some already_known → ⊥)
-        → (if b then Some (refused test.1) else first_so (map (λ t. when t.0 t.1) tests)) ≡ Some already_known → ⊥
+    go : (b : Bool) → (first_passing_reply (map (λ t. refuse_if t.0 t.1) tests) ≡ Some already_known → ⊥)
+        → (if b then Some (refused test.1) else first_passing_reply (map (λ t. refuse_if t.0 t.1) tests)) ≡ Some already_known → ⊥
     go true later is = absurd cc
     go false later is = later is
 
-answer_known : (command : Command) (found : Found) → first_so (tests_of command found) ≡ Some already_known → answer_by command found ≡ already_known
+answer_known : (command : Command) (found : CommandFacts) → first_passing_reply (guarded_replies_of command found) ≡ Some already_known → reply_unless_refused command found ≡ already_known
 answer_known (add list item) it is = is_known (not it.list) (nat_lt longest_text (length (whole item.text))) it.message it.full is
 answer_known (list_add name) it is = absurd (never_known ((not (is_name name), bad_name) ∷ (it.list, list_exists) ∷ []) is)
 answer_known (merge_set list merge) it is = absurd (never_known ((not it.list, no_list) ∷ []) is)
@@ -189,28 +199,28 @@ answer_known (embargo list key until) it is = absurd (never_known ((not it.list,
 answer_known (lift list key) it is = absurd (never_known ((not it.list, no_list) ∷ (not it.message, no_message) ∷ []) is)
 
 -- a command that no test answers is carried out
-pub is_carried : (command : Command) (found : Found) → IsCarried (reply_to command found)
+pub is_carried : (command : Command) (found : CommandFacts) → IsExecutedReply (reply_if_carried_out command found)
 is_carried (revoke person list rank) found = tt
 is_carried command found = tt
 
 -- ---- the tests of the code
 
 -- tests of the code and of the machine, one by one
-abbrev pub Alike : List (Bool × Settled) → List Test → Type 0
+abbrev pub Alike : List (Bool × Settled) → List GuardedReply → Type 0
 Alike [] [] = ⊤
-Alike (row ∷ rows) (test ∷ tests) = (row.0 ≡ test.0) × (reply_settled row.1 ≡ Some test.1) × Alike rows tests
+Alike (row ∷ rows) (test ∷ tests) = (row.0 ≡ test.0) × (reply_without_write row.1 ≡ Some test.1) × Alike rows tests
 Alike _ _ = ⊥
 
-pub rows_alike : (rows : List (Bool × Settled)) (tests : List Test) → Alike rows tests
-    → option_map reply_settled (option_map (λ row. row.1) (find (λ row. row.0) rows)) ≡ option_map Some (first_so tests)
+pub rows_alike : (rows : List (Bool × Settled)) (tests : List GuardedReply) → Alike rows tests
+    → option_map reply_without_write (option_map (λ row. row.1) (find (λ row. row.0) rows)) ≡ option_map Some (first_passing_reply tests)
 rows_alike [] [] alike = refl
 rows_alike [] (test ∷ tests) alike = absurd alike
 rows_alike (row ∷ rows) [] alike = absurd alike
 rows_alike (row ∷ rows) (test ∷ tests) alike =
-    go row.0 (rows_alike rows tests alike.2) ∙ ap (λ b. option_map Some (if b then Some test.1 else first_so tests)) alike.0
+    go row.0 (rows_alike rows tests alike.2) ∙ ap (λ b. option_map Some (if b then Some test.1 else first_passing_reply tests)) alike.0
   where
-    go : (b : Bool) → option_map reply_settled (option_map (λ row. row.1) (find (λ row. row.0) rows)) ≡ option_map Some (first_so tests)
-        → option_map reply_settled (option_map (λ row. row.1) (if b then Some row else find (λ row. row.0) rows)) ≡ option_map Some (if b then Some test.1 else first_so tests)
+    go : (b : Bool) → option_map reply_without_write (option_map (λ row. row.1) (find (λ row. row.0) rows)) ≡ option_map Some (first_passing_reply tests)
+        → option_map reply_without_write (option_map (λ row. row.1) (if b then Some row else find (λ row. row.0) rows)) ≡ option_map Some (if b then Some test.1 else first_passing_reply tests)
     go true later = ap Some alike.1
     go false later = later
 
@@ -238,34 +248,35 @@ module _ {S : Type 0} (g : Ghosts S) where
 
   -- one on the tables
   pub looks_passed : {A : Type 0} {old new : Store S} {told : Result A Error} {result : Result A StoreFault} {Says : Archive → A → Type 0}
-      → Passes told result → IfErr result (λ fault. refusal fault ≡ None) → Raises IsWant (wants_of old) (wants_of new) result
-      → Asks g (held_of old) (held_of new) told Says ⊥ → Looks g old new result Says
+      → Passes told result → IfErr result (λ fault. refusal_of_fault fault ≡ None) → RaisesRefusalCount IsMemoryRefusal (memory_refusal_count old) (memory_refusal_count new) result
+      → AnswersFromDatabase g (store_connection old) (store_connection new) told Says ⊥ → ReadsArchive g old new result Says
   looks_passed {old = old} {new = new} {told = told} {result = result} {Says = Says} is fault counted asks = record {
     lasts = asks.ends.lasts;
     was_open = λ clean. passes_ok _ told result is (asks.ends.was_open clean);
     quiet = asks.quiet;
     fault = fault;
     counted = counted;
-    over = λ clean kept. passes_to (λ a. Says (archive_in g old) a × StaysOver None (state g (held_of old)) (state g (held_of new))) _ told result is (asks.over clean None kept);
-    caused = blames_disk g (held_of old) (held_of new) told result is asks.caused;
+    over = λ clean kept. passes_to (λ a. Says (archive_in g old) a × LeavesRowsUnchanged None (state g (store_connection old)) (state g (store_connection new))) _ told result is
+        (asks.over clean None kept);
+    caused = blames_disk g (store_connection old) (store_connection new) told result is asks.caused;
   }
 
   -- one behind another
   pub looks_then : {A B : Type 0} {old mid new : Store S} {a : A} {result : Result B StoreFault} {P : Archive → A → Type 0} {Q : Archive → B → Type 0}
-      → Looks g old mid (Ok a) P → Looks g mid new result Q → Looks g old new result (λ x b. P x a × Q x b)
+      → ReadsArchive g old mid (Ok a) P → ReadsArchive g mid new result Q → ReadsArchive g old new result (λ x b. P x a × Q x b)
   looks_then {old = old} {mid = mid} {new = new} {a = a} {result = result} {P = P} {Q = Q} first next =
-      let o = state g (held_of old) in
-      let m = state g (held_of mid) in
-      let n = state g (held_of new) in
+      let o = state g (store_connection old) in
+      let m = state g (store_connection mid) in
+      let n = state g (store_connection new) in
       record {
         lasts = lasts_then o m n first.lasts next.lasts;
         was_open = λ clean. on_ok result (first.was_open (next.lasts.returned clean));
         quiet = λ clean db may. first.quiet (next.lasts.returned clean) db (next.quiet clean db may);
         fault = next.fault;
-        counted = raises_after IsWant (wants_of old) (wants_of mid) (wants_of new) result first.counted.0 next.counted;
+        counted = raises_after IsMemoryRefusal (memory_refusal_count old) (memory_refusal_count mid) (memory_refusal_count new) result first.counted.0 next.counted;
         over = λ clean kept.
             let one = first.over (next.lasts.returned clean) kept in
-            map_match (λ b. Q (archive_in g mid) b × StaysOver None m n) (λ b. (P (archive_in g old) a × Q (archive_in g old) b) × StaysOver None o n) _ _ result
+            map_match (λ b. Q (archive_in g mid) b × LeavesRowsUnchanged None m n) (λ b. (P (archive_in g old) a × Q (archive_in g old) b) × LeavesRowsUnchanged None o n) _ _ result
             (λ b it. ((one.0, subst (λ x. Q x b) (archive_stays one.1.1) it.0), stays_then None o m n one.1 it.1))
             (rests_behind None o m n one.1.1) (next.over clean one.1.0);
         caused = λ clean kept free.
@@ -275,7 +286,7 @@ module _ {S : Type 0} (g : Ghosts S) where
 
   -- what follows from it
   pub looks_say : {A B : Type 0} {old new : Store S} {a : A} {b : B} {P : Archive → A → Type 0} {Q : Archive → B → Type 0}
-      → Looks g old new (Ok a) P → ((x : Archive) → P x a → Q x b) → Looks g old new (Ok b) Q
+      → ReadsArchive g old new (Ok a) P → ((x : Archive) → P x a → Q x b) → ReadsArchive g old new (Ok b) Q
   looks_say {old = old} looks so = record {
     lasts = looks.lasts;
     was_open = looks.was_open;
@@ -288,7 +299,7 @@ module _ {S : Type 0} (g : Ghosts S) where
 
   -- whatever is answered
   pub looks_as : {A : Type 0} {old new : Store S} {result : Result A StoreFault} {P Q : Archive → A → Type 0}
-      → Looks g old new result P → ((x : Archive) (a : A) → P x a → Q x a) → Looks g old new result Q
+      → ReadsArchive g old new result P → ((x : Archive) (a : A) → P x a → Q x a) → ReadsArchive g old new result Q
   looks_as {old = old} {result = result} looks so = record {
     lasts = looks.lasts;
     was_open = looks.was_open;
@@ -301,9 +312,9 @@ module _ {S : Type 0} (g : Ghosts S) where
 
   -- the exit of a `?`
   pub looks_stop : {A B : Type 0} {old new : Store S} {fault : StoreFault} (result : Result B StoreFault) {P : Archive → A → Type 0} {Q : Archive → B → Type 0}
-      → Looks g old new {A = A} (Err fault) P → IsErrAnd result (λ f. f ≡ fault) → Looks g old new result Q
+      → ReadsArchive g old new {A = A} (Err fault) P → IsErrAnd result (λ f. f ≡ fault) → ReadsArchive g old new result Q
   looks_stop (Ok b) looks is = absurd is
-  looks_stop {B = B} {old = old} {new = new} (Err f) {Q = Q} looks is = subst (λ f. Looks g old new {A = B} (Err f) Q) (sym is) (record {
+  looks_stop {B = B} {old = old} {new = new} (Err f) {Q = Q} looks is = subst (λ f. ReadsArchive g old new {A = B} (Err f) Q) (sym is) (record {
     lasts = looks.lasts;
     was_open = λ clean. tt;
     quiet = looks.quiet;
@@ -317,13 +328,13 @@ module _ {S : Type 0} (g : Ghosts S) where
 
   pub puts_passed : {A : Type 0} {old new : Store S} {told : Result A Error} {result : Result A StoreFault} {Needs_0 : Archive → Type 0} {change_0 : Archive → Archive} {statement : Statement}
       {Needs : Archive → Type 0} {change : Archive → Archive} {Refused : Database → Type 0}
-      → Writes g (held_of old) (held_of new) told Needs_0 change_0 statement
-      → Passes told result → IfErr result (λ fault. refusal fault ≡ None) → Raises IsWant (wants_of old) (wants_of new) result
+      → WritesByStatement g (store_connection old) (store_connection new) told Needs_0 change_0 statement
+      → Passes told result → IfErr result (λ fault. refusal_of_fault fault ≡ None) → RaisesRefusalCount IsMemoryRefusal (memory_refusal_count old) (memory_refusal_count new) result
       → ((a : Archive) → Needs a → Needs_0 a × (change_0 a ≡ change a))
-      → ((db : Database) → Needs (archive_of_trees db.trees) → IsRefused statement db → Refused db)
-      → Puts g old new result Needs change Refused
+      → ((db : Database) → Needs (archive_of_trees db.trees) → IsStatementRefused statement db → Refused db)
+      → WritesToArchive g old new result Needs change Refused
   puts_passed {old = old} {new = new} {told = told} {result = result} {statement = statement} writes is fault counted turn bad =
-      let o = state g (held_of old) in
+      let o = state g (store_connection old) in
       record {
         lasts = writes.ends.lasts;
         was_open = λ clean. passes_ok _ told result is (writes.ends.was_open clean);
@@ -337,38 +348,41 @@ module _ {S : Type 0} (g : Ghosts S) where
             let it = turn (archive_in g old) need in
             elim (writes.crash None kept it.0 clean db may) [
               | inl before ↦ inl before
-              | inr made ↦ inr (subst (λ a. IsStored a db) it.1 made.1)
+              | inr made ↦ inr (subst (λ a. IsArchiveStored a db) it.1 made.1)
             ];
         caused = λ clean kept free need.
             blames result (λ why. elim why [ inl more ↦ inl more | inr it ↦ inr (bad o.now need it) ])
-            (blames_passed g (held_of old) (held_of new) told result (IsRefused statement o.now) is (λ clean kept free. writes.caused clean None kept free) clean kept free);
+            (blames_passed g (store_connection old) (store_connection new) told result (IsStatementRefused statement o.now) is (λ clean kept free. writes.caused clean None kept free) clean kept free);
       }
 
   -- it wrote one row
   abbrev one_row : Result (Unit {0}) StoreFault → Result ℕ StoreFault
-  one_row passed = said (λ _. (let n : ℕ = 1 in n)) passed
+  one_row passed = map_store_result (λ _. (let n : ℕ = 1 in n)) passed
 
   -- a message that the list does not hold
-  fresh : (a : Archive) (list : List ℕ) (item : Item) (found : Found) → IsToWrite (add list item) found a
-      → list_any (is_message list (item_key item)) a.messages ≡ false
+  fresh : (a : Archive) (list : List ℕ) (item : Item) (found : CommandFacts) → PassesCommandTests (add list item) found a
+      → list_any (is_message_at_key list (item_key item)) a.messages ≡ false
   fresh a list item found need =
-      sym (is_some-find (is_message list (item_key item)) a.messages) ∙ sym (ap (λ f. f.message) need.1)
+      sym (is_some-find (is_message_at_key list (item_key item)) a.messages) ∙ sym (ap (λ f. f.message) need.1)
       ∙ unknown (not found.list) (nat_lt longest_text (length (whole item.text))) found.message found.full need.2
 
   -- it is written down
-  pub puts_taken : {old new : Store S} {result : Result ℕ StoreFault} (told : Result (Unit {0}) Fault) (passed : Result (Unit {0}) StoreFault) (list : List ℕ) (item : Item) (found : Found)
-      → result ≡ one_row passed → TakesIn g (held_of old) (held_of new) told list (item_key item) item → FailsToTake g (held_of old) (held_of new) told list (item_key item) item
-      → TakesWhole g (held_of old) (held_of new) list (item_key item) item → Ends g (held_of old) (held_of new) told
-      → PassesFault told passed → IfErr passed (λ fault. refusal fault ≡ None) → Raises IsWant (wants_of old) (wants_of new) passed
-      → Puts g old new result (IsToWrite (add list item) found) (changed_by (add list item)) (IsWriteRefused (add list item))
+  pub puts_taken : {old new : Store S} {result : Result ℕ StoreFault} (told : Result (Unit {0}) DatabaseError) (passed : Result (Unit {0}) StoreFault) (list : List ℕ) (item : Item)
+      (found : CommandFacts)
+      → result ≡ one_row passed → InsertsMessage g (store_connection old) (store_connection new) told list (item_key item) item
+      → FailsToInsertMessage g (store_connection old) (store_connection new) told list (item_key item) item
+      → CrashLeavesWholeMessage g (store_connection old) (store_connection new) list (item_key item) item → EndsConnectionCall g (store_connection old) (store_connection new) told
+      → PassesFault told passed → IfErr passed (λ fault. refusal_of_fault fault ≡ None) → RaisesRefusalCount IsMemoryRefusal (memory_refusal_count old) (memory_refusal_count new) passed
+      → WritesToArchive g old new result (PassesCommandTests (add list item) found) (archive_changed_by (add list item)) (IsWriteRefused (add list item))
   puts_taken {old = old} {new = new} told passed list item found is takes fails crash ends handed kind counted =
-      subst (λ (r : Result ℕ StoreFault). Puts g old new r (IsToWrite (add list item) found) (changed_by (add list item)) (IsWriteRefused (add list item)))
+      subst (λ (r : Result ℕ StoreFault). WritesToArchive g old new r (PassesCommandTests (add list item) found) (archive_changed_by (add list item)) (IsWriteRefused (add list item)))
       (sym is) (go told passed takes fails ends handed kind counted)
     where
-      go : (told : Result (Unit {0}) Fault) (passed : Result (Unit {0}) StoreFault) → TakesIn g (held_of old) (held_of new) told list (item_key item) item
-          → FailsToTake g (held_of old) (held_of new) told list (item_key item) item → Ends g (held_of old) (held_of new) told → PassesFault told passed
-          → IfErr passed (λ fault. refusal fault ≡ None) → Raises IsWant (wants_of old) (wants_of new) passed
-          → Puts g old new (one_row passed) (IsToWrite (add list item) found) (changed_by (add list item)) (IsWriteRefused (add list item))
+      go : (told : Result (Unit {0}) DatabaseError) (passed : Result (Unit {0}) StoreFault) → InsertsMessage g (store_connection old) (store_connection new) told list (item_key item) item
+          → FailsToInsertMessage g (store_connection old) (store_connection new) told list (item_key item) item → EndsConnectionCall g (store_connection old) (store_connection new) told
+          → PassesFault told passed
+          → IfErr passed (λ fault. refusal_of_fault fault ≡ None) → RaisesRefusalCount IsMemoryRefusal (memory_refusal_count old) (memory_refusal_count new) passed
+          → WritesToArchive g old new (one_row passed) (PassesCommandTests (add list item) found) (archive_changed_by (add list item)) (IsWriteRefused (add list item))
       go (Ok _) (Ok _) takes fails ends handed kind counted = record {
         lasts = ends.lasts;
         was_open = λ clean. ends.was_open clean;
@@ -391,25 +405,25 @@ module _ {S : Type 0} (g : Ghosts S) where
       go (Err e) (Ok _) takes fails ends handed kind counted = absurd cc
 
   -- of a command that is this one
-  pub puts_as : {A : Type 0} {old new : Store S} {result : Result A StoreFault} {given other : Given} (found : Found) → given ≡ other
-      → PutsDown g old new other found result → PutsDown g old new given found result
-  puts_as {old = old} {new = new} {result = result} found is = subst (λ given. PutsDown g old new given found result) (sym is)
+  pub puts_as : {A : Type 0} {old new : Store S} {result : Result A StoreFault} {given other : Given} (found : CommandFacts) → given ≡ other
+      → WritesCommandRows g old new other found result → WritesCommandRows g old new given found result
+  puts_as {old = old} {new = new} {result = result} found is = subst (λ given. WritesCommandRows g old new given found result) (sym is)
 
   -- ---- the exits of a command
 
   -- Calls that left the archive, of which this is so.
   pub record Leaves (old new : Store S) (P : Archive → Type 0) : Type 0 where
-    pub lasts : Lasts g old new
-    pub quiet : AddsNothing g (held_of old) (held_of new)
-    pub wants : wants_of old ≤ wants_of new
-    pub over : HasReturned g new → HoldsTables g old → P (archive_in g old) × StaysOver None (state g (held_of old)) (state g (held_of new))
+    pub lasts : StaysOpenUnlessDiskFails g old new
+    pub quiet : CrashAddsNothing g (store_connection old) (store_connection new)
+    pub wants : memory_refusal_count old ≤ memory_refusal_count new
+    pub over : StoreHasCleanDisk g new → HoldsTables g old → P (archive_in g old) × LeavesRowsUnchanged None (state g (store_connection old)) (state g (store_connection new))
 
-  leaves_looked : {A : Type 0} {old new : Store S} {a : A} {P : Archive → A → Type 0} → Looks g old new (Ok a) P → Leaves old new (λ x. P x a)
+  leaves_looked : {A : Type 0} {old new : Store S} {a : A} {P : Archive → A → Type 0} → ReadsArchive g old new (Ok a) P → Leaves old new (λ x. P x a)
   leaves_looked looks = record { lasts = looks.lasts; quiet = looks.quiet; wants = looks.counted.0; over = looks.over }
 
   leaves_nothing : (old : Store S) → Leaves old old (λ _. ⊤)
   leaves_nothing old = record {
-    lasts = lasts_same (state g (held_of old));
+    lasts = lasts_same (state g (store_connection old));
     quiet = λ clean db may. may;
     wants = omega arith;
     over = λ clean kept. (tt, (kept, refl));
@@ -417,53 +431,58 @@ module _ {S : Type 0} (g : Ghosts S) where
 
   module _ {limit : ℕ} (old new : Store S) (command : Command) where
     -- a question failed
-    pub unlooked : {A : Type 0} {fault : StoreFault} (result : Result Found StoreFault) {P : Archive → A → Type 0}
-        → Looks g old new {A = A} (Err fault) P → IsErrAnd result (λ f. f ≡ fault) → CarriesWithin g old new limit command result
+    pub unlooked : {A : Type 0} {fault : StoreFault} (result : Result CommandFacts StoreFault) {P : Archive → A → Type 0}
+        → ReadsArchive g old new {A = A} (Err fault) P → IsErrAnd result (λ f. f ≡ fault) → ExecutesWithinListLimit g old new limit command result
     unlooked (Ok found) looks is = absurd is
-    unlooked (Err f) looks is = subst (λ f. CarriesWithin g old new limit command (Err f)) (sym is) (record {
+    unlooked (Err f) looks is = subst (λ f. ExecutesWithinListLimit g old new limit command (Err f)) (sym is) (record {
       step = λ clean kept.
-          subst (λ o. Steps (state g (held_of old)) (state g (held_of new)) (λ a. step_within limit a command) (option_map refused o)) (sym looks.fault) (looks.over clean kept);
+          subst (λ o. MatchesModelStep (state g (store_connection old)) (state g (store_connection new)) (λ a. step_within_limit limit a command) (option_map refused o)) (sym looks.fault)
+          (looks.over clean kept);
       crash = λ kept clean db may. inl (looks.quiet clean db may);
       ends = record {
         lasts = looks.lasts;
         was_open = λ clean. tt;
-        kind = subst (λ o. IfSome o (λ why. IsOneOf why (reasons_of command))) (sym looks.fault) tt;
+        kind = subst (λ o. IfSome o (λ why. IsOneOf why (possible_refusals_of command))) (sym looks.fault) tt;
         counted = looks.counted;
         caused = λ clean kept free it. inl (looks.caused clean kept free it);
       };
     })
 
     -- it is refused behind calls that left the archive, by what they found
-    pub turned_down : {P : Archive → Type 0} (found : Found) (fault : StoreFault) → Leaves old new P → Some (option_map refused (refusal fault)) ≡ option_map Some (first_so (tests_of command found))
-        → ((a : Archive) → P a → first_so (tests_of command (found_within limit a command)) ≡ first_so (tests_of command found)) → CarriesWithin g old new limit command (Err fault)
+    pub turned_down : {P : Archive → Type 0} (found : CommandFacts) (fault : StoreFault) → Leaves old new P
+        → Some (option_map refused (refusal_of_fault fault)) ≡ option_map Some (first_passing_reply (guarded_replies_of command found))
+        → ((a : Archive) → P a → first_passing_reply (guarded_replies_of command (command_facts_within_limit limit a command)) ≡ first_passing_reply (guarded_replies_of command found))
+        → ExecutesWithinListLimit g old new limit command (Err fault)
     turned_down found fault leaves is at =
-        let told = reason_told fault (first_so (tests_of command found)) is in
+        let told = reason_told fault (first_passing_reply (guarded_replies_of command found)) is in
         record {
           step = λ clean kept.
               let it = leaves.over clean kept in
-              subst (λ o. Steps (state g (held_of old)) (state g (held_of new)) (λ a. step_within limit a command) (option_map refused o)) (sym told.1)
+              subst (λ o. MatchesModelStep (state g (store_connection old)) (state g (store_connection new)) (λ a. step_within_limit limit a command) (option_map refused o)) (sym told.1)
               (it.1.0, ap (λ a. told_at a (refused told.0)) (archive_stays it.1.1) ∙ sym (told_step limit (archive_in g old) command (refused told.0) (at (archive_in g old) it.0 ∙ told.2)));
           crash = λ kept clean db may. inl (leaves.quiet clean db may);
-          ends = refuses g old new (reasons_of command) _ fault told.0 leaves.lasts leaves.wants told.1 (is_reason command found told.0 told.2);
+          ends = refuses g old new (possible_refusals_of command) _ fault told.0 leaves.lasts leaves.wants told.1 (is_reason command found told.0 told.2);
         }
 
     -- by what was found of it
-    pub refused_by : (found : Found) (fault : StoreFault) (settled : Option Settled) → Looks g old new (Ok found) (λ a f. f ≡ found_within limit a command)
-        → settled ≡ Some (settled_as.Refused fault) → option_map reply_settled settled ≡ option_map Some (first_so (tests_of command found)) → CarriesWithin g old new limit command (Err fault)
+    pub refused_by : (found : CommandFacts) (fault : StoreFault) (settled : Option Settled) → ReadsArchive g old new (Ok found) (λ a f. f ≡ command_facts_within_limit limit a command)
+        → settled ≡ Some (settled_as.Refused fault) → option_map reply_without_write settled ≡ option_map Some (first_passing_reply (guarded_replies_of command found))
+        → ExecutesWithinListLimit g old new limit command (Err fault)
     refused_by found fault settled looks told is =
-        turned_down found fault (leaves_looked looks) (sym (ap (option_map reply_settled) told) ∙ is) (λ a it. ap (λ f. first_so (tests_of command f)) (sym it))
+        turned_down found fault (leaves_looked looks) (sym (ap (option_map reply_without_write) told) ∙ is) (λ a it. ap (λ f. first_passing_reply (guarded_replies_of command f)) (sym it))
 
     -- it is known
-    pub already_there : (found : Found) (settled : Option Settled) → Looks g old new (Ok found) (λ a f. f ≡ found_within limit a command)
-        → settled ≡ Some (settled_as.Known) → option_map reply_settled settled ≡ option_map Some (first_so (tests_of command found)) → CarriesWithin g old new limit command (Ok found)
+    pub already_there : (found : CommandFacts) (settled : Option Settled) → ReadsArchive g old new (Ok found) (λ a f. f ≡ command_facts_within_limit limit a command)
+        → settled ≡ Some (settled_as.Known) → option_map reply_without_write settled ≡ option_map Some (first_passing_reply (guarded_replies_of command found))
+        → ExecutesWithinListLimit g old new limit command (Ok found)
     already_there found settled looks told is =
-        let known = one_of (first_so (tests_of command found)) already_known (sym (ap (option_map reply_settled) told) ∙ is) in
+        let known = one_of (first_passing_reply (guarded_replies_of command found)) already_known (sym (ap (option_map reply_without_write) told) ∙ is) in
         record {
           step = λ clean kept.
               let it = looks.over clean kept in (
                 it.1.0,
-                ap (λ a. told_at a (answer_by command found)) (archive_stays it.1.1) ∙ ap (told_at (archive_in g old)) (answer_known command found known)
-                    ∙ sym (told_step limit (archive_in g old) command already_known (ap (λ f. first_so (tests_of command f)) (sym it.0) ∙ known)),
+                ap (λ a. told_at a (reply_unless_refused command found)) (archive_stays it.1.1) ∙ ap (told_at (archive_in g old)) (answer_known command found known)
+                    ∙ sym (told_step limit (archive_in g old) command already_known (ap (λ f. first_passing_reply (guarded_replies_of command f)) (sym it.0) ∙ known)),
               );
           crash = λ kept clean db may. inl (looks.quiet clean db may);
           ends = record {
@@ -477,70 +496,74 @@ module _ {S : Type 0} (g : Ghosts S) where
 
   -- it is refused by its words, whatever is found
   pub refused_at_once : {limit : ℕ} (old : Store S) (command : Command) (fault : StoreFault)
-      → ((found : Found) → option_map Some (first_so (tests_of command found)) ≡ Some (option_map refused (refusal fault))) → CarriesWithin g old old limit command (Err fault)
+      → ((found : CommandFacts) → option_map Some (first_passing_reply (guarded_replies_of command found)) ≡ Some (option_map refused (refusal_of_fault fault)))
+      → ExecutesWithinListLimit g old old limit command (Err fault)
   refused_at_once {limit = limit} old command fault is =
-      turned_down old old command nothing fault (leaves_nothing old) (sym (is nothing))
-      (λ a it. same_of (first_so (tests_of command (found_within limit a command))) (first_so (tests_of command nothing)) (is (found_within limit a command) ∙ sym (is nothing)))
+      turned_down old old command no_command_facts fault (leaves_nothing old) (sym (is no_command_facts))
+      (λ a it. same_of (first_passing_reply (guarded_replies_of command (command_facts_within_limit limit a command))) (first_passing_reply (guarded_replies_of command no_command_facts))
+      (is (command_facts_within_limit limit a command) ∙ sym (is no_command_facts)))
 
   -- it is written, or not
-  module _ (limit : ℕ) (old mid new : Store S) (command : Command) (found : Found) (looks : Looks g old mid (Ok found) (λ a f. f ≡ found_within limit a command))
-      (none : first_so (tests_of command found) ≡ None) where
+  module _ (limit : ℕ) (old mid new : Store S) (command : Command) (found : CommandFacts) (looks : ReadsArchive g old mid (Ok found) (λ a f. f ≡ command_facts_within_limit limit a command))
+      (none : first_passing_reply (guarded_replies_of command found) ≡ None) where
     abbrev PutsIt : Result ℕ StoreFault → Type 0
-    PutsIt result = Puts g mid new result (IsToWrite command found) (changed_by command) (IsWriteRefused command)
+    PutsIt result = WritesToArchive g mid new result (PassesCommandTests command found) (archive_changed_by command) (IsWriteRefused command)
 
-    still : found ≡ found_within limit (archive_in g old) command → archive_in g mid ≡ archive_in g old → IsToWrite command found (archive_in g mid)
-    still is same = (limit, is ∙ ap (λ a. found_within limit a command) (sym same), none)
+    still : found ≡ command_facts_within_limit limit (archive_in g old) command → archive_in g mid ≡ archive_in g old → PassesCommandTests command found (archive_in g mid)
+    still is same = (limit, is ∙ ap (λ a. command_facts_within_limit limit a command) (sym same), none)
 
-    crashes : (result : Result ℕ StoreFault) → PutsIt result → CrashSteps g (held_of old) (held_of new) (λ a. step_within limit a command)
+    crashes : (result : Result ℕ StoreFault) → PutsIt result → CrashSteps g (store_connection old) (store_connection new) (λ a. step_within_limit limit a command)
     crashes result puts = λ kept clean db may.
         let was = puts.lasts.returned clean in
         let it = looks.over was kept in
         let same = archive_stays it.1.1 in
         elim (puts.crash it.1.0 (still it.0 same) clean db may) [
           | inl before ↦ inl (looks.quiet was db before)
-          | inr made ↦ inr (subst (λ a. IsStored a db) (ap (changed_by command) same ∙ ap (λ (o : Outcome). o.0) (sym (made_step limit (archive_in g old) command found it.0 none))) made)
+          | inr made ↦ inr (subst (λ a. IsArchiveStored a db) (ap (archive_changed_by command) same ∙ ap (λ (o : StepOutcome). o.0)
+              (sym (made_step limit (archive_in g old) command found it.0 none))) made)
         ]
 
-    pub carried_out : (n : ℕ) → PutsIt (Ok n) → CarriesWithin g old new limit command (Ok found)
+    pub carried_out : (n : ℕ) → PutsIt (Ok n) → ExecutesWithinListLimit g old new limit command (Ok found)
     carried_out n puts = record {
       step = λ clean kept.
           let it = looks.over (puts.lasts.returned clean) kept in
           let same = archive_stays it.1.1 in
           let made = puts.over clean it.1.0 (still it.0 same) in (
             made.0,
-            ap (λ a. told_at a (answer_by command found)) (made.1 ∙ ap (changed_by command) same)
-                ∙ ap (told_at (changed_by command (archive_in g old))) (answer_made command found none) ∙ sym (made_step limit (archive_in g old) command found it.0 none),
+            ap (λ a. told_at a (reply_unless_refused command found)) (made.1 ∙ ap (archive_changed_by command) same)
+                ∙ ap (told_at (archive_changed_by command (archive_in g old))) (answer_made command found none) ∙ sym (made_step limit (archive_in g old) command found it.0 none),
           );
       crash = crashes (Ok n) puts;
       ends = record {
-        lasts = lasts_then (state g (held_of old)) (state g (held_of mid)) (state g (held_of new)) looks.lasts puts.lasts;
+        lasts = lasts_then (state g (store_connection old)) (state g (store_connection mid)) (state g (store_connection new)) looks.lasts puts.lasts;
         was_open = λ clean. looks.lasts.stays_shut (puts.lasts.returned clean) (puts.was_open clean);
         kind = tt;
-        counted = raises_after IsWant (wants_of old) (wants_of mid) (wants_of new) (Ok found) looks.counted.0 puts.counted;
+        counted = raises_after IsMemoryRefusal (memory_refusal_count old) (memory_refusal_count mid) (memory_refusal_count new) (Ok found) looks.counted.0 puts.counted;
         caused = λ clean kept free. tt;
       };
     }
 
-    pub unwritten : (fault : StoreFault) (result : Result Found StoreFault) → PutsIt (Err fault) → IsErrAnd result (λ f. f ≡ fault)
-        → CarriesWithin g old new limit command result
+    pub unwritten : (fault : StoreFault) (result : Result CommandFacts StoreFault) → PutsIt (Err fault) → IsErrAnd result (λ f. f ≡ fault)
+        → ExecutesWithinListLimit g old new limit command result
     unwritten fault (Ok f) puts is = absurd is
-    unwritten fault (Err f) puts is = subst (λ f. CarriesWithin g old new limit command (Err f)) (sym is) (record {
+    unwritten fault (Err f) puts is = subst (λ f. ExecutesWithinListLimit g old new limit command (Err f)) (sym is) (record {
       step = λ clean kept.
           let it = looks.over (puts.lasts.returned clean) kept in
-          subst (λ o. Steps (state g (held_of old)) (state g (held_of new)) (λ a. step_within limit a command) (option_map refused o)) (sym puts.fault)
-          (rests_behind None (state g (held_of old)) (state g (held_of mid)) (state g (held_of new)) it.1.1 (puts.over clean it.1.0 (still it.0 (archive_stays it.1.1))));
+          subst (λ o. MatchesModelStep (state g (store_connection old)) (state g (store_connection new)) (λ a. step_within_limit limit a command) (option_map refused o)) (sym puts.fault)
+          (rests_behind None (state g (store_connection old)) (state g (store_connection mid)) (state g (store_connection new)) it.1.1 (puts.over clean it.1.0 (still it.0 (archive_stays it.1.1))));
       crash = crashes (Err fault) puts;
       ends = record {
-        lasts = lasts_then (state g (held_of old)) (state g (held_of mid)) (state g (held_of new)) looks.lasts puts.lasts;
+        lasts = lasts_then (state g (store_connection old)) (state g (store_connection mid)) (state g (store_connection new)) looks.lasts puts.lasts;
         was_open = λ clean. tt;
-        kind = subst (λ o. IfSome o (λ why. IsOneOf why (reasons_of command))) (sym puts.fault) tt;
-        counted = raises_after IsWant (wants_of old) (wants_of mid) (wants_of new) (let r : Result Found StoreFault = Err fault in r) looks.counted.0 puts.counted;
+        kind = subst (λ o. IfSome o (λ why. IsOneOf why (possible_refusals_of command))) (sym puts.fault) tt;
+        counted = raises_after IsMemoryRefusal (memory_refusal_count old) (memory_refusal_count mid) (memory_refusal_count new) (let r : Result CommandFacts StoreFault = Err fault in r)
+            looks.counted.0 puts.counted;
         caused = λ clean kept free why.
             let it = looks.over (puts.lasts.returned clean) kept in
             elim (puts.caused clean it.1.0 (looks.lasts.limit ∙ free) (still it.0 (archive_stays it.1.1)) why) [
-              | inl more ↦ inl (more_since (state g (held_of old)) (state g (held_of mid)) (state g (held_of new)) looks.lasts more)
+              | inl more ↦ inl (more_since (state g (store_connection old)) (state g (store_connection mid)) (state g (store_connection new)) looks.lasts more)
               | inr bad ↦ inr (record {
-                carried = subst (λ (o : Outcome). IsCarried o.1) (sym (made_step limit (archive_in g old) command found it.0 none)) (is_carried command found);
+                carried = subst (λ (o : StepOutcome). IsExecutedReply o.1) (sym (made_step limit (archive_in g old) command found it.0 none)) (is_carried command found);
                 refused = subst (IsWriteRefused command) it.1.1 bad;
               })
             ];
@@ -549,15 +572,16 @@ module _ {S : Type 0} (g : Ghosts S) where
 
   -- ---- a call of its own for each command
 
-  module _ {B : Type 0} {limit : ℕ} (old new : Store S) (command : Command) (f : Found → B) (says : B → Reply) (told : Result Found StoreFault) (result : Result B StoreFault) where
+  module _ {B : Type 0} {limit : ℕ} (old new : Store S) (command : Command) (f : CommandFacts → B) (says : B → CommandReply) (told : Result CommandFacts StoreFault)
+      (result : Result B StoreFault) where
     -- what it says is the machine's answer
-    pub called : result ≡ said f told → ((found : Found) → says (f found) ≡ answer_by command found) → CarriesWithin g old new limit command told
-        → Commands g old new limit command (reply_of says) result
-    called is same it = subst (Commands g old new limit command (reply_of says)) (sym is) (go told it)
+    pub called : result ≡ map_store_result f told → ((found : CommandFacts) → says (f found) ≡ reply_unless_refused command found) → ExecutesWithinListLimit g old new limit command told
+        → ExecutesCommand g old new limit command (reply_of_result says) result
+    called is same it = subst (ExecutesCommand g old new limit command (reply_of_result says)) (sym is) (go told it)
       where
-        go : (told : Result Found StoreFault) → CarriesWithin g old new limit command told → Commands g old new limit command (reply_of says) (said f told)
+        go : (told : Result CommandFacts StoreFault) → ExecutesWithinListLimit g old new limit command told → ExecutesCommand g old new limit command (reply_of_result says) (map_store_result f told)
         go (Ok found) it = record {
-          step = subst (λ (r : Reply). Does g (held_of old) (held_of new) (λ a. step_within limit a command) (Some r)) (sym (same found)) it.step;
+          step = subst (λ (r : CommandReply). PerformsModelStep g (store_connection old) (store_connection new) (λ a. step_within_limit limit a command) (Some r)) (sym (same found)) it.step;
           crash = it.crash;
           ends = record { lasts = it.ends.lasts; was_open = it.ends.was_open; kind = tt; counted = it.ends.counted; caused = λ clean kept free. tt };
         }
@@ -570,16 +594,16 @@ module _ {S : Type 0} (g : Ghosts S) where
 -- ---- what is found
 
 -- of a message
-pub message_found : (list : Bool) (o : Option Message) → found_marks list (option_map marks_of o) ≡ record nothing {
+pub message_found : (list : Bool) (o : Option Message) → facts_from_marks_row list (option_map decoded_marks o) ≡ record no_command_facts {
   list = list;
   message = is_some o;
   withdrawn = is_withdrawn o;
-  embargo = is_embargoed o;
+  embargo = has_embargo o;
 }
 message_found list None = refl
 message_found list (Some m) = refl
 
 -- and of a message that is added
-pub added_is : (held : Bool) → added_reply (added_if held) ≡ (if held then already_known else taken_in)
+pub added_is : (held : Bool) → added_reply (new_or_known held) ≡ (if held then already_known else taken_in)
 added_is true = refl
 added_is false = refl

@@ -7,15 +7,15 @@ use Rattle.std.proofs.lemmas.List.Elements.{All-head, All-tail}
 use Rattle.sqlite_disk.specs.Disk.{MoreFaults}
 use Rattle.sqlite.specs.declared.error.Error.{Error}
 use Rattle.sqlite.specs.State.{State}
-use Rattle.archive_machine.specs.Records.{Message, Address}
-use Rattle.archive_machine.proofs.KeyLemmas.{IsUtf8-key}
-use Rattle.archive_tables.specs.Calls.{Lasts, IsCaused}
-use Rattle.archive_tables.specs.Rows.{no_memory}
+use Rattle.archive_model.specs.Records.{Message, Address}
+use Rattle.archive_model.proofs.KeyLemmas.{IsUtf8-key}
+use Rattle.archive_tables.specs.Calls.{KeepsConnectionUnlessDiskFails, IsMemoryOrDiskError}
+use Rattle.archive_tables.specs.Rows.{out_of_memory_error}
 use Rattle.archive_port.specs.Messages.{IsReadable}
-use Rattle.archive_database.specs.declared.faults.Fault.{Fault}
-use Rattle.archive_database.specs.declared.faults.Fault.TheVariants as inner
-use Rattle.archive_store.specs.Replies.{fault_of}
-use Rattle.archive_database.specs.Faults.{fault_in}
+use Rattle.archive_database.specs.declared.faults.DatabaseError.{DatabaseError}
+use Rattle.archive_database.specs.declared.faults.DatabaseError.TheVariants as inner
+use Rattle.archive_store.specs.Replies.{store_fault_of_error}
+use Rattle.archive_database.specs.Faults.{as_store_fault}
 use Rattle.archive_port.specs.declared.faults.StoreFault.{StoreFault}
 use Rattle.archive_port.specs.declared.faults.StoreFault.TheVariants as faults
 
@@ -28,33 +28,34 @@ passed_on (Err g) f X is why = λ it. why (sym is ∙ it)
 
 -- ---- want of memory is not E15
 
-pub want_is_not : {X : Type 0} (e : Error) → e ≡ no_memory → fault_of e ≡ faults.Store → X
-want_is_not e none it = absurd (let bad : faults.Memory ≡ faults.Store = sym (ap fault_of none) ∙ it in cc)
+pub want_is_not : {X : Type 0} (e : Error) → e ≡ out_of_memory_error → store_fault_of_error e ≡ faults.Store → X
+want_is_not e none it = absurd (let bad : faults.Memory ≡ faults.Store = sym (ap store_fault_of_error none) ∙ it in cc)
 
-pub is_database : (e : Fault) → fault_in e ≡ faults.Store → e ≡ inner.Database
+pub is_database : (e : DatabaseError) → as_store_fault e ≡ faults.Store → e ≡ inner.Database
 is_database inner.Memory it = absurd cc
 is_database inner.Database it = refl
 
 -- ---- a question that failed
 
-pub by_cause : (old new : State) (e : Error) → IsCaused old new e → fault_of e ≡ faults.Store → MoreFaults old.faults new.faults
+pub by_cause : (old new : State) (e : Error) → IsMemoryOrDiskError old new e → store_fault_of_error e ≡ faults.Store → MoreFaults old.faults new.faults
 by_cause old new e (inl none) it = want_is_not e none it
 by_cause old new e (inr more) it = more
 
 -- one that reads no row
-pub by_error : (old new : State) (e : Error) → IsCaused old new e ⊎ ⊥ → fault_of e ≡ faults.Store → MoreFaults old.faults new.faults
+pub by_error : (old new : State) (e : Error) → IsMemoryOrDiskError old new e ⊎ ⊥ → store_fault_of_error e ≡ faults.Store → MoreFaults old.faults new.faults
 by_error old new e (inl why) it = by_cause old new e why it
 by_error old new e (inr none) it = absurd none
 
-pub more_since : (old mid new : State) → Lasts old mid → MoreFaults mid.faults new.faults → MoreFaults old.faults new.faults
+pub more_since : (old mid new : State) → KeepsConnectionUnlessDiskFails old mid → MoreFaults mid.faults new.faults → MoreFaults old.faults new.faults
 more_since old mid new lasts more = omega (arith, more, lasts.shut.faults)
 
 -- one behind others
-pub by_later : (old mid new : State) (e : Error) → Lasts old mid → IsCaused mid new e ⊎ ⊥ → fault_of e ≡ faults.Store → MoreFaults old.faults new.faults
+pub by_later : (old mid new : State) (e : Error) → KeepsConnectionUnlessDiskFails old mid → IsMemoryOrDiskError mid new e ⊎ ⊥ → store_fault_of_error e ≡ faults.Store → MoreFaults old.faults new.faults
 by_later old mid new e lasts why it = more_since old mid new lasts (by_error mid new e why it)
 
 -- an address that cannot be read
-pub by_address : (old mid new : State) (e : Error) (found : Option Address) → Lasts old mid → IsCaused mid new e ⊎ IsSomeAnd found (λ a. ¬ IsUtf8 a.address) → fault_of e ≡ faults.Store
+pub by_address : (old mid new : State) (e : Error) (found : Option Address) → KeepsConnectionUnlessDiskFails old mid → IsMemoryOrDiskError mid new e
+    ⊎ IsSomeAnd found (λ a. ¬ IsUtf8 a.address) → store_fault_of_error e ≡ faults.Store
     → MoreFaults old.faults new.faults ⊎ IsSomeAnd (option_map (λ a. a.address) found) (λ address. ¬ IsUtf8 address)
 by_address old mid new e found lasts (inl why) it = inl (by_later old mid new e lasts (inl why) it)
 by_address old mid new e (Some a) lasts (inr bad) it = inr bad
@@ -74,7 +75,7 @@ not_all P before x rest all is bad each = bad (one_in P before x rest (subst (Al
 
 -- ---- a walk
 
-pub stops_later : (old mid new : State) (given all : List Message) → Lasts old mid
+pub stops_later : (old mid new : State) (given all : List Message) → KeepsConnectionUnlessDiskFails old mid
     → MoreFaults mid.faults new.faults ⊎ ((next : Message) × (rest : List Message) × (given ++ next ∷ rest ≡ all) × (¬ IsReadable next))
     → MoreFaults old.faults new.faults ⊎ (¬ All IsReadable all)
 stops_later old mid new given all lasts (inl more) = inl (more_since old mid new lasts more)

@@ -1,29 +1,29 @@
 -- Worked examples of what a stop of the machine may leave of commands and messages: a beginning of them, and nothing else.
 use Rattle.std.proofs.Common.{◌≡◌, ◌≤◌, ℕ, zero, suc, List, [], ◌∷◌, take, refl, arith, codes, ap}
 use Rattle.mbox_items.specs.Division.{Item}
-use Rattle.archive_machine.specs.Records.{Archive}
-use Rattle.archive_machine.specs.Commands.{Command, add, list_add}
-use Rattle.archive_machine.specs.Machine.{step}
-use Rattle.archive_machine.specs.Runs.{run}
+use Rattle.archive_model.specs.Records.{Archive}
+use Rattle.archive_model.specs.Commands.{Command, add, list_add}
+use Rattle.archive_model.specs.Machine.{step}
+use Rattle.archive_model.specs.Runs.{run}
 use Rattle.archive_tables.specs.Making.{empty_archive}
 use Rattle.archive_port.specs.Adding.{HasAddedAtLeast}
-use Rattle.archive_store.specs.Crashes.{HasRun}
+use Rattle.archive_store.specs.Crashes.{HasRunCommands}
 
 -- ---- commands
 
 abbrev two_lists : List Command
 two_lists = list_add (codes "soc") ∷ list_add (codes "a") ∷ []
 
-none_of_them : HasRun two_lists 0 2 empty_archive empty_archive
+none_of_them : HasRunCommands two_lists 0 2 empty_archive empty_archive
 unfolding run
 none_of_them = (0, omega arith, omega arith, refl)
 
-the_first : HasRun two_lists 0 2 empty_archive (step empty_archive (list_add (codes "soc"))).0
+the_first : HasRunCommands two_lists 0 2 empty_archive (step empty_archive (list_add (codes "soc"))).0
 unfolding run
 the_first = (1, omega arith, omega arith, refl)
 
 -- the second without the first
-never_the_second : HasRun two_lists 0 2 empty_archive (step empty_archive (list_add (codes "a"))).0 → ⊥
+never_the_second : HasRunCommands two_lists 0 2 empty_archive (step empty_archive (list_add (codes "a"))).0 → ⊥
 unfolding run
 never_the_second it = by_number it.0 it.2 it.3
   where
@@ -34,7 +34,7 @@ never_the_second it = by_number it.0 it.2 it.3
     by_number (suc (suc (suc n))) most is = absurd (omega (arith, most))
 
 -- a command more than there are
-never_another : HasRun (list_add (codes "soc") ∷ []) 0 1 empty_archive (run empty_archive two_lists).archive → ⊥
+never_another : HasRunCommands (list_add (codes "soc") ∷ []) 0 1 empty_archive (run empty_archive two_lists).archive → ⊥
 unfolding run
 never_another it = by_number it.0 it.2 it.3
   where

@@ -9,20 +9,20 @@ use Rattle.sqlite.specs.Tree.{Trees}
 use Rattle.sqlite.specs.Store.{Ghosts}
 use Rattle.sqlite.specs.Held.{Held, state}
 use Rattle.sqlite.specs.State.{State, HasCleanDisk}
-use Rattle.archive_machine.specs.Records.{Message, Person, Archive}
-use Rattle.archive_machine.specs.Commands.{Refusal, no_list, no_person}
-use Rattle.archive_machine.specs.Questions.{has_list, has_person, list_refusal, standing_refusal}
-use Rattle.archive_tables.specs.Tables.{IsHeld, IsKept, archive_in, archive_of}
-use Rattle.archive_tables.specs.Calls.{Asks, AsksRows, StaysOver, AnswersOpen, FailsByFaultOr, IsCaused, Rests}
+use Rattle.archive_model.specs.Records.{Message, Person, Archive}
+use Rattle.archive_model.specs.Commands.{Refusal, no_list, no_person}
+use Rattle.archive_model.specs.Questions.{has_list, has_person, list_refusal, standing_refusal}
+use Rattle.archive_tables.specs.Tables.{IsOpenArchive, IsArchiveAtRest, archive_in_trees, archive_of}
+use Rattle.archive_tables.specs.Calls.{AnswersFromDatabase, AnswersFromRows, LeavesRowsUnchanged, AnswersOnlyIfOpen, FailsByFaultOr, IsMemoryOrDiskError, FaultKeepsRows}
 use Rattle.archive_port.specs.Messages.{IsReadable}
-use Rattle.archive_database.specs.declared.faults.Fault.{Fault}
-use Rattle.archive_database.specs.declared.faults.Fault.TheVariants as inner
+use Rattle.archive_database.specs.declared.faults.DatabaseError.{DatabaseError}
+use Rattle.archive_database.specs.declared.faults.DatabaseError.TheVariants as inner
 use Rattle.archive_tables.proofs.CauseLemmas.{answers_none}
 use Rattle.archive_tables.proofs.EndLemmas.{rests_behind}
-use Rattle.archive_port.specs.Replies.{refusal, IsOneOf, RefusedFor}
-use Rattle.archive_database.specs.Faults.{fault_in}
-use Rattle.archive_store.specs.Replies.{Answers}
-use Rattle.archive_store.specs.Told.{EndsAsk, EndsBy, HasFailed}
+use Rattle.archive_port.specs.Replies.{refusal_of_fault, IsOneOf, IsRefusedOnlyFor}
+use Rattle.archive_database.specs.Faults.{as_store_fault}
+use Rattle.archive_store.specs.Replies.{AnswersStoreQuestion}
+use Rattle.archive_store.specs.Told.{EndsQuestion, EndsWithCause, DiskHasFailed}
 use Rattle.archive_store.specs.declared.store.Store.{Store}
 use Rattle.archive_port.specs.declared.faults.StoreFault.{StoreFault}
 use Rattle.archive_port.specs.declared.faults.StoreFault.TheVariants as faults
@@ -31,12 +31,12 @@ use Rattle.archive_store.proofs.CauseLemmas.{by_cause, is_database, passed_on, u
 use Rattle.archive_port.proofs.WantLemmas.{raises_on}
 
 -- what was done on a database, handed on
-abbrev pub PassesFault : {A : Type 0} → Result A Fault → Result A StoreFault → Type 0
-PassesFault told result = MatchResult result (λ found. told ≡ Ok found) (λ fault. IsErrAnd told (λ error. fault ≡ fault_in error))
+abbrev pub PassesFault : {A : Type 0} → Result A DatabaseError → Result A StoreFault → Type 0
+PassesFault told result = MatchResult result (λ found. told ≡ Ok found) (λ fault. IsErrAnd told (λ error. fault ≡ as_store_fault error))
 
 -- only memory or the database was at fault
 abbrev pub HasNoReason : {A : Type 0} → Result A StoreFault → Type 0
-HasNoReason result = IfErr result (λ fault. refusal fault ≡ None)
+HasNoReason result = IfErr result (λ fault. refusal_of_fault fault ≡ None)
 
 -- nothing refuses it
 abbrev pub never : Archive → Option Refusal
@@ -53,14 +53,14 @@ blames (Err fault) all why = λ it. all (why it)
 -- ---- a question on the tables, handed on
 
 module _ {S A : Type 0} (g : Ghosts S) (old new : Held S) (told : Result A Error) (r : Result A StoreFault) where
-  pub answers_passed : (Says : Archive → A → Type 0) (Unread : Type 0) → Passes told r → HasNoReason r → Asks g old new told Says Unread → Answers g old new r never Says
+  pub answers_passed : (Says : Archive → A → Type 0) (Unread : Type 0) → Passes told r → HasNoReason r → AnswersFromDatabase g old new told Says Unread → AnswersStoreQuestion g old new r never Says
   answers_passed Says Unread is none asks = λ clean kept. answer_last g old old new told Says never r is none asks clean (kept, refl) refl
 
   pub blames_passed : (Unread : Type 0) → Passes told r → FailsByFaultOr g old new told Unread
-      → HasCleanDisk (state g new) → IsKept (state g old) → (state g old).step_limit ≡ None → Blames r (MoreFaults (state g old).faults (state g new).faults ⊎ Unread)
+      → HasCleanDisk (state g new) → IsArchiveAtRest (state g old) → (state g old).step_limit ≡ None → Blames r (MoreFaults (state g old).faults (state g new).faults ⊎ Unread)
   blames_passed Unread is caused clean kept free = go told r is (caused clean kept free)
     where
-      go : (t : Result A Error) (r : Result A StoreFault) → Passes t r → IfErr t (λ e. IsCaused (state g old) (state g new) e ⊎ Unread)
+      go : (t : Result A Error) (r : Result A StoreFault) → Passes t r → IfErr t (λ e. IsMemoryOrDiskError (state g old) (state g new) e ⊎ Unread)
           → Blames r (MoreFaults (state g old).faults (state g new).faults ⊎ Unread)
       go t (Ok a) is why = tt
       go (Ok a) (Err fault) is why = absurd is
@@ -68,40 +68,40 @@ module _ {S A : Type 0} (g : Ghosts S) (old new : Held S) (told : Result A Error
 
   -- one that reads no row
   pub blames_disk : Passes told r → FailsByFaultOr g old new told ⊥
-      → HasCleanDisk (state g new) → IsKept (state g old) → (state g old).step_limit ≡ None → Blames r (MoreFaults (state g old).faults (state g new).faults)
+      → HasCleanDisk (state g new) → IsArchiveAtRest (state g old) → (state g old).step_limit ≡ None → Blames r (MoreFaults (state g old).faults (state g new).faults)
   blames_disk is caused clean kept free = blames r (λ why. elim why [ inl more ↦ more | inr bad ↦ absurd bad ]) (blames_passed ⊥ is caused clean kept free)
 
-  pub up_passed : Passes told r → HasNoReason r → AnswersOpen g old new told → HasCleanDisk (state g new)
-      → MatchResult r (λ _. IsTrue (state g old).is_open) (λ fault. MatchOption (refusal fault) ⊤ (λ _. IsTrue (state g old).is_open))
+  pub up_passed : Passes told r → HasNoReason r → AnswersOnlyIfOpen g old new told → HasCleanDisk (state g new)
+      → MatchResult r (λ _. IsTrue (state g old).is_open) (λ fault. MatchOption (refusal_of_fault fault) ⊤ (λ _. IsTrue (state g old).is_open))
   up_passed is none was = λ clean. go r is none (was clean)
     where
       go : (r : Result A StoreFault) → Passes told r → HasNoReason r → OnOk told (IsTrue (state g old).is_open)
-          → MatchResult r (λ _. IsTrue (state g old).is_open) (λ fault. MatchOption (refusal fault) ⊤ (λ _. IsTrue (state g old).is_open))
+          → MatchResult r (λ _. IsTrue (state g old).is_open) (λ fault. MatchOption (refusal_of_fault fault) ⊤ (λ _. IsTrue (state g old).is_open))
       go (Ok a) is none was = subst (λ t. OnOk t (IsTrue (state g old).is_open)) is was
       go (Err fault) is none was = subst (λ o. MatchOption o ⊤ (λ _. IsTrue (state g old).is_open)) (sym none) tt
 
 -- ---- a question on the rows themselves, handed on
 
 module _ {S A : Type 0} {g : Ghosts S} {old new : Held S} where
-  pub passed_rows : {told : Result A Error} {a : A} {Says : Trees → A → Type 0} {Unread : Type 0} → AsksRows g old new told Says Unread → told ≡ Ok a
-      → HasCleanDisk (state g new) → IsKept (state g old) → Says (state g old).now.trees a × ((state g new).now ≡ (state g old).now) × IsHeld None (state g new)
+  pub passed_rows : {told : Result A Error} {a : A} {Says : Trees → A → Type 0} {Unread : Type 0} → AnswersFromRows g old new told Says Unread → told ≡ Ok a
+      → HasCleanDisk (state g new) → IsArchiveAtRest (state g old) → Says (state g old).now.trees a × ((state g new).now ≡ (state g old).now) × IsOpenArchive None (state g new)
   passed_rows {Says = Says} {Unread = Unread} asks is clean kept =
-      let it = (subst (λ t. AsksRows g old new t Says Unread) is asks).over clean None kept in
+      let it = (subst (λ t. AnswersFromRows g old new t Says Unread) is asks).over clean None kept in
       (it.0, it.1.1, it.1.0)
 
-  pub passed_no_rows : (told : Result A Error) (Is : Error → Type 0) {Says : Trees → A → Type 0} {Unread : Type 0} → AsksRows g old new told Says Unread → IsErrAnd told Is
-      → HasCleanDisk (state g new) → IsKept (state g old) → IsTrue (state g new).is_open → ((state g new).now ≡ (state g old).now) × IsHeld None (state g new)
+  pub passed_no_rows : (told : Result A Error) (Is : Error → Type 0) {Says : Trees → A → Type 0} {Unread : Type 0} → AnswersFromRows g old new told Says Unread → IsErrAnd told Is
+      → HasCleanDisk (state g new) → IsArchiveAtRest (state g old) → IsTrue (state g new).is_open → ((state g new).now ≡ (state g old).now) × IsOpenArchive None (state g new)
   passed_no_rows (Ok a) Is asks is = absurd is
   passed_no_rows (Err e) Is asks is = λ clean kept up. let it = asks.over clean None kept up in (it.1, it.0)
 
 -- ---- what was read of rows, handed on
 
-module _ {A : Type 0} (told : Result A Fault) (r : Result A StoreFault) where
+module _ {A : Type 0} (told : Result A DatabaseError) (r : Result A StoreFault) where
   pub answers_read : (Q P : A → Type 0) (R : Refusal → Type 0) {X : Type 0} → PassesFault told r → HasNoReason r → IfOk told Q → ((a : A) → Q a → P a) → X
-      → MatchResult r P (λ fault. MatchOption (refusal fault) X R)
+      → MatchResult r P (λ fault. MatchOption (refusal_of_fault fault) X R)
   answers_read Q P R {X} is none read all rest = go r is none
     where
-      go : (r : Result A StoreFault) → PassesFault told r → HasNoReason r → MatchResult r P (λ fault. MatchOption (refusal fault) X R)
+      go : (r : Result A StoreFault) → PassesFault told r → HasNoReason r → MatchResult r P (λ fault. MatchOption (refusal_of_fault fault) X R)
       go (Ok a) is none = all a (subst (λ t. IfOk t Q) is read)
       go (Err fault) is none = subst (λ o. MatchOption o X R) (sym none) rest
 
@@ -113,46 +113,46 @@ module _ {A : Type 0} (told : Result A Fault) (r : Result A StoreFault) where
       go (Ok a) is = all a (subst (λ t. IfOk t Q) is read)
       go (Err fault) is = rest
 
-  pub blames_read : (Q : Fault → Type 0) {Why : Type 0} → PassesFault told r → IfErr told Q → ((e : Fault) → Q e → e ≡ inner.Database → Why) → Blames r Why
+  pub blames_read : (Q : DatabaseError → Type 0) {Why : Type 0} → PassesFault told r → IfErr told Q → ((e : DatabaseError) → Q e → e ≡ inner.Database → Why) → Blames r Why
   blames_read Q {Why} is unread all = go told r is unread
     where
-      go : (t : Result A Fault) (r : Result A StoreFault) → PassesFault t r → IfErr t Q → Blames r Why
+      go : (t : Result A DatabaseError) (r : Result A StoreFault) → PassesFault t r → IfErr t Q → Blames r Why
       go t (Ok a) is unread = tt
       go (Ok a) (Err fault) is unread = absurd is
       go (Err e) (Err fault) is unread = λ it. all e unread (is_database e (sym is ∙ it))
 
 -- a want of memory is no fault of the database
-pub not_both : {Why : Type 0} (e : Fault) → e ≡ inner.Memory → e ≡ inner.Database → Why
+pub not_both : {Why : Type 0} (e : DatabaseError) → e ≡ inner.Memory → e ≡ inner.Database → Why
 not_both e wants is = absurd (let bad : inner.Memory ≡ inner.Database = sym wants ∙ is in cc)
 
 -- ---- the exit of a `?`
 
 -- a fault that has no reason
-pub no_reason_of : (fault : StoreFault) → IfSome (refusal fault) (λ why. IsOneOf why []) → refusal fault ≡ None
-no_reason_of fault it = go (refusal fault) it
+pub no_reason_of : (fault : StoreFault) → IfSome (refusal_of_fault fault) (λ why. IsOneOf why []) → refusal_of_fault fault ≡ None
+no_reason_of fault it = go (refusal_of_fault fault) it
   where
     go : (o : Option Refusal) → IfSome o (λ why. IsOneOf why []) → o ≡ None
     go None it = refl
     go (Some why) it = absurd it
 
-module _ {A : Type 0} (r : Result A StoreFault) (fault : StoreFault) (is : IsErrAnd r (λ told. told ≡ fault)) (none : refusal fault ≡ None) where
-  pub stops : (P : A → Type 0) (R : Refusal → Type 0) {X : Type 0} → X → MatchResult r P (λ told. MatchOption (refusal told) X R)
+module _ {A : Type 0} (r : Result A StoreFault) (fault : StoreFault) (is : IsErrAnd r (λ told. told ≡ fault)) (none : refusal_of_fault fault ≡ None) where
+  pub stops : (P : A → Type 0) (R : Refusal → Type 0) {X : Type 0} → X → MatchResult r P (λ told. MatchOption (refusal_of_fault told) X R)
   stops P R {X} rest = go r is
     where
-      go : (r : Result A StoreFault) → IsErrAnd r (λ told. told ≡ fault) → MatchResult r P (λ told. MatchOption (refusal told) X R)
+      go : (r : Result A StoreFault) → IsErrAnd r (λ told. told ≡ fault) → MatchResult r P (λ told. MatchOption (refusal_of_fault told) X R)
       go (Ok a) is = absurd is
-      go (Err told) is = subst (λ o. MatchOption o X R) (sym (ap refusal is ∙ none)) rest
+      go (Err told) is = subst (λ o. MatchOption o X R) (sym (ap refusal_of_fault is ∙ none)) rest
 
-  pub stops_for : (whys : List Refusal) → RefusedFor r whys
+  pub stops_for : (whys : List Refusal) → IsRefusedOnlyFor r whys
   stops_for whys = go r is
     where
-      go : (r : Result A StoreFault) → IsErrAnd r (λ told. told ≡ fault) → RefusedFor r whys
+      go : (r : Result A StoreFault) → IsErrAnd r (λ told. told ≡ fault) → IsRefusedOnlyFor r whys
       go (Ok a) is = tt
-      go (Err told) is = subst (λ o. IfSome o (λ why. IsOneOf why whys)) (sym (ap refusal is ∙ none)) tt
+      go (Err told) is = subst (λ o. IfSome o (λ why. IsOneOf why whys)) (sym (ap refusal_of_fault is ∙ none)) tt
 
 -- behind the first question of a call, which is refused for no reason
 pub ends_first : {S A B : Type 0} (g : Ghosts S) (old new : Store S) (r : Result A StoreFault) (fault : StoreFault) → IsErrAnd r (λ told. told ≡ fault)
-    → EndsAsk g old new {A = B} (Err fault) [] → {Cause : Type 0} → (HasFailed g old new → Cause) → (whys : List Refusal) → EndsBy g old new Cause r whys
+    → EndsQuestion g old new {A = B} (Err fault) [] → {Cause : Type 0} → (DiskHasFailed g old new → Cause) → (whys : List Refusal) → EndsWithCause g old new Cause r whys
 ends_first {B = B} g old new r fault is ends because whys = record {
   lasts = ends.lasts;
   was_open = λ returned. answers_none r _ _ is;
@@ -164,11 +164,11 @@ ends_first {B = B} g old new r fault is ends because whys = record {
 -- ---- one question behind another
 
 -- what has no reason says what it leaves
-pub rests_of : (fault : StoreFault) (Y : Refusal → Type 0) {X : Type 0} → refusal fault ≡ None → MatchOption (refusal fault) X Y → X
+pub rests_of : (fault : StoreFault) (Y : Refusal → Type 0) {X : Type 0} → refusal_of_fault fault ≡ None → MatchOption (refusal_of_fault fault) X Y → X
 rests_of fault Y {X} none it = subst (λ o. MatchOption o X Y) none it
 
-pub rests_later : (old mid new : State) → archive_of mid ≡ archive_of old → (IsTrue new.is_open → IsKept new × (archive_of new ≡ archive_of mid))
-    → IsTrue new.is_open → IsKept new × (archive_of new ≡ archive_of old)
+pub rests_later : (old mid new : State) → archive_of mid ≡ archive_of old → (IsTrue new.is_open → IsArchiveAtRest new × (archive_of new ≡ archive_of mid))
+    → IsTrue new.is_open → IsArchiveAtRest new × (archive_of new ≡ archive_of old)
 rests_later old mid new same rests = λ up. let it = rests up in (it.0, it.1 ∙ same)
 
 -- a list that is not there
@@ -191,13 +191,14 @@ why_not list a why is = go (has_list a list) is
     go false is = (cc, refl)
 
 -- a list that is not counted
-pub not_counted : (old mid new : State) (list : List ℕ) (o : Option Refusal) → mid.now ≡ old.now → Rests mid new
-    → MatchOption o (IsTrue new.is_open → IsKept new × (archive_of new ≡ archive_of mid)) (λ why. (IsKept new × (archive_of new ≡ archive_of mid)) × (list_refusal (archive_of mid) list ≡ Some why))
-    → MatchOption o (Rests old new) (λ why. StaysOver None old new × (why ≡ no_list) × (has_list (archive_of old) list ≡ false))
+pub not_counted : (old mid new : State) (list : List ℕ) (o : Option Refusal) → mid.now ≡ old.now → FaultKeepsRows mid new
+    → MatchOption o (IsTrue new.is_open → IsArchiveAtRest new × (archive_of new ≡ archive_of mid))
+    (λ why. (IsArchiveAtRest new × (archive_of new ≡ archive_of mid)) × (list_refusal (archive_of mid) list ≡ Some why))
+    → MatchOption o (FaultKeepsRows old new) (λ why. LeavesRowsUnchanged None old new × (why ≡ no_list) × (has_list (archive_of old) list ≡ false))
 not_counted old mid new list None same rests it = rests_behind None old mid new same rests
 not_counted old mid new list (Some why) same rests it =
     let is = why_not list (archive_of mid) why it.1 in
-    (rests_behind None old mid new same rests it.0.0.is_open, is.0, subst (λ (db : Database). has_list (archive_in db.trees) list ≡ false) same is.1)
+    (rests_behind None old mid new same rests it.0.0.is_open, is.0, subst (λ (db : Database). has_list (archive_in_trees db.trees) list ≡ false) same is.1)
 
 -- of a standing
 pub no_such_person : (person list : List ℕ) (a : Archive) → false ≡ has_person a person → standing_refusal a person list ≡ Some no_person

@@ -4,8 +4,8 @@ use Rattle.std.specs.Prelude.{Bool, option_map}
 use Rattle.std.specs.Option.{option_map_or}
 use Rattle.std.specs.List.{All}
 use Rattle.std.proofs.lemmas.List.Elements.{filter_passes}
-use Rattle.archive_machine.specs.Records.{Message, ListOption, Archive}
-use Rattle.archive_machine.specs.Questions.{has_list, has_person, list_refusal, person_refusal, messages_in}
+use Rattle.archive_model.specs.Records.{Message, ListOption, Archive}
+use Rattle.archive_model.specs.Questions.{has_list, has_person, list_refusal, person_refusal, messages_in}
 
 -- messages of this list alone
 abbrev pub AreOf : List ℕ → List Message → Type 0

@@ -15,16 +15,16 @@ use Rattle.sqlite.specs.State.{IsLive}
 use Rattle.sqlite.specs.Files.{file_state, Finds, IsOpened}
 use Rattle.sqlite.specs.Closing.{IsCopied}
 use Rattle.sqlite.proofs.Callers.{finds_again}
-use Rattle.archive_machine.specs.Records.{Archive}
-use Rattle.archive_tables.specs.Tables.{IsKept, AreTables, archive_of, archive_in}
-use Rattle.archive_store.specs.Held.{held_of}
+use Rattle.archive_model.specs.Records.{Archive}
+use Rattle.archive_tables.specs.Tables.{IsArchiveAtRest, AreArchiveTables, archive_of, archive_in_trees}
+use Rattle.archive_store.specs.Held.{store_connection}
 use Rattle.archive_store.specs.Told.{HoldsArchive, IsReady, archive_in as now_holds}
 use Rattle.archive_store.specs.declared.store.Store.{Store}
 use Rattle.archive_store.proofs.Joins.{ready_with}
 
 pub kept_again : {D : Type 0} {g : Ghosts D} (old new : Held (FileStore D g)) (files : Files D)
-    → IsKept (file_state old) → IsLive (file_state old) → (AreClean g files.log files.db → IsCopied old files) → Finds files new → IsOpened new
-    → IsKept (file_state new) × (archive_of (file_state new) ≡ archive_of (file_state old))
+    → IsArchiveAtRest (file_state old) → IsLive (file_state old) → (AreClean g files.log files.db → IsCopied old files) → Finds files new → IsOpened new
+    → IsArchiveAtRest (file_state new) × (archive_of (file_state new) ≡ archive_of (file_state old))
 kept_again old new files kept live closed found opened =
     let trees : (file_state new).now.trees ≡ (file_state old).now.trees =
     ap (λ (db : Database). db.trees) opened.0.clean ∙ finds_again old new files closed found ∙ ap (λ (db : Database). db.trees) kept.settled in
@@ -36,15 +36,15 @@ kept_again old new files kept live closed found opened =
         autocommit = opened.0.autocommit;
         settled = sym opened.0.clean;
         schema = schema ∙ kept.schema;
-        tables = subst AreTables (sym trees) kept.tables;
+        tables = subst AreArchiveTables (sym trees) kept.tables;
         whole = tt;
       },
-      ap archive_in trees,
+      ap archive_in_trees trees,
     )
 
 -- a connection that holds an archive, and is adopted
 pub adopted_ready : {S : Type 0} (g : StoreGhosts S) (connection : Held S) (store : Store S) (archive : Archive) → HoldsArchive g connection archive
-    → (IsKept (state g connection) → IsKept (state g (held_of store)) × (archive_of (state g (held_of store)) ≡ archive_of (state g connection)))
+    → (IsArchiveAtRest (state g connection) → IsArchiveAtRest (state g (store_connection store)) × (archive_of (state g (store_connection store)) ≡ archive_of (state g connection)))
     → IsReady g store × (now_holds g store ≡ archive)
 adopted_ready g connection store archive holds found =
     let it = found holds.0 in

@@ -5,24 +5,24 @@ use Rattle.sqlite.specs.Effect.{Database}
 use Rattle.sqlite.specs.Store.{Ghosts}
 use Rattle.sqlite.specs.Held.{Held, state}
 use Rattle.sqlite.specs.State.{HasCleanDisk}
-use Rattle.archive_machine.specs.Records.{Archive}
-use Rattle.archive_machine.specs.Commands.{Reply}
-use Rattle.archive_machine.specs.Machine.{Outcome}
-use Rattle.archive_tables.specs.Tables.{IsKept, archive_in, archive_of}
-use Rattle.archive_tables.specs.Calls.{Changes, StaysOver}
+use Rattle.archive_model.specs.Records.{Archive}
+use Rattle.archive_model.specs.Commands.{CommandReply}
+use Rattle.archive_model.specs.Machine.{StepOutcome}
+use Rattle.archive_tables.specs.Tables.{IsArchiveAtRest, archive_in_trees, archive_of}
+use Rattle.archive_tables.specs.Calls.{CommitsChange, LeavesRowsUnchanged}
 use Rattle.archive_tables.proofs.EndLemmas.{archive_stays}
-use Rattle.archive_store.specs.Replies.{Does}
+use Rattle.archive_store.specs.Replies.{PerformsModelStep}
 
 -- the rows are as they were, and this was found of them
 pub record Known {S : Type 0} (g : Ghosts S) (old new : Held S) (P : Archive → Type 0) : Type 0 where
   pub clean : HasCleanDisk (state g old)
-  pub kept : IsKept (state g new)
+  pub kept : IsArchiveAtRest (state g new)
   pub same : (state g new).now ≡ (state g old).now
   pub fact : P (archive_of (state g old))
 
 module _ {S : Type 0} (g : Ghosts S) where
   abbrev pub Learns : Held S → Held S → (Archive → Type 0) → Type 0
-  Learns old new P = HasCleanDisk (state g new) → IsKept (state g old) → Known g old new P
+  Learns old new P = HasCleanDisk (state g new) → IsArchiveAtRest (state g old) → Known g old new P
 
   -- a disk that has returned what was written so far had done so before
   abbrev WasClean : Held S → Held S → Type 0
@@ -33,25 +33,25 @@ module _ {S : Type 0} (g : Ghosts S) where
 
   -- a question that is answered
   pub asks : (old mid new : Held S) (P Q : Archive → Type 0) → Learns old mid P → WasClean mid new
-      → (HasCleanDisk (state g new) → IsKept (state g mid) → Q (archive_of (state g mid)) × StaysOver None (state g mid) (state g new))
+      → (HasCleanDisk (state g new) → IsArchiveAtRest (state g mid) → Q (archive_of (state g mid)) × LeavesRowsUnchanged None (state g mid) (state g new))
       → Learns old new (λ a. P a × Q a)
   asks old mid new P Q before was found = λ clean kept.
       let k = before (was clean) kept in
       let it = found clean k.kept in
-      record { clean = k.clean; kept = it.1.0; same = it.1.1 ∙ k.same; fact = (k.fact, subst (λ (db : Database). Q (archive_in db.trees)) k.same it.0) }
+      record { clean = k.clean; kept = it.1.0; same = it.1.1 ∙ k.same; fact = (k.fact, subst (λ (db : Database). Q (archive_in_trees db.trees)) k.same it.0) }
 
   -- a refusal, or an answer that changes nothing
-  pub answers : (old new : Held S) (P : Archive → Type 0) (step : Archive → Outcome) (reply : Reply) → Learns old new P
-      → ((a : Archive) → P a → step a ≡ (a, reply)) → Does g old new step (Some reply)
+  pub answers : (old new : Held S) (P : Archive → Type 0) (step : Archive → StepOutcome) (reply : CommandReply) → Learns old new P
+      → ((a : Archive) → P a → step a ≡ (a, reply)) → PerformsModelStep g old new step (Some reply)
   answers old new P step reply learnt is = λ clean kept.
       let k = learnt clean kept in
       (k.kept, ap (λ a. (a, reply)) (archive_stays k.same) ∙ sym (is (archive_of (state g old)) k.fact))
 
   -- a write that succeeds
-  pub writes : (old mid new : Held S) (P : Archive → Type 0) (step : Archive → Outcome) (reply : Reply) (change : Archive → Archive)
+  pub writes : (old mid new : Held S) (P : Archive → Type 0) (step : Archive → StepOutcome) (reply : CommandReply) (change : Archive → Archive)
       → Learns old mid P → WasClean mid new
-      → (HasCleanDisk (state g new) → IsKept (state g mid) → Changes (state g mid) (state g new) change)
-      → ((a : Archive) → P a → step a ≡ (change a, reply)) → Does g old new step (Some reply)
+      → (HasCleanDisk (state g new) → IsArchiveAtRest (state g mid) → CommitsChange (state g mid) (state g new) change)
+      → ((a : Archive) → P a → step a ≡ (change a, reply)) → PerformsModelStep g old new step (Some reply)
   writes old mid new P step reply change learnt was does is = λ clean kept.
       let k = learnt (was clean) kept in
       let w = does clean k.kept in

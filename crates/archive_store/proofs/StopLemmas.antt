@@ -9,13 +9,13 @@ use Rattle.sqlite.specs.Store.{Ghosts}
 use Rattle.sqlite.specs.Held.{Held, state}
 use Rattle.sqlite.specs.State.{State, HasCleanDisk}
 use Rattle.mbox_items.specs.Division.{Item}
-use Rattle.archive_machine.specs.Records.{Archive}
-use Rattle.archive_machine.specs.Commands.{Reply, add}
-use Rattle.archive_machine.specs.Machine.{Outcome, added_within, message_limit}
-use Rattle.archive_tables.specs.Tables.{archive_in}
-use Rattle.archive_tables.specs.Calls.{Asks, AsksAnywhere, IsCaused, Lasts}
-use Rattle.archive_store.specs.Replies.{fault_of}
-use Rattle.archive_store.specs.Refusals.{IsCarried, IsCommandRefused, MakeRows, StopsAmong, WritesFor}
+use Rattle.archive_model.specs.Records.{Archive}
+use Rattle.archive_model.specs.Commands.{CommandReply, add}
+use Rattle.archive_model.specs.Machine.{StepOutcome, add_within_limit, message_limit}
+use Rattle.archive_tables.specs.Tables.{archive_in_trees}
+use Rattle.archive_tables.specs.Calls.{AnswersFromDatabase, AnswersOrFailsByFault, IsMemoryOrDiskError, KeepsConnectionUnlessDiskFails}
+use Rattle.archive_store.specs.Replies.{store_fault_of_error}
+use Rattle.archive_store.specs.Refusals.{IsExecutedReply, IsCommandRefused, MakeRows, RowsRefuseAnItem, WritesMessageIfAdded}
 use Rattle.archive_port.specs.declared.faults.StoreFault.{StoreFault}
 use Rattle.archive_port.specs.declared.faults.StoreFault.TheVariants as faults
 use Rattle.archive_store.proofs.CauseLemmas.{by_cause}
@@ -23,7 +23,8 @@ use Rattle.archive_store.proofs.CauseLemmas.{by_cause}
 -- ---- a question
 
 -- outside a transaction
-pub outside : {S A : Type 0} {g : Ghosts S} {old new : Held S} {result : Result A Error} {Says : Archive → A → Type 0} → AsksAnywhere g old new result Says → Asks g old new result Says ⊥
+pub outside : {S A : Type 0} {g : Ghosts S} {old new : Held S} {result : Result A Error} {Says : Archive → A → Type 0} → AnswersOrFailsByFault g old new result Says
+    → AnswersFromDatabase g old new result Says ⊥
 outside {S} {A} {g} {old} {new} {result} {Says} it = record {
   over = it.over;
   caused = λ clean kept free. either result (it.caused clean None kept free);
@@ -32,11 +33,11 @@ outside {S} {A} {g} {old} {new} {result} {Says} it = record {
   ends = it.ends;
 }
   where
-    either : (r : Result A Error) → IfErr r (λ e. IsCaused (state g old) (state g new) e) → IfErr r (λ e. IsCaused (state g old) (state g new) e ⊎ ⊥)
+    either : (r : Result A Error) → IfErr r (λ e. IsMemoryOrDiskError (state g old) (state g new) e) → IfErr r (λ e. IsMemoryOrDiskError (state g old) (state g new) e ⊎ ⊥)
     either (Ok a) why = tt
     either (Err e) why = inl why
 
-pub blame_disk : {A : Type 0} (old new : State) (told : Result A Error) (fault : StoreFault) → IsErrAnd told (λ e. fault ≡ fault_of e) → IfErr told (λ e. IsCaused old new e)
+pub blame_disk : {A : Type 0} (old new : State) (told : Result A Error) (fault : StoreFault) → IsErrAnd told (λ e. fault ≡ store_fault_of_error e) → IfErr told (λ e. IsMemoryOrDiskError old new e)
     → fault ≡ faults.Store → MoreFaults old.faults new.faults
 blame_disk old new (Ok a) fault is why it = absurd is
 blame_disk old new (Err e) fault is why it = by_cause old new e why (sym is ∙ it)
@@ -48,8 +49,8 @@ stopped_by Y (Ok a) f X is why = absurd is
 stopped_by Y (Err h) f X is why = λ it. why (sym is ∙ it)
 
 -- what the machine answers is known
-pub carried_as : (o p : Outcome) → o ≡ p → IsCarried p.1 → IsCarried o.1
-carried_as o p is so = subst (λ (r : Reply). IsCarried r) (sym (ap (λ (x : Outcome). x.1) is)) so
+pub carried_as : (o p : StepOutcome) → o ≡ p → IsExecutedReply p.1 → IsExecutedReply o.1
+carried_as o p is so = subst (λ (r : CommandReply). IsExecutedReply r) (sym (ap (λ (x : StepOutcome). x.1) is)) so
 
 -- who is answered behind a question sees what was seen before it
 pub same_since : {A E : Type 0} (old mid new : State) (r : Result A E) → mid.now ≡ old.now → OnOk r (new.now ≡ mid.now) → OnOk r (new.now ≡ old.now)
@@ -59,9 +60,14 @@ same_since old mid new (Err e) before is = tt
 -- ---- one item more
 
 rows_more : (list : List ℕ) (items : List Item) (item : Item) (first mid after : Database) → MakeRows list items first mid
-    → WritesFor list item (added_within message_limit (archive_in mid.trees) list item).1 mid after → MakeRows list (items ++ item ∷ []) first after
+    → WritesMessageIfAdded list item (add_within_limit message_limit (archive_in_trees mid.trees) list item).1 mid after → MakeRows list (items ++ item ∷ []) first after
 unfolding MakeRows
-rows_more list [] item first mid after made more = (after, subst (λ (db : Database). WritesFor list item (added_within message_limit (archive_in db.trees) list item).1 db after) made more, refl)
+rows_more list [] item first mid after made more = (
+  after,
+  subst (λ (db : Database). WritesMessageIfAdded list item (add_within_limit message_limit (archive_in_trees db.trees) list item).1
+      db after) made more,
+  refl,
+)
 rows_more list (x ∷ xs) item first mid after made more = (made.0, made.1, rows_more list xs item made.0 mid after made.2 more)
 
 pub no_rows : (list : List ℕ) (db : Database) → MakeRows list [] db db
@@ -76,13 +82,14 @@ module _ (list : List ℕ) (items : List Item) (i : ℕ) (item : Item) (within :
       ap (λ n. take n items) on ∙ take-suc items i item within ∙ ap (λ x. take i items ++ x ∷ []) (sym is)
 
   -- the rows are those that the machine's answer says
-  pub rows_next : (reply : Reply) (a after : Archive) (new : Database) → a ≡ archive_in mid.trees → ((after, reply) ≡ added_within message_limit a list item) → WritesFor list item reply mid new
+  pub rows_next : (reply : CommandReply) (a after : Archive) (new : Database) → a ≡ archive_in_trees mid.trees → ((after, reply) ≡ add_within_limit message_limit a list item)
+      → WritesMessageIfAdded list item reply mid new
       → MakeRows list (take (i + 1) items) first new
   rows_next reply a after new same answer writes =
-      let told = ap (λ (o : Outcome). o.1) answer ∙ ap (λ x. (added_within message_limit x list item).1) same in
-      subst (λ xs. MakeRows list xs first new) (sym one_more) (rows_more list (take i items) item first mid new made (subst (λ r. WritesFor list item r mid new) told writes))
+      let told = ap (λ (o : StepOutcome). o.1) answer ∙ ap (λ x. (add_within_limit message_limit x list item).1) same in
+      subst (λ xs. MakeRows list xs first new) (sym one_more) (rows_more list (take i items) item first mid new made (subst (λ r. WritesMessageIfAdded list item r mid new) told writes))
 
-  pub stops_there : IsCommandRefused (add list item) mid → StopsAmong list items first
+  pub stops_there : IsCommandRefused (add list item) mid → RowsRefuseAnItem list items first
   stops_there stopped = record {
     before = take i items;
     item = item;
@@ -104,7 +111,7 @@ among_later items from at item order is =
 -- ---- rows that a fault left
 
 -- They are those that were there, or the disk failed.
-pub left_or_failed : (first last : State) (P : Database → Type 0) → Lasts first last → HasCleanDisk last → IsTrue first.is_open → (IsTrue last.is_open → last.now ≡ first.now)
+pub left_or_failed : (first last : State) (P : Database → Type 0) → KeepsConnectionUnlessDiskFails first last → HasCleanDisk last → IsTrue first.is_open → (IsTrue last.is_open → last.now ≡ first.now)
     → P first.now → MoreFaults first.faults last.faults ⊎ P last.now
 left_or_failed first last P lasts clean was same it = elim (lasts.shut.stays_open clean was) [
   | inl up ↦ inr (subst P (sym (same up)) it)

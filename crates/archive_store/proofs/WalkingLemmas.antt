@@ -10,37 +10,39 @@ use Rattle.std.specs.Ordering.{int_eq}
 use Rattle.std.proofs.lemmas.Bool.{cases_Bool}
 use Rattle.std.proofs.lemmas.List.{drop_more, drop_all, map-append}
 use Rattle.std.proofs.lemmas.Slice.Eq.{bytes_eq-Decides}
-use Rattle.archive_machine.specs.Records.{Message, Archive}
-use Rattle.archive_machine.specs.Commands.{Refusal}
-use Rattle.archive_machine.specs.Questions.{list_refusal, messages_in}
-use Rattle.archive_machine.specs.Messages.{remembered}
-use Rattle.archive_machine.specs.Filing.{Filed, filed, is_sent_before, with_filed, by_filed_date, is_filed_in_month, is_filed_by_author, in_month, by_author}
-use Rattle.archive_machine.specs.declared.messages.Message.{Message as Given}
+use Rattle.archive_model.specs.Records.{Message, Archive}
+use Rattle.archive_model.specs.Commands.{Refusal}
+use Rattle.archive_model.specs.Questions.{list_refusal, messages_in}
+use Rattle.archive_model.specs.Messages.{archived_message}
+use Rattle.archive_model.specs.Filing.{IndexedMessage, indexed_messages, is_sent_before, insert_by_indexed_date}
+use Rattle.archive_model.specs.Filing.{sort_by_indexed_date, is_indexed_in_month, is_indexed_by_author, messages_in_month, messages_by_author}
+use Rattle.archive_model.specs.declared.messages.Message.{Message as Given}
 use Rattle.sqlite.specs.Effect.{Database}
 use Rattle.sqlite.specs.Tree.{Trees}
 use Rattle.sqlite.specs.Store.{Ghosts}
 use Rattle.sqlite.specs.Held.{state}
-use Rattle.archive_port.specs.Messages.{AreMarksOf, IsReadable}
+use Rattle.archive_port.specs.Messages.{AreDatedMarksOf, IsReadable}
 use Rattle.archive_port.specs.declared.marks.DatedMarks.{DatedMarks}
-use Rattle.archive_tables.specs.Rows.{dated_marks_of, message_at}
+use Rattle.archive_tables.specs.Rows.{decoded_dated_marks, message_at}
 use Rattle.archive_tables.specs.declared.rows.DatedMarksRow.{DatedMarksRow}
-use Rattle.archive_tables.specs.Tables.{AreTables, archive_in}
+use Rattle.archive_tables.specs.Tables.{AreArchiveTables, archive_in_trees}
 use Rattle.archive_tables.proofs.LastLemmas.{lasts_then}
 use Rattle.archive_tables.proofs.WalkLemmas.{walked}
 use Rattle.archive_tables.proofs.FiledLemmas.{walked_month, walked_author}
-use Rattle.archive_port.specs.Replies.{refusal}
-use Rattle.archive_store.specs.Replies.{Answers}
-use Rattle.archive_store.specs.Held.{held_of}
-use Rattle.archive_store.specs.Told.{HoldsTables, HasReturned, HadReturned, CausedOr, EndsAsk, EndsAskOr, EndsUnrefused, archive_in as now_holds}
-use Rattle.archive_port.specs.Wanting.{IsWant}
+use Rattle.archive_port.specs.Replies.{refusal_of_fault}
+use Rattle.archive_store.specs.Replies.{AnswersStoreQuestion}
+use Rattle.archive_store.specs.Held.{store_connection}
+use Rattle.archive_store.specs.Told.{HoldsTables, StoreHasCleanDisk, HadCleanDisk, E15MeansDiskFailedOr, EndsQuestion, EndsQuestionOrUnreadable, EndsUnrefused, archive_in as now_holds}
+use Rattle.archive_port.specs.Wanting.{IsMemoryRefusal}
 use Rattle.archive_store.proofs.CauseLemmas.{more_since}
 use Rattle.archive_store.proofs.FollowLemmas.{when_ok}
 use Rattle.archive_store.proofs.PassLemmas.{kind_last}
 use Rattle.archive_port.proofs.WantLemmas.{raises_after}
-use Rattle.archive_store.specs.Walking.{Walk, WalksOn, WalksOver, BeginsOver, GivesAll, StopsAll, ahead_of, now_in, over, rows_of, selected, selected_places}
+use Rattle.archive_store.specs.Walking.{Walk, WalksOn, WalksOver, BeginsOver, GivesAll, E15MeansSomeUnreadable}
+use Rattle.archive_store.specs.Walking.{remaining_numbers, current_database, walk_over_store, current_rows, selected_messages, selected_numbers}
 use Rattle.archive_store.specs.declared.walking.Selection.{Selection}
 use Rattle.archive_store.specs.declared.walking.Selection.TheVariants.{Every, InMonth, ByAuthor}
-use Rattle.archive_store.specs.declared.walking.EachRow.{EachRow}
+use Rattle.archive_store.specs.declared.walking.MessageWalk.{MessageWalk}
 use Rattle.archive_store.specs.declared.store.Store.{Store}
 use Rattle.archive_port.specs.declared.faults.StoreFault.{StoreFault}
 
@@ -103,11 +105,11 @@ same_behind [] xs ys is = is
 same_behind (g ∷ given) xs ys is = same_behind given xs ys (cc)
 
 -- the message whose marks were shown, and none where none were
-pub marks_held : (found : Option Message) (row : DatedMarksRow) → Some row ≡ option_map dated_marks_of found → (m : Message) × (found ≡ Some m) × (row ≡ dated_marks_of m)
+pub marks_held : (found : Option Message) (row : DatedMarksRow) → Some row ≡ option_map decoded_dated_marks found → (m : Message) × (found ≡ Some m) × (row ≡ decoded_dated_marks m)
 marks_held None row is = absurd cc
 marks_held (Some m) row is = (m, refl, cc)
 
-pub no_marks_held : (found : Option Message) → None ≡ option_map dated_marks_of found → found ≡ None
+pub no_marks_held : (found : Option Message) → None ≡ option_map decoded_dated_marks found → found ≡ None
 no_marks_held None is = refl
 no_marks_held (Some m) is = absurd cc
 
@@ -136,53 +138,53 @@ mailbox_of_list list a = kept_of_list list a.messages
 
 -- the same of what is filed
 
-abbrev AreFiledOf : List ℕ → List Filed → Type 0
-AreFiledOf list = AllByRecursion (λ (f : Filed). bytes_eq f.0.list list ≡ true)
+abbrev AreFiledOf : List ℕ → List IndexedMessage → Type 0
+AreFiledOf list = AllByRecursion (λ (f : IndexedMessage). bytes_eq f.0.list list ≡ true)
 
-with_of_list : (list : List ℕ) (f : Filed) (fs : List Filed) → bytes_eq f.0.list list ≡ true → AreFiledOf list fs → AreFiledOf list (with_filed f fs)
+with_of_list : (list : List ℕ) (f : IndexedMessage) (fs : List IndexedMessage) → bytes_eq f.0.list list ≡ true → AreFiledOf list fs → AreFiledOf list (insert_by_indexed_date f fs)
 with_of_list list f [] one all = (one, tt)
 with_of_list list f (g ∷ fs) one all = elim (cases_Bool (is_sent_before g f)) [
   | inl before ↦ rw before (all.0, with_of_list list f fs one all.1)
   | inr after ↦ rw after (one, all)
 ]
 
-sorted_of_list : (list : List ℕ) (fs : List Filed) → AreFiledOf list fs → AreFiledOf list (by_filed_date fs)
+sorted_of_list : (list : List ℕ) (fs : List IndexedMessage) → AreFiledOf list fs → AreFiledOf list (sort_by_indexed_date fs)
 sorted_of_list list [] all = tt
-sorted_of_list list (f ∷ fs) all = with_of_list list f (by_filed_date fs) all.0 (sorted_of_list list fs all.1)
+sorted_of_list list (f ∷ fs) all = with_of_list list f (sort_by_indexed_date fs) all.0 (sorted_of_list list fs all.1)
 
 first_of : (a b : Bool) → (a && b) ≡ true → a ≡ true
 first_of true b h = refl
 first_of false b h = absurd cc
 
-wanted_of_list : (list : List ℕ) (test : Filed → Bool) (fs : List Filed) → AreFiledOf list (filter (λ (f : Filed). bytes_eq f.0.list list && test f) fs)
+wanted_of_list : (list : List ℕ) (test : IndexedMessage → Bool) (fs : List IndexedMessage) → AreFiledOf list (filter (λ (f : IndexedMessage). bytes_eq f.0.list list && test f) fs)
 wanted_of_list list test [] = tt
 wanted_of_list list test (f ∷ fs) = elim (cases_Bool (bytes_eq f.0.list list && test f)) [
   | inl kept ↦ rw kept (first_of (bytes_eq f.0.list list) (test f) kept, wanted_of_list list test fs)
   | inr dropped ↦ rw dropped (wanted_of_list list test fs)
 ]
 
-messages_of_list : (list : List ℕ) (fs : List Filed) → AreFiledOf list fs → AreOfList list (map (λ (f : Filed). f.0) fs)
+messages_of_list : (list : List ℕ) (fs : List IndexedMessage) → AreFiledOf list fs → AreOfList list (map (λ (f : IndexedMessage). f.0) fs)
 messages_of_list list [] all = tt
 messages_of_list list (f ∷ fs) all = (all.0, messages_of_list list fs all.1)
 
-month_of_list : (list : List ℕ) (month : ℤ) (a : Archive) → AreOfList list (in_month a list month)
+month_of_list : (list : List ℕ) (month : ℤ) (a : Archive) → AreOfList list (messages_in_month a list month)
 month_of_list list month a =
-    messages_of_list list (by_filed_date (filter (is_filed_in_month list month) (filed a)))
-    (sorted_of_list list (filter (is_filed_in_month list month) (filed a)) (wanted_of_list list (λ (f : Filed). int_eq f.1.month month) (filed a)))
+    messages_of_list list (sort_by_indexed_date (filter (is_indexed_in_month list month) (indexed_messages a)))
+    (sorted_of_list list (filter (is_indexed_in_month list month) (indexed_messages a)) (wanted_of_list list (λ (f : IndexedMessage). int_eq f.1.month month) (indexed_messages a)))
 
-author_of_list : (list key : List ℕ) (a : Archive) → AreOfList list (by_author a list key)
+author_of_list : (list key : List ℕ) (a : Archive) → AreOfList list (messages_by_author a list key)
 author_of_list list key a =
-    messages_of_list list (by_filed_date (filter (is_filed_by_author list key) (filed a)))
-    (sorted_of_list list (filter (is_filed_by_author list key) (filed a)) (wanted_of_list list (λ (f : Filed). bytes_eq f.1.author key) (filed a)))
+    messages_of_list list (sort_by_indexed_date (filter (is_indexed_by_author list key) (indexed_messages a)))
+    (sorted_of_list list (filter (is_indexed_by_author list key) (indexed_messages a)) (wanted_of_list list (λ (f : IndexedMessage). bytes_eq f.1.author key) (indexed_messages a)))
 
 -- whichever they are
-pub selected_of_list : (list : List ℕ) (which : Selection) (a : Archive) → AreOfList list (selected a list which)
+pub selected_of_list : (list : List ℕ) (which : Selection) (a : Archive) → AreOfList list (selected_messages a list which)
 selected_of_list list Every a = mailbox_of_list list a
 selected_of_list list (InMonth month) a = month_of_list list (pos month) a
 selected_of_list list (ByAuthor key) a = author_of_list list key.now a
 
-pub selected_shown : (list : List ℕ) (which : Selection) (trees : Trees) → AreTables trees
-    → map (message_at trees) (selected_places trees list which) ≡ map Some (selected (archive_in trees) list which)
+pub selected_shown : (list : List ℕ) (which : Selection) (trees : Trees) → AreArchiveTables trees
+    → map (message_at trees) (selected_numbers trees list which) ≡ map Some (selected_messages (archive_in_trees trees) list which)
 selected_shown list Every trees k = walked trees list k
 selected_shown list (InMonth month) trees k = walked_month trees list (pos month) k
 selected_shown list (ByAuthor key) trees k = walked_author trees list key.now k
@@ -192,10 +194,11 @@ past_end xs i none = elim ((slice_get_cases xs i).1) [ inl found ↦ absurd (let
 
 module _ {S : Type 0} (g : Ghosts S) where
   pub begins_walk : (old mid : Store S) (list : List ℕ) (which : Trees → List ℤ) (all : Archive → List Message)
-      → ((trees : Trees) → AreTables trees → map (message_at trees) (which trees) ≡ map Some (all (archive_in trees))) → ((a : Archive) → AreOfList list (all a))
-      → (walk : EachRow) → walk.at ≡ 0 → {A : Type 0} {found : A} {reasons : List Refusal} → EndsAsk g old mid (Ok found) reasons
-      → (HasReturned g mid → HoldsTables g old → (list_refusal (now_holds g old) list ≡ None) × HoldsTables g mid × (now_holds g mid ≡ now_holds g old) × (walk.places.items ≡ which (rows_of g mid)))
-      → BeginsOver g old list all (over mid walk)
+      → ((trees : Trees) → AreArchiveTables trees → map (message_at trees) (which trees) ≡ map Some (all (archive_in_trees trees))) → ((a : Archive) → AreOfList list (all a))
+      → (walk : MessageWalk) → walk.at ≡ 0 → {A : Type 0} {found : A} {reasons : List Refusal} → EndsQuestion g old mid (Ok found) reasons
+      → (StoreHasCleanDisk g mid → HoldsTables g old → (list_refusal (now_holds g old) list ≡ None) × HoldsTables g mid × (now_holds g mid ≡ now_holds g old)
+      × (walk.places.items ≡ which (current_rows g mid)))
+      → BeginsOver g old list all (walk_over_store mid walk)
   begins_walk old mid list which all shown of_list walk at ends found = record {
     lasts = ends.lasts;
     was_open = ends.was_open;
@@ -207,8 +210,8 @@ module _ {S : Type 0} (g : Ghosts S) where
             held = it.1;
             archive_is = it.2;
             left = all (now_holds g old);
-            ahead = ap (λ n. map (message_at (rows_of g mid)) (drop n walk.places.items)) at
-                ∙ ap (map (message_at (rows_of g mid))) it.3 ∙ shown (rows_of g mid) it.1.tables ∙ ap (λ a. map Some (all a)) it.2;
+            ahead = ap (λ n. map (message_at (current_rows g mid)) (drop n walk.places.items)) at
+                ∙ ap (map (message_at (current_rows g mid))) it.3 ∙ shown (current_rows g mid) it.1.tables ∙ ap (λ a. map Some (all a)) it.2;
             joined = refl;
             of_list = of_list (now_holds g old);
           },
@@ -219,58 +222,58 @@ module _ {S : Type 0} (g : Ghosts S) (list : List ℕ) (all : List Message) (a :
   -- one message further
   pub further : (old : Walk S) (new : Store S) (where_at : ℕ) (left : List ℤ) (d : ℤ) (m : Given) → WalksOver g list all a given old → old.walk.at < length old.walk.places.items
       → left ≡ old.walk.places.items → where_at ≡ old.walk.at + 1
-      → now_in g new ≡ now_in g old.store → HoldsTables g new
-      → (it : Message) × (message_at (rows_of g old.store) (get_or old.walk.places.items old.walk.at d) ≡ Some it) × (remembered it.list m ≡ it)
-      → WalksOn g list all a (given ++ remembered list m ∷ []) (held_of new) (drop where_at left)
+      → current_database g new ≡ current_database g old.store → HoldsTables g new
+      → (it : Message) × (message_at (current_rows g old.store) (get_or old.walk.places.items old.walk.at d) ≡ Some it) × (archived_message it.list m ≡ it)
+      → WalksOn g list all a (given ++ archived_message list m ∷ []) (store_connection new) (drop where_at left)
   further old new where_at left d m w within places at now held shown =
-      let n = next_is (message_at (rows_of g old.store)) old.walk.places.items old.walk.at d w.left w.ahead within in
+      let n = next_is (message_at (current_rows g old.store)) old.walk.places.items old.walk.at d w.left w.ahead within in
       let same : shown.0 ≡ n.0 = some_is (sym shown.1 ∙ n.3) in
       let joined : given ++ n.0 ∷ n.1 ≡ all = ap (λ l. given ++ l) (sym n.2) ∙ w.joined in
       let of_list : shown.0.list ≡ list = ap (λ (x : Message). x.list) same ∙ is_of_list list given n.1 all n.0 w.of_list joined in
-      let read : remembered list m ≡ n.0 = ap (λ l. remembered l m) (sym of_list) ∙ shown.2 ∙ same in
+      let read : archived_message list m ≡ n.0 = ap (λ l. archived_message l m) (sym of_list) ∙ shown.2 ∙ same in
       record {
         held = held;
-        archive_is = ap (λ (d : Database). archive_in d.trees) now ∙ w.archive_is;
+        archive_is = ap (λ (d : Database). archive_in_trees d.trees) now ∙ w.archive_is;
         left = n.1;
         ahead = ap (λ (d : Database). map (message_at d.trees) (drop where_at left)) now
-            ∙ ap (λ k. map (message_at (rows_of g old.store)) (drop k left)) at
-            ∙ ap (λ l. map (message_at (rows_of g old.store)) (drop (old.walk.at + 1) l)) places ∙ n.4;
-        joined = one_more given (remembered list m) n.1 ∙ ap (λ x. given ++ x ∷ n.1) read ∙ joined;
+            ∙ ap (λ k. map (message_at (current_rows g old.store)) (drop k left)) at
+            ∙ ap (λ l. map (message_at (current_rows g old.store)) (drop (old.walk.at + 1) l)) places ∙ n.4;
+        joined = one_more given (archived_message list m) n.1 ∙ ap (λ x. given ++ x ∷ n.1) read ∙ joined;
         of_list = w.of_list;
       }
 
   -- the walk is where it was, and these are the marks of the message that is next
   pub seen_next : (old : Walk S) (new : Store S) (where_at : ℕ) (left : List ℤ) (d : ℤ) (marks : DatedMarks) → WalksOver g list all a given old
       → old.walk.at < length old.walk.places.items → left ≡ old.walk.places.items
-      → where_at ≡ old.walk.at → now_in g new ≡ now_in g old.store → HoldsTables g new
-      → (it : Message) × (message_at (rows_of g old.store) (get_or old.walk.places.items old.walk.at d) ≡ Some it) × AreMarksOf marks it
-      → WalksOn g list all a given (held_of new) (drop where_at left) × ((next : Message) × (rest : List Message) × (given ++ next ∷ rest ≡ all) × AreMarksOf marks next)
+      → where_at ≡ old.walk.at → current_database g new ≡ current_database g old.store → HoldsTables g new
+      → (it : Message) × (message_at (current_rows g old.store) (get_or old.walk.places.items old.walk.at d) ≡ Some it) × AreDatedMarksOf marks it
+      → WalksOn g list all a given (store_connection new) (drop where_at left) × ((next : Message) × (rest : List Message) × (given ++ next ∷ rest ≡ all) × AreDatedMarksOf marks next)
   seen_next old new where_at left d marks w within places at now held shown =
-      let n = next_is (message_at (rows_of g old.store)) old.walk.places.items old.walk.at d w.left w.ahead within in
+      let n = next_is (message_at (current_rows g old.store)) old.walk.places.items old.walk.at d w.left w.ahead within in
       let same : shown.0 ≡ n.0 = some_is (sym shown.1 ∙ n.3) in (
         record {
           held = held;
-          archive_is = ap (λ (d : Database). archive_in d.trees) now ∙ w.archive_is;
+          archive_is = ap (λ (d : Database). archive_in_trees d.trees) now ∙ w.archive_is;
           left = w.left;
           ahead = ap (λ (d : Database). map (message_at d.trees) (drop where_at left)) now
-              ∙ ap (λ k. map (message_at (rows_of g old.store)) (drop k left)) at
-              ∙ ap (λ l. map (message_at (rows_of g old.store)) (drop old.walk.at l)) places ∙ w.ahead;
+              ∙ ap (λ k. map (message_at (current_rows g old.store)) (drop k left)) at
+              ∙ ap (λ l. map (message_at (current_rows g old.store)) (drop old.walk.at l)) places ∙ w.ahead;
           joined = w.joined;
           of_list = w.of_list;
         },
-        (n.0, n.1, ap (λ l. given ++ l) (sym n.2) ∙ w.joined, subst (AreMarksOf marks) same shown.2),
+        (n.0, n.1, ap (λ l. given ++ l) (sym n.2) ∙ w.joined, subst (AreDatedMarksOf marks) same shown.2),
       )
 
   -- the next message is passed by
-  pub passed_next : (store : Store S) (old new : EachRow) (next : Message) (rest : List Message) → WalksOver g list all a given (over store old) → given ++ next ∷ rest ≡ all
-      → ahead_of new ≡ drop 1 (ahead_of old) → WalksOver g list all a (given ++ next ∷ []) (over store new)
+  pub passed_next : (store : Store S) (old new : MessageWalk) (next : Message) (rest : List Message) → WalksOver g list all a given (walk_over_store store old) → given ++ next ∷ rest ≡ all
+      → remaining_numbers new ≡ drop 1 (remaining_numbers old) → WalksOver g list all a (given ++ next ∷ []) (walk_over_store store new)
   passed_next store old new next rest w is passed =
       let left : w.left ≡ next ∷ rest = same_behind given w.left (next ∷ rest) (w.joined ∙ sym is) in
       record {
         held = w.held;
         archive_is = w.archive_is;
         left = rest;
-        ahead = ap (map (message_at (rows_of g store))) passed ∙ behind_first (message_at (rows_of g store)) (ahead_of old) next rest (w.ahead ∙ ap (map Some) left);
+        ahead = ap (map (message_at (current_rows g store))) passed ∙ behind_first (message_at (current_rows g store)) (remaining_numbers old) next rest (w.ahead ∙ ap (map Some) left);
         joined = one_more given next rest ∙ is;
         of_list = w.of_list;
       }
@@ -282,8 +285,8 @@ given_more f given found found' x is =
 
 -- a walk that is read to its end
 pub rows_answer : {S : Type 0} (g : Ghosts S) (old : Store S) (walk new : Walk S) (list : List ℕ) (all : Archive → List Message) (r : Result (Vec Given Global) StoreFault)
-    → BeginsOver g old list all walk → HadReturned g walk.store new.store → GivesAll g walk new r → IfErr r (λ fault. refusal fault ≡ None)
-    → Answers g (held_of old) (held_of new.store) r (λ a. list_refusal a list) (λ a found. map (remembered list) found.items ≡ all a)
+    → BeginsOver g old list all walk → HadCleanDisk g walk.store new.store → GivesAll g walk new r → IfErr r (λ fault. refusal_of_fault fault ≡ None)
+    → AnswersStoreQuestion g (store_connection old) (store_connection new.store) r (λ a. list_refusal a list) (λ a found. map (archived_message list) found.items ≡ all a)
 rows_answer g old walk new list all (Ok found) begun was gives none = λ returned held.
     let b = begun.over (was returned) held in
     let w = gives returned list (all (now_holds g old)) (now_holds g old) [] b.1 in
@@ -297,32 +300,32 @@ rows_answer g old walk new list all (Err fault) begun was gives none = λ return
 
 -- the number that a walk comes to is that of a message
 pub unread_next : {S : Type 0} (g : Ghosts S) (list : List ℕ) (all : List Message) (a : Archive) (given : List Message) (walk : Walk S) (place : ℤ) → WalksOver g list all a given walk
-    → slice_get walk.walk.places.items walk.walk.at ≡ Some place → (X : Type 0) → X ⊎ (¬ IsSomeAnd (message_at (rows_of g walk.store) place) IsReadable)
+    → slice_get walk.walk.places.items walk.walk.at ≡ Some place → (X : Type 0) → X ⊎ (¬ IsSomeAnd (message_at (current_rows g walk.store) place) IsReadable)
     → X ⊎ ((next : Message) × (rest : List Message) × (given ++ next ∷ rest ≡ all) × (¬ IsReadable next))
 unread_next g list all a given walk place w some X (inl failed) = inl failed
 unread_next g list all a given walk place w some X (inr bad) =
-    let n = next_is (message_at (rows_of g walk.store)) walk.walk.places.items walk.walk.at place w.left w.ahead (slice_get_within walk.walk.places.items walk.walk.at place some) in
-    let here : message_at (rows_of g walk.store) place ≡ Some n.0 =
-    ap (message_at (rows_of g walk.store)) (sym (get_or_from_slice_get walk.walk.places.items walk.walk.at place place some)) ∙ n.3 in
+    let n = next_is (message_at (current_rows g walk.store)) walk.walk.places.items walk.walk.at place w.left w.ahead (slice_get_within walk.walk.places.items walk.walk.at place some) in
+    let here : message_at (current_rows g walk.store) place ≡ Some n.0 =
+    ap (message_at (current_rows g walk.store)) (sym (get_or_from_slice_get walk.walk.places.items walk.walk.at place place some)) ∙ n.3 in
     inr (n.0, n.1, ap (λ l. given ++ l) (sym n.2) ∙ w.joined, λ good. bad (subst (λ o. IsSomeAnd o IsReadable) (sym here) good))
 
 pub rows_caused : {S : Type 0} (g : Ghosts S) (old : Store S) (walk new : Walk S) (list : List ℕ) (all : Archive → List Message) (r : Result (Vec Given Global) StoreFault)
-    → BeginsOver g old list all walk → HadReturned g walk.store new.store → StopsAll g walk new r → CausedOr g old new.store r (λ a. ¬ All IsReadable (all a))
+    → BeginsOver g old list all walk → HadCleanDisk g walk.store new.store → E15MeansSomeUnreadable g walk new r → E15MeansDiskFailedOr g old new.store r (λ a. ¬ All IsReadable (all a))
 rows_caused g old walk new list all (Ok found) begun was stops = λ returned held free. tt
 rows_caused g old walk new list all (Err fault) begun was stops = λ returned held free it.
     let b = begun.over (was returned) held in
     elim (stops returned list (all (now_holds g old)) (now_holds g old) [] b.1 (begun.lasts.limit ∙ free) it) [
-      | inl more ↦ inl (more_since (state g (held_of old)) (state g (held_of walk.store)) (state g (held_of new.store)) begun.lasts more)
+      | inl more ↦ inl (more_since (state g (store_connection old)) (state g (store_connection walk.store)) (state g (store_connection new.store)) begun.lasts more)
       | inr bad ↦ inr bad
     ]
 
 pub rows_ends : {S : Type 0} (g : Ghosts S) (old : Store S) (walk new : Walk S) (list : List ℕ) (all : Archive → List Message) (r : Result (Vec Given Global) StoreFault)
-    → BeginsOver g old list all walk → EndsUnrefused g walk.store new.store r → StopsAll g walk new r → (reasons : List Refusal)
-    → EndsAskOr g old new.store r reasons (λ a. ¬ All IsReadable (all a))
+    → BeginsOver g old list all walk → EndsUnrefused g walk.store new.store r → E15MeansSomeUnreadable g walk new r → (reasons : List Refusal)
+    → EndsQuestionOrUnreadable g old new.store r reasons (λ a. ¬ All IsReadable (all a))
 rows_ends g old walk new list all r begun ends stops reasons = record {
   lasts = lasts_then _ _ _ begun.lasts ends.lasts;
   was_open = λ returned. when_ok r _ (begun.was_open (ends.lasts.returned returned));
   kind = kind_last r reasons ends.fault;
-  counted = raises_after IsWant _ _ _ r begun.counted ends.counted;
+  counted = raises_after IsMemoryRefusal _ _ _ r begun.counted ends.counted;
   caused = rows_caused g old walk new list all r begun ends.lasts.returned stops;
 }

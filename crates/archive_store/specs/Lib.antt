@@ -1,7 +1,7 @@
 pub mod Held
 pub mod Replies
 pub mod Refusals
-pub mod Running
+pub mod CommandRuns
 pub mod Batches
 pub mod Told
 pub mod Adopting

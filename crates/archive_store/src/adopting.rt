@@ -3,15 +3,15 @@ ghost use Rattle.std.specs.Prelude.{◌≡◌, IfOk, IfErr};
 ghost use Rattle.sqlite.specs.Held.{state};
 ghost use Rattle.sqlite.specs.State.{HasCleanDisk};
 ghost use Rattle.sqlite.specs.Steps.{over_memory};
-ghost use Rattle.archive_tables.specs.Tables.{IsKept, archive_of};
+ghost use Rattle.archive_tables.specs.Tables.{IsArchiveAtRest, archive_of};
 ghost use Rattle.archive_tables.specs.Making.{empty_archive};
-ghost use Rattle.archive_store.specs.Adopting.{IsAdopted, IsLeft};
-ghost use Rattle.archive_store.specs.Held.{held_of};
-ghost use Rattle.archive_store.specs.Told.{HasNoLimit};
+ghost use Rattle.archive_store.specs.Adopting.{IsAdopted, IsNotAdopted};
+ghost use Rattle.archive_store.specs.Held.{store_connection};
+ghost use Rattle.archive_store.specs.Told.{HasNoStepLimit};
 
 use crate::store::Store;
-use crate::wants::Wants;
-use archive_database::making::{has_nothing, make_tables, take_over};
+use crate::wants::RefusalCounter;
+use archive_database::making::{is_empty_database, make_tables, migrate_tables};
 use archive_port::StoreFault;
 use sqlite::{Alter, Connection, MemStore};
 use std::alloc::Global;
@@ -28,10 +28,10 @@ pub struct AdoptStop<S: Alter> {
 impl Store<MemStore> {
     /// A store in memory, with nothing in it. E14 where no memory was left, and nothing else.
     pub fn open_in_memory(alloc: Global) -> Result<Store<MemStore>, StoreFault>
-        ensures made { IfOk result (λ store. HasCleanDisk (state over_memory (held_of store))
-            → IsKept (state over_memory (held_of store))
-            × (archive_of (state over_memory (held_of store)) ≡ empty_archive)) }
-        ensures unlimited { IfOk result (λ store. HasNoLimit over_memory store) }
+        ensures made { IfOk result (λ store. HasCleanDisk (state over_memory (store_connection store))
+            → IsArchiveAtRest (state over_memory (store_connection store))
+            × (archive_of (state over_memory (store_connection store)) ≡ empty_archive)) }
+        ensures unlimited { IfOk result (λ store. HasNoStepLimit over_memory store) }
         ensures fault { IfErr result (λ fault. fault ≡ StoreFault.Memory) }
     {
         match Store::adopt(Connection::open_in_memory(alloc)?) {
@@ -53,20 +53,20 @@ impl<S: Alter> Store<S> {
     /// one transaction, and hold the same archive. A limit on the steps of a query is taken off.
     pub fn adopt(connection: Connection<S>) -> Result<Store<S>, AdoptStop<S>>
         ensures adopted { IfOk result (λ store. IsAdopted S.Store connection store) }
-        ensures refused { IfErr result (λ stop. IsLeft S.Store connection stop) }
+        ensures refused { IfErr result (λ stop. IsNotAdopted S.Store connection stop) }
     {
         let mut conn = connection;
-        let done = if has_nothing(&conn) {
+        let done = if is_empty_database(&conn) {
             make_tables(&mut conn)
         } else {
-            take_over(&mut conn)
+            migrate_tables(&mut conn)
         };
         match done {
             Ok(()) => {
                 conn.set_step_limit(None);
                 Ok(Store {
                     conn,
-                    wants: Wants::new(),
+                    wants: RefusalCounter::new(),
                 })
             }
             Err(fault) => Err(AdoptStop {

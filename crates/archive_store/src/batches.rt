@@ -1,21 +1,21 @@
 //! Many messages to one list, in transactions of many messages.
 ghost use Rattle.std.specs.Prelude.{◌≡◌, [], ◌∷◌, ◌≤◌, ◌<◌, ◌+◌, ◌⊎◌, IfOk, IfErr, Some, None, length, take, drop};
 ghost use Rattle.mbox_items.specs.Division.{Item};
-ghost use Rattle.archive_store.specs.Held.{held_of};
+ghost use Rattle.archive_store.specs.Held.{store_connection};
 ghost use Rattle.sqlite.specs.Held.{state};
-ghost use Rattle.archive_store.specs.Told.{EndsBehind, EndsPart, EndsUnrefused};
-ghost use Rattle.archive_store.specs.Refusals.{StopsAmong};
-ghost use Rattle.archive_port.specs.Replies.{with_fault, done_in};
-ghost use Rattle.archive_machine.specs.Commands.{no_list, list_full};
-ghost use Rattle.archive_store.specs.Crashes.{AddsSomeQuietly, CrashAddsOver, CrashAll, CrashBatch};
-ghost use Rattle.archive_store.specs.Batches.{AddsOne, AddsSome, AddsBatch, AddsAll, BeginsAt, EndsAt, FailsFrom, WritesOne};
-ghost use Rattle.archive_port.specs.Adding.{told_in, text_bytes};
+ghost use Rattle.archive_store.specs.Told.{EndsPartialWrite, EndsPart, EndsUnrefused};
+ghost use Rattle.archive_store.specs.Refusals.{RowsRefuseAnItem};
+ghost use Rattle.archive_port.specs.Replies.{map_error_to_fault, done_count_on_error};
+ghost use Rattle.archive_model.specs.Commands.{no_list, list_full};
+ghost use Rattle.archive_store.specs.Crashes.{CrashLosesOpenBatch, CrashAddsOneMessage, CrashAddsAllBatches, CrashBatch};
+ghost use Rattle.archive_store.specs.Batches.{AddsOneMessage, AddsWithinTransaction, AddsBatch, AddsAllMessages, IsBatchRange, StopsAtIndex, E15MeansBatchRefused, WritesOneMessage};
+ghost use Rattle.archive_port.specs.Adding.{reported_count, total_text_bytes};
 
 use crate::limits::MESSAGES;
 use crate::store::Store;
-use archive_database::taking::{is_too_large, take_in};
-use archive_machine::Key;
-use archive_port::{AddReport, AddStop, StoreFault};
+use archive_database::taking::{insert_message, is_too_large};
+use archive_model::Key;
+use archive_port::{AddError, AddReport, StoreFault};
 use archive_tables::texts;
 use mbox_items::Item;
 use sqlite::Alter;
@@ -51,22 +51,22 @@ impl<S: Alter> Store<S> {
         alloc: Global,
         list: &str,
         items: &[Item<'_>],
-    ) -> Result<AddReport, AddStop>
-        ensures step { AddsAll S.Store (held_of self.old)
-            (held_of self.new) result list.now items.entry.now }
-        ensures crash { CrashAll S.Store (held_of self.old) (held_of self.new)
+    ) -> Result<AddReport, AddError>
+        ensures step { AddsAllMessages S.Store (store_connection self.old)
+            (store_connection self.new) result list.now items.entry.now }
+        ensures crash { CrashAddsAllBatches S.Store (store_connection self.old) (store_connection self.new)
             list.now items.entry.now result }
-        ensures total { IfOk result (λ report. told_in report ≡ length items.entry.now) }
+        ensures total { IfOk result (λ report. reported_count report ≡ length items.entry.now) }
         ensures bound { IfErr result (λ stop. stop.done ≤ length items.entry.now) }
-        ensures ends { EndsBehind S.Store self.old self.new (with_fault (λ stop. stop.fault) result)
+        ensures ends { EndsPartialWrite S.Store self.old self.new (map_error_to_fault (λ stop. stop.fault) result)
             (no_list ∷ list_full ∷ [])
-            (StopsAmong list.now (drop (done_in (λ stop. stop.done) result) items.entry.now)) }
+            (RowsRefuseAnItem list.now (drop (done_count_on_error (λ stop. stop.done) result) items.entry.now)) }
     {
         let additions = Additions { alloc, list, items };
         let mut done = 0;
         let mut count = match self.count(list) {
             Ok(count) => count,
-            Err(fault) => return Err(AddStop { done, fault }),
+            Err(fault) => return Err(AddError { done, fault }),
         };
         let mut report = AddReport {
             new: 0,
@@ -79,14 +79,14 @@ impl<S: Alter> Store<S> {
                 Ok(at) => {
                     done = at;
                     if at < to {
-                        return Err(AddStop {
+                        return Err(AddError {
                             done,
                             fault: StoreFault::ListFull,
                         });
                     }
                 }
                 Err(fault) => {
-                    return Err(AddStop { done, fault });
+                    return Err(AddError { done, fault });
                 }
             }
         }
@@ -101,9 +101,9 @@ fn batch_end(items: &[Item<'_>], from: usize) -> usize
     ensures more { from < result }
     ensures within { result ≤ length items.now }
     ensures few { result ≤ from + MESSAGES_AT_ONCE }
-    ensures small { (text_bytes (take result items.now) ≤ text_bytes
+    ensures small { (total_text_bytes (take result items.now) ≤ total_text_bytes
         (take from items.now) + BYTES_AT_ONCE)
-        ⊎ (text_bytes (take result items.now) ≤ text_bytes (take (from + 1) items.now)) }
+        ⊎ (total_text_bytes (take result items.now) ≤ total_text_bytes (take (from + 1) items.now)) }
 {
     let mut room = BYTES_AT_ONCE.saturating_sub(text_len(&items[from]));
     let mut to = from + 1;
@@ -133,16 +133,16 @@ fn add_batch<S: Alter>(
     count: &mut usize,
     report: &mut AddReport,
 ) -> Result<usize, StoreFault>
-    requires begins { BeginsAt additions.now.items.now from to report.now }
-    ensures step { AddsBatch S.Store (held_of store.old)
-        (held_of store.new) result additions.now.list.now additions.now.items.now from to count.old report.entry.now count.new report.exit.now }
-    ensures crash { CrashBatch S.Store (held_of store.old) (held_of store.new)
+    requires begins { IsBatchRange additions.now.items.now from to report.now }
+    ensures step { AddsBatch S.Store (store_connection store.old)
+        (store_connection store.new) result additions.now.list.now additions.now.items.now from to count.old report.entry.now count.new report.exit.now }
+    ensures crash { CrashBatch S.Store (store_connection store.old) (store_connection store.new)
         additions.now.list.now additions.now.items.now from to count.old report.entry.now }
-    ensures came { EndsAt result from to report.exit.now }
+    ensures came { StopsAtIndex result from to report.exit.now }
     ensures ends { EndsPart S.Store store.old store.new
-        (FailsFrom S.Store store.old store.new None result additions.now.list.now
+        (E15MeansBatchRefused S.Store store.old store.new None result additions.now.list.now
         additions.now.items.now from count.old report.entry.now
-        (state S.Store (held_of store.new)).now) result }
+        (state S.Store (store_connection store.new)).now) result }
 {
     let begun = texts::schema::begin(&mut store.conn);
     store.wants.pass(begun)?;
@@ -173,16 +173,16 @@ fn add_some<S: Alter>(
     count: &mut usize,
     report: &mut AddReport,
 ) -> Result<usize, StoreFault>
-    requires begins { BeginsAt additions.now.items.now from to report.now }
-    ensures step { AddsSome S.Store (held_of store.old)
-        (held_of store.new) result additions.now.list.now additions.now.items.now from to count.old report.entry.now count.new report.exit.now }
-    ensures quiet { AddsSomeQuietly S.Store (held_of store.old) (held_of store.new)
+    requires begins { IsBatchRange additions.now.items.now from to report.now }
+    ensures step { AddsWithinTransaction S.Store (store_connection store.old)
+        (store_connection store.new) result additions.now.list.now additions.now.items.now from to count.old report.entry.now count.new report.exit.now }
+    ensures quiet { CrashLosesOpenBatch S.Store (store_connection store.old) (store_connection store.new)
         additions.now.list.now additions.now.items.now from count.old report.entry.now }
-    ensures came { EndsAt result from to report.exit.now }
+    ensures came { StopsAtIndex result from to report.exit.now }
     ensures ends { EndsPart S.Store store.old store.new ((db : _)
-        → FailsFrom S.Store store.old store.new (Some db) result additions.now.list.now
+        → E15MeansBatchRefused S.Store store.old store.new (Some db) result additions.now.list.now
         additions.now.items.now from count.old report.entry.now
-        (state S.Store (held_of store.old)).now) result }
+        (state S.Store (store_connection store.old)).now) result }
 {
     let mut at = from;
     while at < to {
@@ -206,12 +206,12 @@ pub(crate) fn add_counted<S: Alter>(
     item: &Item<'_>,
     count: &mut usize,
 ) -> Result<Taken, StoreFault>
-    ensures step { AddsOne S.Store (held_of store.old)
-        (held_of store.new) result list.now item.now count.old count.new }
-    ensures crash { CrashAddsOver S.Store (held_of store.old) (held_of store.new)
+    ensures step { AddsOneMessage S.Store (store_connection store.old)
+        (store_connection store.new) result list.now item.now count.old count.new }
+    ensures crash { CrashAddsOneMessage S.Store (store_connection store.old) (store_connection store.new)
         list.now item.now count.old }
     ensures uncounted { IfErr result (λ _. count.new ≡ count.old) }
-    ensures rows { WritesOne S.Store store.old store.new result list.now item.now count.old }
+    ensures rows { WritesOneMessage S.Store store.old store.new result list.now item.now count.old }
     ensures ends { EndsUnrefused S.Store store.old store.new result }
 {
     if is_too_large(item) {
@@ -225,7 +225,7 @@ pub(crate) fn add_counted<S: Alter>(
     if *count >= MESSAGES as usize {
         return Ok(Taken::Full);
     }
-    let taken = take_in(&mut store.conn, alloc, list, &key, item);
+    let taken = insert_message(&mut store.conn, alloc, list, &key, item);
     store.wants.pass_fault(taken)?;
     *count += 1;
     Ok(Taken::New)

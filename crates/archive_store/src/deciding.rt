@@ -2,17 +2,17 @@
 //! call here asks a database or takes memory.
 ghost use Rattle.std.specs.Prelude.{◌≡◌, Some, IfSome, option_map};
 ghost use Rattle.std.specs.List.{find};
-ghost use Rattle.archive_machine.specs.Addresses.{is_address};
-ghost use Rattle.archive_machine.specs.Commands.{refused};
-ghost use Rattle.archive_machine.specs.Machine.{tests_of};
-ghost use Rattle.archive_machine.specs.Tokens.{is_token};
-ghost use Rattle.archive_port.specs.Commands.{command_of};
-ghost use Rattle.archive_store.specs.Carrying.{first_so, reply_settled};
-ghost use Rattle.archive_port.specs.Replies.{refusal};
+ghost use Rattle.archive_model.specs.Addresses.{is_address};
+ghost use Rattle.archive_model.specs.Commands.{refused};
+ghost use Rattle.archive_model.specs.Machine.{guarded_replies_of};
+ghost use Rattle.archive_model.specs.BearerTokens.{is_token};
+ghost use Rattle.archive_port.specs.Commands.{spec_command};
+ghost use Rattle.archive_store.specs.Carrying.{first_passing_reply, reply_without_write};
+ghost use Rattle.archive_port.specs.Replies.{refusal_of_fault};
 
 use crate::deciding::Settled::{Known, Refused};
 use archive_database::taking::is_too_large;
-use archive_machine::Found;
+use archive_model::CommandFacts;
 use archive_port::Command;
 use archive_port::StoreFault::{
     self, AlreadyWithdrawn, BadDays, BadName, BadText, ListExists, ListFull, NoList, NoMessage,
@@ -29,9 +29,9 @@ pub(crate) enum Settled {
 }
 
 /// The answer of the first test of its row that is so. `None`: it is carried out.
-pub(crate) fn settle(command: &Command<'_>, found: &Found) -> Option<Settled>
-    ensures { option_map reply_settled result
-        ≡ option_map Some (first_so (tests_of (command_of command.now) found.now)) }
+pub(crate) fn settle(command: &Command<'_>, found: &CommandFacts) -> Option<Settled>
+    ensures { option_map reply_without_write result
+        ≡ option_map Some (first_passing_reply (guarded_replies_of (spec_command command.now) found.now)) }
 {
     match command {
         Command::ListAdd { name } => first_so(&[
@@ -83,8 +83,8 @@ pub(crate) fn settle(command: &Command<'_>, found: &Found) -> Option<Settled>
 
 /// Why a command is refused whatever is found: a name or a token in it is none.
 pub(crate) fn refused_unseen(command: &Command<'_>) -> Option<StoreFault>
-    ensures { IfSome result (λ fault. (found : Found)
-        → option_map Some (first_so (tests_of (command_of command.now) found)) ≡ Some (option_map refused (refusal fault))) }
+    ensures { IfSome result (λ fault. (found : CommandFacts)
+        → option_map Some (first_passing_reply (guarded_replies_of (spec_command command.now) found)) ≡ Some (option_map refused (refusal_of_fault fault))) }
 {
     match command {
         Command::ListAdd { name } if !is_name(name) => Some(BadName),
@@ -103,11 +103,11 @@ fn first_so(tests: &[(bool, Settled)]) -> Option<Settled>
 fn is_token(text: &str) -> bool
     ensures { result ≡ is_token text.now }
 {
-    archive_machine::is_token(text.as_bytes())
+    archive_model::is_token(text.as_bytes())
 }
 
 fn is_address(text: &str) -> bool
     ensures { result ≡ is_address text.now }
 {
-    archive_machine::is_address(text.as_bytes())
+    archive_model::is_address(text.as_bytes())
 }

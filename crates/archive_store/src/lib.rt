@@ -26,13 +26,13 @@ mod words;
 mod writing;
 
 pub use adopting::AdoptStop;
-pub use archive_machine::{Found, Key, Message};
+pub use archive_model::{CommandFacts, Key, Message};
 pub use archive_port::{
-    AddReport, AddStop, Added, CheckStop, Command, DatedMarks, Refused, StoreFault,
+    AddError, AddReport, Added, CheckError, Command, DatedMarks, MemoryRefusal, StoreFault,
 };
 pub use faults::database_fault;
 pub use keys::key_of;
-pub use running::{Outcome, RunStop};
+pub use running::{CommandRunError, Outcome};
 pub use store::Store;
-pub use walking::{EachRow, Selection};
-pub use wants::Wants;
+pub use walking::{MessageWalk, Selection};
+pub use wants::RefusalCounter;

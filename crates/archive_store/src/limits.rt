@@ -1,13 +1,13 @@
 //! How many messages a list may hold.
 ghost use Rattle.std.specs.Prelude.{[], ◌∷◌};
-ghost use Rattle.archive_machine.specs.Machine.{added_within};
-ghost use Rattle.archive_machine.specs.Commands.{add, no_list, too_large, list_full};
-ghost use Rattle.archive_store.specs.Held.{held_of};
-ghost use Rattle.archive_store.specs.Told.{EndsOr};
-ghost use Rattle.archive_store.specs.Refusals.{IsRefusedWithin};
+ghost use Rattle.archive_model.specs.Machine.{add_within_limit};
+ghost use Rattle.archive_model.specs.Commands.{add, no_list, too_large, list_full};
+ghost use Rattle.archive_store.specs.Held.{store_connection};
+ghost use Rattle.archive_store.specs.Told.{EndsWrite};
+ghost use Rattle.archive_store.specs.Refusals.{IsCommandRefusedWithin};
 ghost use Rattle.archive_store.specs.Crashes.{CrashSteps};
-ghost use Rattle.archive_store.specs.Replies.{Does};
-ghost use Rattle.archive_port.specs.Replies.{says_added};
+ghost use Rattle.archive_store.specs.Replies.{PerformsModelStep};
+ghost use Rattle.archive_port.specs.Replies.{reply_if_added};
 
 use crate::commands::added;
 use crate::store::Store;
@@ -27,12 +27,12 @@ pub fn add_limited<S: Alter>(
     item: &Item<'_>,
     limit: u32,
 ) -> Result<Added, StoreFault>
-    ensures step { Does S.Store (held_of store.old) (held_of store.new)
-        (λ a. added_within limit a list.now item.now) (says_added result) }
-    ensures crash { CrashSteps S.Store (held_of store.old) (held_of store.new)
-        (λ a. added_within limit a list.now item.now) }
-    ensures ends { EndsOr S.Store store.old store.new result (no_list ∷ too_large ∷ list_full ∷ [])
-        (IsRefusedWithin limit (add list.now item.now)) }
+    ensures step { PerformsModelStep S.Store (store_connection store.old) (store_connection store.new)
+        (λ a. add_within_limit limit a list.now item.now) (reply_if_added result) }
+    ensures crash { CrashSteps S.Store (store_connection store.old) (store_connection store.new)
+        (λ a. add_within_limit limit a list.now item.now) }
+    ensures ends { EndsWrite S.Store store.old store.new result (no_list ∷ too_large ∷ list_full ∷ [])
+        (IsCommandRefusedWithin limit (add list.now item.now)) }
 {
     added(store.carry_within(&Command::Add { alloc, list, item }, limit))
 }

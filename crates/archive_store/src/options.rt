@@ -11,23 +11,23 @@ use std::alloc::Global;
 impl<S: Alter> Store<S> {
     ghost use Rattle.std.specs.Prelude.{◌≡◌, ◌∷◌, [], option_map, string_bytes, IsUtf8};
     ghost use Rattle.std.specs.Option.{IsSomeAnd};
-    ghost use Rattle.archive_machine.specs.Machine.{step};
-    ghost use Rattle.archive_machine.specs.Questions.{merge_of, address_of, list_refusal, person_refusal};
-    ghost use Rattle.archive_store.specs.Held.{held_of};
-    ghost use Rattle.archive_store.specs.Told.{EndsAsk, EndsAskOr, EndsOr};
+    ghost use Rattle.archive_model.specs.Machine.{step};
+    ghost use Rattle.archive_model.specs.Questions.{merge_of, address_of, list_refusal, person_refusal};
+    ghost use Rattle.archive_store.specs.Held.{store_connection};
+    ghost use Rattle.archive_store.specs.Told.{EndsQuestion, EndsQuestionOrUnreadable, EndsWrite};
     ghost use Rattle.archive_store.specs.Refusals.{IsCommandRefused};
-    ghost use Rattle.archive_machine.specs.Commands.{merge_set, address_set, no_list, no_person, bad_text};
+    ghost use Rattle.archive_model.specs.Commands.{merge_set, address_set, no_list, no_person, bad_text};
     ghost use Rattle.archive_store.specs.Crashes.{CrashSteps};
-    ghost use Rattle.archive_store.specs.Replies.{Does, Answers};
-    ghost use Rattle.archive_port.specs.Replies.{says_done};
+    ghost use Rattle.archive_store.specs.Replies.{PerformsModelStep, AnswersStoreQuestion};
+    ghost use Rattle.archive_port.specs.Replies.{reply_if_done};
 
     /// Says whether the threads of a list are gathered by subject. E4 where there is no such list.
     pub fn merge_set(&mut self, list: &str, merge: bool) -> Result<(), StoreFault>
-        ensures step { Does S.Store (held_of self.old) (held_of self.new)
-            (λ a. step a (merge_set list.now merge)) (says_done result) }
-        ensures crash { CrashSteps S.Store (held_of self.old) (held_of self.new)
+        ensures step { PerformsModelStep S.Store (store_connection self.old) (store_connection self.new)
+            (λ a. step a (merge_set list.now merge)) (reply_if_done result) }
+        ensures crash { CrashSteps S.Store (store_connection self.old) (store_connection self.new)
             (λ a. step a (merge_set list.now merge)) }
-        ensures ends { EndsOr S.Store self.old self.new result (no_list ∷ [])
+        ensures ends { EndsWrite S.Store self.old self.new result (no_list ∷ [])
             (IsCommandRefused (merge_set list.now merge)) }
     {
         self.carry_done(&Command::MergeSet { list, merge })
@@ -35,9 +35,9 @@ impl<S: Alter> Store<S> {
 
     /// Whether the threads of a list are gathered by subject. E4 where there is no such list.
     pub fn merge_of(&mut self, list: &str) -> Result<bool, StoreFault>
-        ensures answer { Answers S.Store (held_of self.old) (held_of self.new) result
+        ensures answer { AnswersStoreQuestion S.Store (store_connection self.old) (store_connection self.new) result
             (λ a. list_refusal a list.now) (λ a merge. merge ≡ merge_of a list.now) }
-        ensures ends { EndsAsk S.Store self.old self.new result (no_list ∷ []) }
+        ensures ends { EndsQuestion S.Store self.old self.new result (no_list ∷ []) }
     {
         let listed = texts::lists::has_list(&mut self.conn, list);
         if !self.wants.pass(listed)? {
@@ -55,11 +55,11 @@ impl<S: Alter> Store<S> {
         person: &str,
         address: &str,
     ) -> Result<(), StoreFault>
-        ensures step { Does S.Store (held_of self.old) (held_of self.new)
-            (λ a. step a (address_set person.now address.now)) (says_done result) }
-        ensures crash { CrashSteps S.Store (held_of self.old) (held_of self.new)
+        ensures step { PerformsModelStep S.Store (store_connection self.old) (store_connection self.new)
+            (λ a. step a (address_set person.now address.now)) (reply_if_done result) }
+        ensures crash { CrashSteps S.Store (store_connection self.old) (store_connection self.new)
             (λ a. step a (address_set person.now address.now)) }
-        ensures ends { EndsOr S.Store self.old self.new result (no_person ∷ bad_text ∷ [])
+        ensures ends { EndsWrite S.Store self.old self.new result (no_person ∷ bad_text ∷ [])
             (IsCommandRefused (address_set person.now address.now)) }
     {
         self.carry_done(&Command::AddressSet {
@@ -71,10 +71,10 @@ impl<S: Alter> Store<S> {
 
     /// The address of a person, who may have none. E6 where there is no such person.
     pub fn address(&mut self, person: &str) -> Result<Option<String>, StoreFault>
-        ensures answer { Answers S.Store (held_of self.old) (held_of self.new) result
+        ensures answer { AnswersStoreQuestion S.Store (store_connection self.old) (store_connection self.new) result
             (λ a. person_refusal a person.now)
             (λ a found. option_map string_bytes found ≡ address_of a person.now) }
-        ensures ends { EndsAskOr S.Store self.old self.new result (no_person ∷ [])
+        ensures ends { EndsQuestionOrUnreadable S.Store self.old self.new result (no_person ∷ [])
             (λ a. IsSomeAnd (address_of a person.now) (λ address. ¬ IsUtf8 address)) }
     {
         let known = texts::persons::has_person(&mut self.conn, person);

@@ -4,23 +4,23 @@ use archive_port::{Command, StoreFault};
 use sqlite::Alter;
 
 impl<S: Alter> Store<S> {
-    ghost use Rattle.archive_machine.specs.Machine.{step};
-    ghost use Rattle.archive_store.specs.Held.{held_of};
-    ghost use Rattle.archive_store.specs.Told.{EndsOr};
+    ghost use Rattle.archive_model.specs.Machine.{step};
+    ghost use Rattle.archive_store.specs.Held.{store_connection};
+    ghost use Rattle.archive_store.specs.Told.{EndsWrite};
     ghost use Rattle.archive_store.specs.Refusals.{IsCommandRefused};
-    ghost use Rattle.archive_machine.specs.Commands.{list_add, person_add, bad_name, bad_text, list_exists, person_exists, token_taken};
+    ghost use Rattle.archive_model.specs.Commands.{list_add, person_add, bad_name, bad_text, list_exists, person_exists, token_taken};
     ghost use Rattle.archive_store.specs.Crashes.{CrashSteps};
-    ghost use Rattle.archive_store.specs.Replies.{Does};
-    ghost use Rattle.archive_port.specs.Replies.{says_done};
+    ghost use Rattle.archive_store.specs.Replies.{PerformsModelStep};
+    ghost use Rattle.archive_port.specs.Replies.{reply_if_done};
     ghost use Rattle.std.specs.Prelude.{[], ◌∷◌};
 
     /// Adds a list, whose threads are gathered by subject. E1 where the name is none, E3 where the list is there.
     pub fn list_add(&mut self, name: &str) -> Result<(), StoreFault>
-        ensures step { Does S.Store (held_of self.old) (held_of self.new)
-            (λ a. step a (list_add name.now)) (says_done result) }
-        ensures crash { CrashSteps S.Store (held_of self.old) (held_of self.new)
+        ensures step { PerformsModelStep S.Store (store_connection self.old) (store_connection self.new)
+            (λ a. step a (list_add name.now)) (reply_if_done result) }
+        ensures crash { CrashSteps S.Store (store_connection self.old) (store_connection self.new)
             (λ a. step a (list_add name.now)) }
-        ensures ends { EndsOr S.Store self.old self.new result (bad_name ∷ list_exists ∷ [])
+        ensures ends { EndsWrite S.Store self.old self.new result (bad_name ∷ list_exists ∷ [])
             (IsCommandRefused (list_add name.now)) }
     {
         self.carry_done(&Command::ListAdd { name })
@@ -29,11 +29,11 @@ impl<S: Alter> Store<S> {
     /// Adds a person. E1 where the name is none, E2 where the token is none, E5 where the person is there, E7 where the
     /// token is another person's.
     pub fn person_add(&mut self, name: &str, token: &str) -> Result<(), StoreFault>
-        ensures step { Does S.Store (held_of self.old) (held_of self.new)
-            (λ a. step a (person_add name.now token.now)) (says_done result) }
-        ensures crash { CrashSteps S.Store (held_of self.old) (held_of self.new)
+        ensures step { PerformsModelStep S.Store (store_connection self.old) (store_connection self.new)
+            (λ a. step a (person_add name.now token.now)) (reply_if_done result) }
+        ensures crash { CrashSteps S.Store (store_connection self.old) (store_connection self.new)
             (λ a. step a (person_add name.now token.now)) }
-        ensures ends { EndsOr S.Store self.old self.new result
+        ensures ends { EndsWrite S.Store self.old self.new result
             (bad_name ∷ bad_text ∷ person_exists ∷ token_taken ∷ [])
             (IsCommandRefused (person_add name.now token.now)) }
     {

@@ -14,18 +14,18 @@ use sqlite::Alter;
 impl<S: Alter> Store<S> {
     ghost use Rattle.std.specs.Prelude.{◌≡◌, ◌≢◌, [], ◌∷◌, None, option_map, string_bytes, IsUtf8};
     ghost use Rattle.std.specs.Option.{IsSomeAnd};
-    ghost use Rattle.archive_machine.specs.Questions.{person_of_token, standing_of, standing_refusal};
-    ghost use Rattle.archive_store.specs.Held.{held_of};
-    ghost use Rattle.archive_store.specs.Told.{EndsAskOr};
-    ghost use Rattle.archive_store.specs.Replies.{Answers};
-    ghost use Rattle.archive_machine.specs.Commands.{no_list, no_person};
+    ghost use Rattle.archive_model.specs.Questions.{person_of_token, standing_of, standing_refusal};
+    ghost use Rattle.archive_store.specs.Held.{store_connection};
+    ghost use Rattle.archive_store.specs.Told.{EndsQuestionOrUnreadable};
+    ghost use Rattle.archive_store.specs.Replies.{AnswersStoreQuestion};
+    ghost use Rattle.archive_model.specs.Commands.{no_list, no_person};
     ghost use Rattle.archive_port.specs.Words.{standing_rank};
 
     /// The name of the person who has this token, if somebody has it.
     pub fn person_of_token(&mut self, token: &str) -> Result<Option<String>, StoreFault>
-        ensures answer { Answers S.Store (held_of self.old) (held_of self.new) result (λ _. None)
+        ensures answer { AnswersStoreQuestion S.Store (store_connection self.old) (store_connection self.new) result (λ _. None)
             (λ a name. option_map string_bytes name ≡ person_of_token a token.now) }
-        ensures ends { EndsAskOr S.Store self.old self.new result []
+        ensures ends { EndsQuestionOrUnreadable S.Store self.old self.new result []
             (λ a. IsSomeAnd (person_of_token a token.now) (λ name. ¬ IsUtf8 name)) }
     {
         let name = texts::persons::person_of_token(&mut self.conn, token);
@@ -35,10 +35,10 @@ impl<S: Alter> Store<S> {
     /// The standing of a person on a list and a day: the highest kind that a grant gives which holds on that day, and
     /// `Public` where none does. E6 where there is no such person, E4 where there is no such list.
     pub fn standing(&mut self, person: &str, list: &str, day: Day) -> Result<Standing, StoreFault>
-        ensures answer { Answers S.Store (held_of self.old) (held_of self.new) result
+        ensures answer { AnswersStoreQuestion S.Store (store_connection self.old) (store_connection self.new) result
             (λ a. standing_refusal a person.now list.now)
             (λ a standing. standing_rank standing ≡ standing_of a person.now list.now day) }
-        ensures ends { EndsAskOr S.Store self.old self.new result (no_person ∷ no_list ∷ [])
+        ensures ends { EndsQuestionOrUnreadable S.Store self.old self.new result (no_person ∷ no_list ∷ [])
             (λ a. (standing : Standing)
             → standing_rank standing ≢ standing_of a person.now list.now day) }
     {

@@ -1,8 +1,8 @@
 //! Questions on lists and their messages.
 
 use crate::store::Store;
-use archive_database::reading::{read_names, read_or_fail};
-use archive_machine::{Key, Message};
+use archive_database::reading::{checked_message, read_names};
+use archive_model::{Key, Message};
 use archive_port::StoreFault;
 use archive_tables::texts;
 use sqlite::Alter;
@@ -12,24 +12,24 @@ impl<S: Alter> Store<S> {
     ghost use Rattle.std.specs.Prelude.{◌≡◌, [], ◌∷◌, None, length, map, option_map, string_bytes, IsUtf8};
     ghost use Rattle.std.specs.List.{All};
     ghost use Rattle.std.specs.Option.{IsSomeAnd};
-    ghost use Rattle.archive_machine.specs.Questions.{has_list, list_names, list_refusal, message_of, messages_in};
-    ghost use Rattle.archive_tables.specs.Crashes.{AddsNothing};
-    ghost use Rattle.archive_store.specs.Held.{held_of};
-    ghost use Rattle.archive_store.specs.Told.{EndsAsk, EndsAskOr, SeesTheSame, WasOpen};
+    ghost use Rattle.archive_model.specs.Questions.{has_list, list_names, list_refusal, message_of, messages_in};
+    ghost use Rattle.archive_tables.specs.Crashes.{CrashAddsNothing};
+    ghost use Rattle.archive_store.specs.Held.{store_connection};
+    ghost use Rattle.archive_store.specs.Told.{EndsQuestion, EndsQuestionOrUnreadable, SeesSameDatabase, WasOpen};
     ghost use Rattle.archive_port.specs.Messages.{IsReadable};
-    ghost use Rattle.archive_port.specs.Replies.{refusal};
-    ghost use Rattle.archive_store.specs.Replies.{Answers};
-    ghost use Rattle.archive_machine.specs.Commands.{no_list};
-    ghost use Rattle.archive_machine.specs.Messages.{remembered};
+    ghost use Rattle.archive_port.specs.Replies.{refusal_of_fault};
+    ghost use Rattle.archive_store.specs.Replies.{AnswersStoreQuestion};
+    ghost use Rattle.archive_model.specs.Commands.{no_list};
+    ghost use Rattle.archive_model.specs.Messages.{archived_message};
 
     /// Whether there is a list of this name.
     pub fn has_list(&mut self, name: &str) -> Result<bool, StoreFault>
-        ensures answer { Answers S.Store (held_of self.old) (held_of self.new) result (λ _. None)
+        ensures answer { AnswersStoreQuestion S.Store (store_connection self.old) (store_connection self.new) result (λ _. None)
             (λ a found. found ≡ has_list a name.now) }
-        ensures quiet { AddsNothing S.Store (held_of self.old) (held_of self.new) }
-        ensures same { SeesTheSame S.Store self.old self.new result }
-        ensures ends { EndsAsk S.Store self.old self.new result [] }
-        ensures was_open { WasOpen S.Store self.old self.new refusal result }
+        ensures quiet { CrashAddsNothing S.Store (store_connection self.old) (store_connection self.new) }
+        ensures same { SeesSameDatabase S.Store self.old self.new result }
+        ensures ends { EndsQuestion S.Store self.old self.new result [] }
+        ensures was_open { WasOpen S.Store self.old self.new refusal_of_fault result }
     {
         let listed = texts::lists::has_list(&mut self.conn, name);
         self.wants.pass(listed)
@@ -37,9 +37,9 @@ impl<S: Alter> Store<S> {
 
     /// The names of all lists, in the order of their bytes.
     pub fn lists(&mut self, alloc: Global) -> Result<Vec<String>, StoreFault>
-        ensures answer { Answers S.Store (held_of self.old) (held_of self.new) result (λ _. None)
+        ensures answer { AnswersStoreQuestion S.Store (store_connection self.old) (store_connection self.new) result (λ _. None)
             (λ a names. map string_bytes names.items ≡ list_names a) }
-        ensures ends { EndsAskOr S.Store self.old self.new result [] (λ a. ¬ All IsUtf8 a.lists) }
+        ensures ends { EndsQuestionOrUnreadable S.Store self.old self.new result [] (λ a. ¬ All IsUtf8 a.lists) }
     {
         let shown = self.wants.pass(texts::lists::list_names(&mut self.conn))?;
         let names = read_names(alloc, &shown);
@@ -48,12 +48,12 @@ impl<S: Alter> Store<S> {
 
     /// How many messages a list holds. E4 where there is no such list. It reads the number of each.
     pub fn count(&mut self, list: &str) -> Result<usize, StoreFault>
-        ensures answer { Answers S.Store (held_of self.old) (held_of self.new) result
+        ensures answer { AnswersStoreQuestion S.Store (store_connection self.old) (store_connection self.new) result
             (λ a. list_refusal a list.now)
             (λ a count. count ≡ length (messages_in a list.now)) }
-        ensures same { SeesTheSame S.Store self.old self.new result }
-        ensures quiet { AddsNothing S.Store (held_of self.old) (held_of self.new) }
-        ensures ends { EndsAsk S.Store self.old self.new result (no_list ∷ []) }
+        ensures same { SeesSameDatabase S.Store self.old self.new result }
+        ensures quiet { CrashAddsNothing S.Store (store_connection self.old) (store_connection self.new) }
+        ensures ends { EndsQuestion S.Store self.old self.new result (no_list ∷ []) }
     {
         if !self.has_list(list)? {
             return Err(StoreFault::NoList);
@@ -64,19 +64,19 @@ impl<S: Alter> Store<S> {
 
     /// The message of a list with a key, if the list holds it. E4 where there is no such list.
     pub fn row(&mut self, list: &str, key: &Key) -> Result<Option<Message>, StoreFault>
-        ensures answer { Answers S.Store (held_of self.old) (held_of self.new) result
+        ensures answer { AnswersStoreQuestion S.Store (store_connection self.old) (store_connection self.new) result
             (λ a. list_refusal a list.now)
-            (λ a found. option_map (remembered list.now) found ≡ message_of a list.now key.now) }
-        ensures ends { EndsAskOr S.Store self.old self.new result (no_list ∷ [])
+            (λ a found. option_map (archived_message list.now) found ≡ message_of a list.now key.now) }
+        ensures ends { EndsQuestionOrUnreadable S.Store self.old self.new result (no_list ∷ [])
             (λ a. IsSomeAnd (message_of a list.now key.now) (λ m. ¬ IsReadable m)) }
-        ensures was_open { WasOpen S.Store self.old self.new refusal result }
+        ensures was_open { WasOpen S.Store self.old self.new refusal_of_fault result }
     {
         if !self.has_list(list)? {
             return Err(StoreFault::NoList);
         }
         let found = texts::messages::message(&mut self.conn, list, key.as_str());
         match self.wants.pass(found)? {
-            Some(row) => Ok(Some(self.wants.pass_fault(read_or_fail(row))?)),
+            Some(row) => Ok(Some(self.wants.pass_fault(checked_message(row))?)),
             None => Ok(None),
         }
     }

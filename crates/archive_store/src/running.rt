@@ -1,18 +1,18 @@
 //! Commands one after the other.
 ghost use Rattle.std.specs.Prelude.{◌≡◌, ◌⊎◌, ◌≤◌, length, map, Some, IfErr, Err};
-ghost use Rattle.archive_machine.specs.Machine.{step};
+ghost use Rattle.archive_model.specs.Machine.{step};
 ghost use Rattle.sqlite.specs.Held.{state};
-ghost use Rattle.archive_store.specs.Held.{held_of};
-ghost use Rattle.archive_store.specs.Told.{EndsUnrefusedBy, HasFailed};
-ghost use Rattle.archive_store.specs.Refusals.{StopsRun};
-ghost use Rattle.archive_store.specs.Replies.{Does};
-ghost use Rattle.archive_port.specs.Replies.{done_in, reply_of, says_done, with_fault};
+ghost use Rattle.archive_store.specs.Held.{store_connection};
+ghost use Rattle.archive_store.specs.Told.{EndsUnrefusedBy, DiskHasFailed};
+ghost use Rattle.archive_store.specs.Refusals.{RowsRefuseNextCommand};
+ghost use Rattle.archive_store.specs.Replies.{PerformsModelStep};
+ghost use Rattle.archive_port.specs.Replies.{done_count_on_error, reply_of_result, reply_if_done, map_error_to_fault};
 ghost use Rattle.archive_store.specs.Crashes.{CrashRuns, CrashSteps};
-ghost use Rattle.archive_port.specs.Commands.{answer_by, command_of};
-ghost use Rattle.archive_store.specs.Running.{EndsCommand, IsTold, Runs, answer_of, carried};
+ghost use Rattle.archive_port.specs.Commands.{reply_unless_refused, spec_command};
+ghost use Rattle.archive_store.specs.CommandRuns.{EndsCommand, IsModelOutcomeOrFault, RunsCommands, outcome_reply, result_reply};
 
 use crate::store::Store;
-use archive_machine::Found;
+use archive_model::CommandFacts;
 use archive_port::{Added, Command, StoreFault};
 use sqlite::Alter;
 use std::alloc::Global;
@@ -29,7 +29,7 @@ pub enum Outcome {
 
 /// Where a run stopped, for E14 or E15: the first `done` commands were carried out, and, if the connection is still open, no other.
 #[derive(Clone, Copy, Debug, PartialEq, Eq)]
-pub struct RunStop {
+pub struct CommandRunError {
     /// How many commands were carried out.
     pub done: usize,
     /// Why no more were.
@@ -37,9 +37,12 @@ pub struct RunStop {
 }
 
 /// The outcome of a command, by what was found of its names; its refusal, or that memory or the database was at fault.
-fn outcome_of(command: &Command<'_>, told: Result<Found, StoreFault>) -> Result<Outcome, StoreFault>
-    ensures value { carried result ≡ reply_of (answer_by (command_of command.now)) told }
-    ensures told { IsTold result }
+fn outcome_of(
+    command: &Command<'_>,
+    told: Result<CommandFacts, StoreFault>,
+) -> Result<Outcome, StoreFault>
+    ensures value { result_reply result ≡ reply_of_result (reply_unless_refused (spec_command command.now)) told }
+    ensures told { IsModelOutcomeOrFault result }
     ensures passed { IfErr result (λ fault. told ≡ Err fault) }
 {
     match told {
@@ -59,35 +62,39 @@ fn outcome_of(command: &Command<'_>, told: Result<Found, StoreFault>) -> Result<
 impl<S: Alter> Store<S> {
     /// Carries a command out. E14 and E15 are errors.
     fn carry_out(&mut self, command: &Command<'_>) -> Result<Outcome, StoreFault>
-        ensures step { Does S.Store (held_of self.old) (held_of self.new)
-            (λ a. step a (command_of command.now)) (carried result) }
-        ensures crash { CrashSteps S.Store (held_of self.old) (held_of self.new)
-            (λ a. step a (command_of command.now)) }
-        ensures told { IsTold result }
-        ensures ends { EndsCommand S.Store self.old self.new (command_of command.now) result }
+        ensures step { PerformsModelStep S.Store (store_connection self.old) (store_connection self.new)
+            (λ a. step a (spec_command command.now)) (result_reply result) }
+        ensures crash { CrashSteps S.Store (store_connection self.old) (store_connection self.new)
+            (λ a. step a (spec_command command.now)) }
+        ensures told { IsModelOutcomeOrFault result }
+        ensures ends { EndsCommand S.Store self.old self.new (spec_command command.now) result }
     {
         outcome_of(command, self.carry(command))
     }
 
     /// Carries commands out one after the other, with the outcome of each. Room for the outcomes is made before the
     /// first command. To add many messages, call `add_all`, which is faster: it counts the list once, and commits many messages at once.
-    pub fn run(&mut self, alloc: Global, commands: &[Command<'_>]) -> Result<Vec<Outcome>, RunStop>
-        ensures step { Runs S.Store (held_of self.old) (held_of self.new)
-            (map command_of commands.entry.now) result }
-        ensures crash { CrashRuns S.Store (held_of self.old) (held_of self.new)
-            (map command_of commands.entry.now) result }
+    pub fn run(
+        &mut self,
+        alloc: Global,
+        commands: &[Command<'_>],
+    ) -> Result<Vec<Outcome>, CommandRunError>
+        ensures step { RunsCommands S.Store (store_connection self.old) (store_connection self.new)
+            (map spec_command commands.entry.now) result }
+        ensures crash { CrashRuns S.Store (store_connection self.old) (store_connection self.new)
+            (map spec_command commands.entry.now) result }
         ensures bound { IfErr result (λ stop. stop.done ≤ length commands.entry.now) }
         ensures ends { EndsUnrefusedBy S.Store self.old self.new
-            (HasFailed S.Store self.old self.new
-            ⊎ StopsRun (map command_of commands.entry.now) (done_in (λ stop. stop.done) result)
-            (state S.Store (held_of self.new)).now)
-            (with_fault (λ stop. stop.fault) result) }
+            (DiskHasFailed S.Store self.old self.new
+            ⊎ RowsRefuseNextCommand (map spec_command commands.entry.now) (done_count_on_error (λ stop. stop.done) result)
+            (state S.Store (store_connection self.new)).now)
+            (map_error_to_fault (λ stop. stop.fault) result) }
     {
         let mut outcomes = match Vec::with_capacity(alloc, commands.len()) {
             Ok(outcomes) => outcomes,
             Err(refused) => {
                 let fault = self.wants.refuse(refused.into());
-                return Err(RunStop { done: 0, fault });
+                return Err(CommandRunError { done: 0, fault });
             }
         };
         for command in commands.iter() {
@@ -98,12 +105,12 @@ impl<S: Alter> Store<S> {
                         Ok(()) => {}
                         Err(refused) => {
                             let fault = self.wants.refuse(refused.into());
-                            return Err(RunStop { done, fault });
+                            return Err(CommandRunError { done, fault });
                         }
                     }
                 }
                 Err(fault) => {
-                    return Err(RunStop {
+                    return Err(CommandRunError {
                         done: outcomes.len(),
                         fault,
                     });

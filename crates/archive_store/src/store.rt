@@ -1,7 +1,7 @@
 //! The store: a connection, and how often memory was wanting.
 ghost use Rattle.std.specs.Prelude.{◌≡◌};
 
-use crate::wants::Wants;
+use crate::wants::RefusalCounter;
 use sqlite::{Alter, Connection};
 
 /// The archive in the tables of a connection.
@@ -9,15 +9,15 @@ use sqlite::{Alter, Connection};
 pub struct Store<S: Alter> {
     pub(crate) conn: Connection<S>,
     /// How often memory was refused: each call counts its E14, and the layers above theirs.
-    pub wants: Wants,
+    pub wants: RefusalCounter,
 }
 
 impl<S: Alter> Store<S> {
-    ghost use Rattle.archive_store.specs.Held.{held_of};
+    ghost use Rattle.archive_store.specs.Held.{store_connection};
 
     /// Hands the connection back, and changes nothing.
     pub fn into_connection(self) -> Connection<S>
-        ensures { result ≡ held_of self }
+        ensures { result ≡ store_connection self }
     {
         let Store {
             conn,

@@ -1,21 +1,21 @@
 //! Walks over the messages of a list.
 ghost use Rattle.std.specs.Prelude.{◌≡◌, ◌+◌, ◌∷◌, [], drop, map, slice_get, pos, IfOk, MatchResult, MatchOption, ◌-◌};
-ghost use Rattle.archive_machine.specs.Messages.{remembered};
-ghost use Rattle.archive_machine.specs.Questions.{list_refusal, messages_in};
-ghost use Rattle.archive_tables.specs.Calls.{AsksRows};
-ghost use Rattle.archive_tables.specs.Rows.{place_shown};
-ghost use Rattle.archive_store.specs.Held.{held_of};
-ghost use Rattle.archive_machine.specs.Commands.{no_list};
-ghost use Rattle.archive_port.specs.Replies.{RefusedFor};
-ghost use Rattle.archive_store.specs.Told.{EndsAsk, EndsAskOr, EndsUnrefused};
+ghost use Rattle.archive_model.specs.Messages.{archived_message};
+ghost use Rattle.archive_model.specs.Questions.{list_refusal, messages_in};
+ghost use Rattle.archive_tables.specs.Calls.{AnswersFromRows};
+ghost use Rattle.archive_tables.specs.Rows.{rowid_result_row};
+ghost use Rattle.archive_store.specs.Held.{store_connection};
+ghost use Rattle.archive_model.specs.Commands.{no_list};
+ghost use Rattle.archive_port.specs.Replies.{IsRefusedOnlyFor};
+ghost use Rattle.archive_store.specs.Told.{EndsQuestion, EndsQuestionOrUnreadable, EndsUnrefused};
 ghost use Rattle.archive_port.specs.Messages.{IsReadable};
-ghost use Rattle.archive_store.specs.Walking.{GivesNext, GivesAll, StopsNext, StopsAll, ShowsMessage, ShowsMarks, ShowsNext, StopsShowing};
-ghost use Rattle.archive_store.specs.Walking.{FindsPlaces, IsNotBegun, ahead_of, left_of, over, selected_places};
+ghost use Rattle.archive_store.specs.Walking.{GivesNext, GivesAll, E15MeansNextUnreadable, E15MeansSomeUnreadable, ShowsMessage, ShowsMarks, PeeksNextMarks, E15MeansMessageUnreadable};
+ghost use Rattle.archive_store.specs.Walking.{FindsMessageNumbers, IsWalkNotBegun, remaining_numbers, remaining_count, walk_over_store, selected_numbers};
 
 use crate::store::Store;
 use crate::words::month_number;
-use archive_database::reading::{marks_or_fail, read_or_fail, read_places};
-use archive_machine::Message;
+use archive_database::reading::{checked_dated_marks, checked_message, read_numbers};
+use archive_model::Message;
 use archive_port::{DatedMarks, StoreFault};
 use archive_tables::texts;
 use civil_time::Month;
@@ -25,7 +25,7 @@ use std::alloc::Global;
 /// Messages of a list, one at a time: all in mailbox order, or those of a month or an author. It holds the numbers of the messages,
 /// and no message, and each call is told the store. It may be dropped at any message.
 #[derive(Drop)]
-pub struct EachRow {
+pub struct MessageWalk {
     places: Vec<i64>,
     at: usize,
 }
@@ -43,20 +43,20 @@ pub enum Selection<'a> {
 }
 
 impl<S: Alter> Store<S> {
-    ghost use Rattle.archive_store.specs.Replies.{Answers};
+    ghost use Rattle.archive_store.specs.Replies.{AnswersStoreQuestion};
     ghost use Rattle.std.specs.Prelude.{pos};
     ghost use Rattle.std.specs.List.{All};
     ghost use Rattle.archive_port.specs.Messages.{IsReadable};
-    ghost use Rattle.archive_store.specs.Told.{CausedOr};
-    ghost use Rattle.archive_machine.specs.Filing.{in_month, by_author};
-    ghost use Rattle.archive_store.specs.Walking.{Begins, BeginsOver, DoesNotBegin, over, selected};
+    ghost use Rattle.archive_store.specs.Told.{E15MeansDiskFailedOr};
+    ghost use Rattle.archive_model.specs.Filing.{messages_in_month, messages_by_author};
+    ghost use Rattle.archive_store.specs.Walking.{BeginsListWalk, BeginsOver, WalkFailsToBegin, walk_over_store, selected_messages};
 
     /// The messages of a list in mailbox order. E4 where there is no such list.
     pub fn rows(&mut self, alloc: Global, list: &str) -> Result<Vec<Message>, StoreFault>
-        ensures answer { Answers S.Store (held_of self.old) (held_of self.new) result
+        ensures answer { AnswersStoreQuestion S.Store (store_connection self.old) (store_connection self.new) result
             (λ a. list_refusal a list.now)
-            (λ a found. map (remembered list.now) found.items ≡ messages_in a list.now) }
-        ensures ends { EndsAskOr S.Store self.old self.new result (no_list ∷ [])
+            (λ a found. map (archived_message list.now) found.items ≡ messages_in a list.now) }
+        ensures ends { EndsQuestionOrUnreadable S.Store self.old self.new result (no_list ∷ [])
             (λ a. ¬ All IsReadable (messages_in a list.now)) }
     {
         self.read_selected(alloc, list, &Selection::Every)
@@ -70,11 +70,11 @@ impl<S: Alter> Store<S> {
         list: &str,
         month: Month,
     ) -> Result<Vec<Message>, StoreFault>
-        ensures answer { Answers S.Store (held_of self.old) (held_of self.new) result
+        ensures answer { AnswersStoreQuestion S.Store (store_connection self.old) (store_connection self.new) result
             (λ a. list_refusal a list.now)
-            (λ a found. map (remembered list.now) found.items ≡ in_month a list.now (pos month)) }
-        ensures ends { EndsAskOr S.Store self.old self.new result (no_list ∷ [])
-            (λ a. ¬ All IsReadable (in_month a list.now (pos month))) }
+            (λ a found. map (archived_message list.now) found.items ≡ messages_in_month a list.now (pos month)) }
+        ensures ends { EndsQuestionOrUnreadable S.Store self.old self.new result (no_list ∷ [])
+            (λ a. ¬ All IsReadable (messages_in_month a list.now (pos month))) }
     {
         self.read_selected(alloc, list, &Selection::InMonth(month))
     }
@@ -86,11 +86,11 @@ impl<S: Alter> Store<S> {
         list: &str,
         key: &[u8],
     ) -> Result<Vec<Message>, StoreFault>
-        ensures answer { Answers S.Store (held_of self.old) (held_of self.new) result
+        ensures answer { AnswersStoreQuestion S.Store (store_connection self.old) (store_connection self.new) result
             (λ a. list_refusal a list.now)
-            (λ a found. map (remembered list.now) found.items ≡ by_author a list.now key.now) }
-        ensures ends { EndsAskOr S.Store self.old self.new result (no_list ∷ [])
-            (λ a. ¬ All IsReadable (by_author a list.now key.now)) }
+            (λ a found. map (archived_message list.now) found.items ≡ messages_by_author a list.now key.now) }
+        ensures ends { EndsQuestionOrUnreadable S.Store self.old self.new result (no_list ∷ [])
+            (λ a. ¬ All IsReadable (messages_by_author a list.now key.now)) }
     {
         self.read_selected(alloc, list, &Selection::ByAuthor(key))
     }
@@ -102,21 +102,21 @@ impl<S: Alter> Store<S> {
         list: &str,
         which: &Selection<'_>,
     ) -> Result<Vec<Message>, StoreFault>
-        ensures answer { Answers S.Store (held_of self.old) (held_of self.new) result
+        ensures answer { AnswersStoreQuestion S.Store (store_connection self.old) (store_connection self.new) result
             (λ a. list_refusal a list.now)
-            (λ a found. map (remembered list.now) found.items ≡ selected a list.now which.now) }
-        ensures ends { EndsAskOr S.Store self.old self.new result (no_list ∷ [])
-            (λ a. ¬ All IsReadable (selected a list.now which.now)) }
+            (λ a found. map (archived_message list.now) found.items ≡ selected_messages a list.now which.now) }
+        ensures ends { EndsQuestionOrUnreadable S.Store self.old self.new result (no_list ∷ [])
+            (λ a. ¬ All IsReadable (selected_messages a list.now which.now)) }
     {
         let mut walk = self.each_selected(alloc, list, which)?;
         read_rows(self, alloc, &mut walk)
     }
 
     /// Begins a walk over the messages of a list, in mailbox order. E4 where there is no such list.
-    pub fn each_row(&mut self, alloc: Global, list: &str) -> Result<EachRow, StoreFault>
-        ensures refused { DoesNotBegin S.Store self.old list.now result self.new }
-        ensures begun { IfOk result (λ walk. Begins S.Store self.old list.now (over self.new walk)) }
-        ensures kind { RefusedFor result (no_list ∷ []) }
+    pub fn each_row(&mut self, alloc: Global, list: &str) -> Result<MessageWalk, StoreFault>
+        ensures refused { WalkFailsToBegin S.Store self.old list.now result self.new }
+        ensures begun { IfOk result (λ walk. BeginsListWalk S.Store self.old list.now (walk_over_store self.new walk)) }
+        ensures kind { IsRefusedOnlyFor result (no_list ∷ []) }
     {
         self.each_selected(alloc, list, &Selection::Every)
     }
@@ -127,33 +127,33 @@ impl<S: Alter> Store<S> {
         alloc: Global,
         list: &str,
         which: &Selection<'_>,
-    ) -> Result<EachRow, StoreFault>
-        ensures refused { DoesNotBegin S.Store self.old list.now result self.new }
+    ) -> Result<MessageWalk, StoreFault>
+        ensures refused { WalkFailsToBegin S.Store self.old list.now result self.new }
         ensures begun { IfOk result (λ walk. BeginsOver S.Store self.old list.now
-            (λ a. selected a list.now which.now) (over self.new walk)) }
-        ensures kind { RefusedFor result (no_list ∷ []) }
+            (λ a. selected_messages a list.now which.now) (walk_over_store self.new walk)) }
+        ensures kind { IsRefusedOnlyFor result (no_list ∷ []) }
     {
         let places = find_places(self, alloc, list, which)?;
-        Ok(EachRow { places, at: 0 })
+        Ok(MessageWalk { places, at: 0 })
     }
 }
 
-impl EachRow {
+impl MessageWalk {
     /// How many messages it has not given yet.
     pub fn left(&self) -> usize
-        ensures { result ≡ left_of self.now }
+        ensures { result ≡ remaining_count self.now }
     {
         self.places.len().saturating_sub(self.at)
     }
 
     /// The next message. `None` where all were given.
     pub fn next<S: Alter>(&mut self, store: &mut Store<S>) -> Result<Option<Message>, StoreFault>
-        ensures given { GivesNext S.Store (over store.old self.old) (over store.new self.new) result }
+        ensures given { GivesNext S.Store (walk_over_store store.old self.old) (walk_over_store store.new self.new) result }
         ensures left { MatchResult result (λ found. MatchOption found
-            ((left_of self.old ≡ 0) × (left_of self.new ≡ 0))
-            (λ _. left_of self.old ≡ left_of self.new + 1))
-            (λ _. left_of self.new ≡ left_of self.old) }
-        ensures caused { StopsNext S.Store (over store.old self.old) (over store.new self.new) result }
+            ((remaining_count self.old ≡ 0) × (remaining_count self.new ≡ 0))
+            (λ _. remaining_count self.old ≡ remaining_count self.new + 1))
+            (λ _. remaining_count self.new ≡ remaining_count self.old) }
+        ensures caused { E15MeansNextUnreadable S.Store (walk_over_store store.old self.old) (walk_over_store store.new self.new) result }
         ensures ends { EndsUnrefused S.Store store.old store.new result }
     {
         let Some(place) = place_at(&self.places, self.at) else {
@@ -165,12 +165,12 @@ impl EachRow {
     }
 
     /// The arrival and the marks of the next message, which stays the next: its text is not read. `None` where all were given.
-    pub fn next_marks<S: Alter>(
+    pub fn peek_marks<S: Alter>(
         &self,
         store: &mut Store<S>,
     ) -> Result<Option<DatedMarks>, StoreFault>
-        ensures shown { ShowsNext S.Store (over store.old self.now) (over store.new self.now) result }
-        ensures caused { StopsNext S.Store (over store.old self.now) (over store.new self.now) result }
+        ensures shown { PeeksNextMarks S.Store (walk_over_store store.old self.now) (walk_over_store store.new self.now) result }
+        ensures caused { E15MeansNextUnreadable S.Store (walk_over_store store.old self.now) (walk_over_store store.new self.now) result }
         ensures ends { EndsUnrefused S.Store store.old store.new result }
     {
         let Some(place) = place_at(&self.places, self.at) else {
@@ -181,8 +181,8 @@ impl EachRow {
 
     /// Passes the next message by, as if it were given. It does nothing where all were given.
     pub fn pass(&mut self)
-        ensures passed { ahead_of self.new ≡ drop 1 (ahead_of self.old) }
-        ensures left { left_of self.new ≡ left_of self.old - 1 }
+        ensures passed { remaining_numbers self.new ≡ drop 1 (remaining_numbers self.old) }
+        ensures left { remaining_count self.new ≡ remaining_count self.old - 1 }
     {
         if self.at < self.places.len() {
             self.at = self.at + 1;
@@ -194,10 +194,10 @@ impl EachRow {
 fn read_rows<S: Alter>(
     store: &mut Store<S>,
     alloc: Global,
-    walk: &mut EachRow,
+    walk: &mut MessageWalk,
 ) -> Result<Vec<Message>, StoreFault>
-    ensures given { GivesAll S.Store (over store.old walk.old) (over store.new walk.new) result }
-    ensures caused { StopsAll S.Store (over store.old walk.old) (over store.new walk.new) result }
+    ensures given { GivesAll S.Store (walk_over_store store.old walk.old) (walk_over_store store.new walk.new) result }
+    ensures caused { E15MeansSomeUnreadable S.Store (walk_over_store store.old walk.old) (walk_over_store store.new walk.new) result }
     ensures ends { EndsUnrefused S.Store store.old store.new result }
 {
     let mut found = match Vec::with_capacity(alloc, walk.left()) {
@@ -220,16 +220,16 @@ fn find_places<S: Alter>(
     list: &str,
     which: &Selection<'_>,
 ) -> Result<Vec<i64>, StoreFault>
-    ensures refused { IsNotBegun S.Store store.old list.now result store.new }
-    ensures found { FindsPlaces S.Store store.old store.new list.now
-        (λ trees. selected_places trees list.now which.now) result }
-    ensures ends { EndsAsk S.Store store.old store.new result (no_list ∷ []) }
+    ensures refused { IsWalkNotBegun S.Store store.old list.now result store.new }
+    ensures found { FindsMessageNumbers S.Store store.old store.new list.now
+        (λ trees. selected_numbers trees list.now which.now) result }
+    ensures ends { EndsQuestion S.Store store.old store.new result (no_list ∷ []) }
 {
     if !store.has_list(list)? {
         return Err(StoreFault::NoList);
     }
     let shown = store.wants.pass(show_places(&mut store.conn, list, which))?;
-    store.wants.pass_fault(read_places(alloc, &shown))
+    store.wants.pass_fault(read_numbers(alloc, &shown))
 }
 
 /// The rows that show those numbers.
@@ -238,8 +238,8 @@ fn show_places<S: Alter>(
     list: &str,
     which: &Selection<'_>,
 ) -> Result<Vec<Row>, Error>
-    ensures { AsksRows S.Store conn.old conn.new result
-        (λ trees rows. rows.items ≡ map place_shown (selected_places trees list.now which.now)) ⊥ }
+    ensures { AnswersFromRows S.Store conn.old conn.new result
+        (λ trees rows. rows.items ≡ map rowid_result_row (selected_numbers trees list.now which.now)) ⊥ }
 {
     match which {
         Selection::Every => texts::messages::places(conn, list),
@@ -259,12 +259,12 @@ fn place_at(places: &[i64], at: usize) -> Option<i64>
 /// The message of a number.
 fn message_at<S: Alter>(store: &mut Store<S>, place: i64) -> Result<Message, StoreFault>
     ensures shown { ShowsMessage S.Store store.old store.new place result }
-    ensures caused { StopsShowing S.Store store.old store.new place result }
+    ensures caused { E15MeansMessageUnreadable S.Store store.old store.new place result }
     ensures ends { EndsUnrefused S.Store store.old store.new result }
 {
     let found = texts::messages::message_at(&mut store.conn, place);
     match store.wants.pass(found)? {
-        Some(row) => store.wants.pass_fault(read_or_fail(row)),
+        Some(row) => store.wants.pass_fault(checked_message(row)),
         None => Err(StoreFault::Store),
     }
 }
@@ -272,12 +272,12 @@ fn message_at<S: Alter>(store: &mut Store<S>, place: i64) -> Result<Message, Sto
 /// The arrival and the marks of the message of a number.
 fn marks_at<S: Alter>(store: &mut Store<S>, place: i64) -> Result<DatedMarks, StoreFault>
     ensures shown { ShowsMarks S.Store store.old store.new place result }
-    ensures caused { StopsShowing S.Store store.old store.new place result }
+    ensures caused { E15MeansMessageUnreadable S.Store store.old store.new place result }
     ensures ends { EndsUnrefused S.Store store.old store.new result }
 {
     let found = texts::messages::marks_at(&mut store.conn, place);
     match store.wants.pass(found)? {
-        Some(row) => store.wants.pass_fault(marks_or_fail(row)),
+        Some(row) => store.wants.pass_fault(checked_dated_marks(row)),
         None => Err(StoreFault::Store),
     }
 }

@@ -1,26 +1,26 @@
 //! How often memory was refused.
 ghost use Rattle.std.specs.Prelude.{◌≡◌, ◌+◌, ◌<◌, None, Ok, IfErr, IsErrAnd, MatchResult};
-ghost use Rattle.archive_store.specs.Replies.{fault_of};
-ghost use Rattle.archive_database.specs.Faults.{fault_in};
-ghost use Rattle.archive_port.specs.Replies.{refusal};
-ghost use Rattle.archive_port.specs.Wanting.{IsWant, RaisesFor};
+ghost use Rattle.archive_store.specs.Replies.{store_fault_of_error};
+ghost use Rattle.archive_database.specs.Faults.{as_store_fault};
+ghost use Rattle.archive_port.specs.Replies.{refusal_of_fault};
+ghost use Rattle.archive_port.specs.Wanting.{IsMemoryRefusal, RaisesCountOnlyIfRefused};
 ghost use Rattle.archive_port.specs.declared.faults.StoreFault.TheVariants.{Memory};
 
 use crate::faults::database_fault;
-use archive_database::Fault;
-use archive_port::{Refused, StoreFault};
-use byte_device::Told;
+use archive_database::DatabaseError;
+use archive_port::{MemoryRefusal, StoreFault};
+use byte_device::Transcript;
 use sqlite::{Error, ErrorCode};
 use std::marker::Model;
 
 /// How often memory was refused in the calls of a store and of the layers above it, as devices count their failures. Only clauses
 /// read it: it takes no room, and its calls do nothing when they run.
 #[derive(Drop)]
-pub struct Wants {
-    told: Told,
+pub struct RefusalCounter {
+    told: Transcript,
 }
 
-impl Model for Wants {
+impl Model for RefusalCounter {
     ghost use Rattle.std.specs.Prelude.{ℕ, length};
 
     ghost Value = { ℕ };
@@ -28,23 +28,25 @@ impl Model for Wants {
     ghost view = { λ w. length w.told.bytes };
 }
 
-impl Wants {
+impl RefusalCounter {
     /// None yet.
-    pub(crate) fn new() -> Wants
+    pub(crate) fn new() -> RefusalCounter
         ensures { result ≡ 0 }
     {
-        Wants { told: Told::new() }
+        RefusalCounter {
+            told: Transcript::new(),
+        }
     }
 
     /// One more: a call refused memory. Who answers that none is left calls it before.
-    pub fn raise(&mut self, _why: Refused)
+    pub fn increment(&mut self, _why: MemoryRefusal)
         ensures { self.new ≡ self.old + 1 }
     {
         self.told.note(&[0]);
     }
 
     /// One more, and E14.
-    pub(crate) fn refuse(&mut self, why: Refused) -> StoreFault
+    pub(crate) fn refuse(&mut self, why: MemoryRefusal) -> StoreFault
         ensures fault { result ≡ Memory }
         ensures raised { self.new ≡ self.old + 1 }
     {
@@ -63,9 +65,9 @@ impl Wants {
     /// Hands on what the database told: an error as its fault, E14 where memory was wanted, which is counted, or else E15.
     pub(crate) fn pass<T>(&mut self, told: Result<T, Error>) -> Result<T, StoreFault>
         ensures passed { MatchResult result (λ found. told ≡ Ok found)
-            (λ fault. IsErrAnd told (λ error. fault ≡ fault_of error)) }
-        ensures kind { IfErr result (λ fault. refusal fault ≡ None) }
-        ensures counted { RaisesFor IsWant self.old self.new result }
+            (λ fault. IsErrAnd told (λ error. fault ≡ store_fault_of_error error)) }
+        ensures kind { IfErr result (λ fault. refusal_of_fault fault ≡ None) }
+        ensures counted { RaisesCountOnlyIfRefused IsMemoryRefusal self.old self.new result }
     {
         match told {
             Ok(found) => Ok(found),
@@ -77,16 +79,16 @@ impl Wants {
     }
 
     /// The same of what was done on a database.
-    pub(crate) fn pass_fault<T>(&mut self, told: Result<T, Fault>) -> Result<T, StoreFault>
+    pub(crate) fn pass_fault<T>(&mut self, told: Result<T, DatabaseError>) -> Result<T, StoreFault>
         ensures passed { MatchResult result (λ found. told ≡ Ok found)
-            (λ fault. IsErrAnd told (λ error. fault ≡ fault_in error)) }
-        ensures kind { IfErr result (λ fault. refusal fault ≡ None) }
-        ensures counted { RaisesFor IsWant self.old self.new result }
+            (λ fault. IsErrAnd told (λ error. fault ≡ as_store_fault error)) }
+        ensures kind { IfErr result (λ fault. refusal_of_fault fault ≡ None) }
+        ensures counted { RaisesCountOnlyIfRefused IsMemoryRefusal self.old self.new result }
     {
         match told {
             Ok(found) => Ok(found),
-            Err(Fault::Memory) => Err(self.counted(StoreFault::Memory)),
-            Err(Fault::Database) => Err(StoreFault::Store),
+            Err(DatabaseError::Memory) => Err(self.counted(StoreFault::Memory)),
+            Err(DatabaseError::Database) => Err(StoreFault::Store),
         }
     }
 }

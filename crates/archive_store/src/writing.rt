@@ -1,19 +1,19 @@
 //! What a command writes: one text.
 ghost use Rattle.std.specs.Prelude.{◌≡◌};
-ghost use Rattle.archive_store.specs.Carrying.{PutsDown, said};
+ghost use Rattle.archive_store.specs.Carrying.{WritesCommandRows, map_store_result};
 
 use crate::store::Store;
 use crate::words::day_number;
 use archive_database::lists::add_list;
-use archive_database::taking::take_in;
-use archive_machine::{Found, Key, kept_address};
+use archive_database::taking::insert_message;
+use archive_model::{CommandFacts, Key, normalize_address};
 use archive_port::{Command, StoreFault};
 use archive_tables::texts;
 use sqlite::Alter;
 
 /// So many rows were written.
 fn rows(count: usize, told: Result<(), StoreFault>) -> Result<usize, StoreFault>
-    ensures { result ≡ said (λ _. count) told }
+    ensures { result ≡ map_store_result (λ _. count) told }
 {
     match told {
         Ok(()) => Ok(count),
@@ -26,9 +26,9 @@ impl<S: Alter> Store<S> {
     pub(crate) fn write(
         &mut self,
         command: &Command<'_>,
-        found: &Found,
+        found: &CommandFacts,
     ) -> Result<usize, StoreFault>
-        ensures { PutsDown S.Store self.old self.new command.now found.now result }
+        ensures { WritesCommandRows S.Store self.old self.new command.now found.now result }
     {
         match command {
             Command::ListAdd { name } => {
@@ -48,7 +48,7 @@ impl<S: Alter> Store<S> {
                 person,
                 address,
             } => {
-                let kept = match kept_address(*alloc, address) {
+                let kept = match normalize_address(*alloc, address) {
                     Ok(kept) => kept,
                     Err(refused) => return Err(self.wants.refuse(refused.into())),
                 };
@@ -61,7 +61,7 @@ impl<S: Alter> Store<S> {
                 }
             }
             Command::Add { alloc, list, item } => {
-                let taken = take_in(&mut self.conn, *alloc, list, &Key::of(item), item);
+                let taken = insert_message(&mut self.conn, *alloc, list, &Key::of(item), item);
                 rows(1, self.wants.pass_fault(taken))
             }
             Command::Restore { list, key } => {

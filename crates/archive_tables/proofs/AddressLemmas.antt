@@ -26,13 +26,13 @@ use Rattle.sqlite_schema.specs.Rules.{clashes}
 use Rattle.sqlite_value.specs.Keys.{plain}
 use Rattle.sqlite_sql.specs.declared.ops.BinaryOp.TheVariants.{Compare}
 use Rattle.sqlite_sql.specs.declared.ops.CompareOp.TheVariants.{Eq}
-use Rattle.archive_machine.specs.Records.{Address}
-use Rattle.archive_machine.specs.Questions.{is_address_of}
-use Rattle.archive_machine.specs.Machine.{readdressed}
+use Rattle.archive_model.specs.Records.{Address}
+use Rattle.archive_model.specs.Questions.{is_address_of}
+use Rattle.archive_model.specs.Machine.{with_replaced_address}
 use Rattle.archive_tables.specs.Schema.{archive_schema, address_table}
-use Rattle.archive_tables.specs.Tables.{IsHeld, Numbered, row_of, address_cells, address_read, archive_of, same_address, AreApart}
-use Rattle.archive_tables.specs.Rows.{name_shown}
-use Rattle.archive_tables.specs.Calls.{ChangesOver, StaysOver, RestsOver, IsCaused}
+use Rattle.archive_tables.specs.Tables.{IsOpenArchive, NumberedRecord, numbered_row, address_cells, address_from_row, archive_of, same_address_key, HaveDistinctKeys}
+use Rattle.archive_tables.specs.Rows.{name_result_row}
+use Rattle.archive_tables.specs.Calls.{ChangesArchive, LeavesRowsUnchanged, FaultKeepsRowsOrRollsBack, IsMemoryOrDiskError}
 use Rattle.archive_tables.proofs.RunLemmas.{passed, value_is, no_action, cast_null, cast_int, kept_by, rests, execute_fails}
 use Rattle.archive_tables.proofs.RowLemmas.{put_past}
 use Rattle.archive_tables.proofs.TableLemmas.{SameBut, same_but, addresses_change}
@@ -42,13 +42,13 @@ use Rattle.archive_tables.proofs.SelectLemmas.{plain_query, by_number, passes, p
 use Rattle.archive_tables.proofs.CauseLemmas.{Fits, question_fails_by}
 use Rattle.sqlite_typing.specs.Types.{accepts_program}
 
-back : (n : ℤ) (a : Address) → address_read (Int n ∷ address_cells a) ≡ a
+back : (n : ℤ) (a : Address) → address_from_row (Int n ∷ address_cells a) ≡ a
 back n a = refl
 
 pub person_of_address : (n : ℤ) (a : Address) → column (Int n ∷ address_cells a) 1 ≡ Text a.person
 person_of_address n a = refl
 
-alike : (person : List ℕ) (a b : Address) → is_address_of person a ≡ true → same_address a b ≡ is_address_of person b
+alike : (person : List ℕ) (a b : Address) → is_address_of person a ≡ true → same_address_key a b ≡ is_address_of person b
 alike person a b found = ap (bytes_eq b.person) (equal_words a.person person found)
 
 abbrev of_person : List Term
@@ -73,15 +73,15 @@ add_plain : IsPlain (understood archive_schema add_text)
 unfolding understood everything
 add_plain = (refl, refl)
 
-abbrev fresh : Trees → Address → Numbered Address
+abbrev fresh : Trees → Address → NumberedRecord Address
 fresh db o = record { number = next_rowid (db 15); it = o }
 
 adding : (db : Trees) (o : Address) (given : List Row) → given ≡ (Null ∷ address_cells o) ∷ []
-    → edited db (edit_of db address_table [] Chosen 0 given) ≡ put_row (row_of address_cells (fresh db o)) (db 15)
+    → edited db (edit_of db address_table [] Chosen 0 given) ≡ put_row (numbered_row address_cells (fresh db o)) (db 15)
 adding db o given from = rw (from, cast_null)
 
-adds : {behind : Option Database} (old new : State) (o : Address) (count : ℕ) → IsHeld behind old → Executes add_text (address_cells o) old new (Ok count)
-    → ChangesOver behind old new (λ a. record a { addresses = a.addresses ++ o ∷ [] })
+adds : {behind : Option Database} (old new : State) (o : Address) (count : ℕ) → IsOpenArchive behind old → Executes add_text (address_cells o) old new (Ok count)
+    → ChangesArchive behind old new (λ a. record a { addresses = a.addresses ++ o ∷ [] })
 adds old new o count k h =
     let params = address_cells o in
     let db = old.now.trees in
@@ -97,18 +97,18 @@ adds old new o count k h =
     let applied = one_step archive_schema _ db written.0 edit (no_action 15 (taken_by db edit) edit.news) written.1 in
     let trees : new.now.trees ≡ written.0 =
     ap (λ (d : Database). d.trees) now ∙ ap (λ (it : Written). it.trees) (value_is counted.2) ∙ value_is counted.1 in
-    let put = put_past address_cells address_read back (db 15) (fresh db o) (inl refl) k.tables.addresses in
-    let rows : new.now.trees 15 ≡ put_row (row_of address_cells (fresh db o)) (db 15) = ap (λ (t : Trees). t 15) trees ∙ applied.rows ∙ adding db o given.0 given.1.1 in
+    let put = put_past address_cells address_from_row back (db 15) (fresh db o) (inl refl) k.tables.addresses in
+    let rows : new.now.trees 15 ≡ put_row (numbered_row address_cells (fresh db o)) (db 15) = ap (λ (t : Trees). t 15) trees ∙ applied.rows ∙ adding db o given.0 given.1.1 in
     let same = subst (SameBut 15 db) (sym trees) (same_but 15 db written.0 applied.tables) in
-    let here : written.0 15 ≡ put_row (row_of address_cells (fresh db o)) (db 15) = ap (λ (t : Trees). t 15) (sym trees) ∙ rows in
+    let here : written.0 15 ≡ put_row (numbered_row address_cells (fresh db o)) (db 15) = ap (λ (t : Trees). t 15) (sym trees) ∙ rows in
     let keyed = one_address_a_person written.0 (applied.fits.rules Unique is_no_foreign_key) in
-    let apart = apart_by_key address_cells (λ (x : Address). x.person) person_of_address address_read back _ put.0
+    let apart = apart_by_key address_cells (λ (x : Address). x.person) person_of_address address_from_row back _ put.0
     (subst (λ l. AllByRecursion (λ row. clashes plain (1 ∷ []) l row ≡ false) l) here keyed) in
     let it = addresses_change db new.now.trees k.tables same _ rows put.0 apart in
     (kept_by old new k w.shown (ap (λ (d : Database). d.schema) now) it.0, it.1 ∙ ap (λ l. record (archive_of old) { addresses = l }) put.1)
 
-pub tries_to_add : (behind : Option Database) (old new : State) (o : Address) (r : Result ℕ Error) → IsHeld behind old → Executes add_text (address_cells o) old new r
-    → MatchResult r (λ _. ChangesOver behind old new (λ a. record a { addresses = a.addresses ++ o ∷ [] })) (λ _. RestsOver behind old new)
+pub tries_to_add : (behind : Option Database) (old new : State) (o : Address) (r : Result ℕ Error) → IsOpenArchive behind old → Executes add_text (address_cells o) old new r
+    → MatchResult r (λ _. ChangesArchive behind old new (λ a. record a { addresses = a.addresses ++ o ∷ [] })) (λ _. FaultKeepsRowsOrRollsBack behind old new)
 tries_to_add behind old new o (Ok count) k h = adds old new o count k h
 tries_to_add behind old new o (Err e) k h = rests old new k (execute_fails old new add_text (address_cells o) e h)
 
@@ -183,23 +183,23 @@ module _ (person : List ℕ) where
     said o = record o { address = address }
 
     abbrev change : Address → Address
-    change = readdressed (record { person = person; address = address })
+    change = with_replaced_address (record { person = person; address = address })
 
     abbrev change_params : Row
     change_params = Text person ∷ Text address ∷ []
 
-    keeps : (a b : Address) → same_address (change a) (change b) ≡ same_address a b
+    keeps : (a b : Address) → same_address_key (change a) (change b) ≡ same_address_key a b
     keeps a b = ap₂ bytes_eq (same_person b) (same_person a)
       where
         same_person : (o : Address) → (change o).person ≡ o.person
         same_person o = elim (is_address_of person o) as (λ c. (cond c (said o) o).person ≡ o.person) [ true ↦ refl | false ↦ refl ]
 
-    puts : (db : Trees) (r : Numbered Address) (given : List Row) → given ≡ (Int r.number ∷ Int r.number ∷ Text r.it.person ∷ Text address ∷ []) ∷ []
-        → edited db (edit_of db address_table (ids_of given) Given 1 given) ≡ put_row (row_of address_cells (record r { it = said r.it })) (without_rowid r.number (db 15))
+    puts : (db : Trees) (r : NumberedRecord Address) (given : List Row) → given ≡ (Int r.number ∷ Int r.number ∷ Text r.it.person ∷ Text address ∷ []) ∷ []
+        → edited db (edit_of db address_table (ids_of given) Given 1 given) ≡ put_row (numbered_row address_cells (record r { it = said r.it })) (without_rowid r.number (db 15))
     puts db r given from = rw (from, cast_int r.number)
 
-    changes : {behind : Option Database} (old new : State) (count : ℕ) → IsHeld behind old → Executes change_text change_params old new (Ok count)
-        → ChangesOver behind old new (λ a. record a { addresses = map change a.addresses })
+    changes : {behind : Option Database} (old new : State) (count : ℕ) → IsOpenArchive behind old → Executes change_text change_params old new (Ok count)
+        → ChangesArchive behind old new (λ a. record a { addresses = map change a.addresses })
     changes old new count k h =
         let params = change_params in
         let query = plain_query 15 of_person changed_cells [] in
@@ -216,48 +216,49 @@ module _ (person : List ℕ) where
         let applied = one_step archive_schema _ db written.0 edit (no_action 15 (taken_by db edit) edit.news) written.1 in
         let trees : new.now.trees ≡ written.0 = ap (λ (d : Database). d.trees) now ∙ ap (λ (x : Written). x.trees) (value_is written.2) in
         let rows : new.now.trees 15 ≡ edited db edit = ap (λ (t : Trees). t 15) trees ∙ applied.rows in
-        let found = hits address_cells address_read back query params (is_address_of person) (is_of_person person (Text address ∷ [])) (db 15) k.tables.addresses in
-        let it = updated address_cells address_read back (is_address_of person) said same_address (alike person) (db 15) (edited db edit) k.tables.addresses k.tables.addresses_apart
-        (λ r one. puts db r queried.0 (one_row query params (db 15) queried.0 (row_of address_cells r) picks (found.0 ∙ ap (map (row_of address_cells)) one)))
-        (λ none. ap (λ l. edited db (edit_of db address_table (ids_of l) Given 1 l)) (no_row query params (db 15) queried.0 picks (found.0 ∙ ap (map (row_of address_cells)) none))) in
+        let found = hits address_cells address_from_row back query params (is_address_of person) (is_of_person person (Text address ∷ [])) (db 15) k.tables.addresses in
+        let it = updated address_cells address_from_row back (is_address_of person) said same_address_key (alike person) (db 15) (edited db edit) k.tables.addresses k.tables.addresses_distinct
+        (λ r one. puts db r queried.0 (one_row query params (db 15) queried.0 (numbered_row address_cells r) picks (found.0 ∙ ap (map (numbered_row address_cells)) one)))
+        (λ none. ap (λ l. edited db (edit_of db address_table (ids_of l) Given 1 l)) (no_row query params (db 15) queried.0 picks (found.0 ∙ ap (map (numbered_row address_cells)) none))) in
         let same = subst (SameBut 15 db) (sym trees) (same_but 15 db written.0 applied.tables) in
-        let apart = subst (AreApart same_address) (sym it.1) (apart_mapped same_address change keeps (archive_of old).addresses k.tables.addresses_apart) in
+        let apart = subst (HaveDistinctKeys same_address_key) (sym it.1) (apart_mapped same_address_key change keeps (archive_of old).addresses k.tables.addresses_distinct) in
         let all = addresses_change db new.now.trees k.tables same _ rows it.0 apart in
         (kept_by old new k w.shown (ap (λ (d : Database). d.schema) now) all.0, all.1 ∙ ap (λ l. record (archive_of old) { addresses = l }) it.1)
 
-    pub tries_to_change : (behind : Option Database) (old new : State) (r : Result ℕ Error) → IsHeld behind old → Executes change_text change_params old new r
-        → MatchResult r (λ _. ChangesOver behind old new (λ a. record a { addresses = map change a.addresses })) (λ _. RestsOver behind old new)
+    pub tries_to_change : (behind : Option Database) (old new : State) (r : Result ℕ Error) → IsOpenArchive behind old → Executes change_text change_params old new r
+        → MatchResult r (λ _. ChangesArchive behind old new (λ a. record a { addresses = map change a.addresses })) (λ _. FaultKeepsRowsOrRollsBack behind old new)
     tries_to_change behind old new (Ok count) k h = changes old new count k h
     tries_to_change behind old new (Err e) k h = rests old new k (execute_fails old new change_text change_params e h)
 
-  module _ (old new : State) {behind : Option Database} (k : IsHeld behind old) where
+  module _ (old new : State) {behind : Option Database} (k : IsOpenArchive behind old) where
     pub found : (rows : List Row) → Shown find_text (Text person ∷ []) old new rows
-        → (rows ≡ map (λ (a : Address). name_shown a.address) (filter (is_address_of person) (archive_of old).addresses)) × StaysOver behind old new
+        → (rows ≡ map (λ (a : Address). name_result_row a.address) (filter (is_address_of person) (archive_of old).addresses)) × LeavesRowsUnchanged behind old new
     found rows h =
         let params = Text person ∷ [] in
         let picks = asked find_text 15 of_person the_address by_number _ find_is.0 find_plain find_is.1 (λ t. refl) params old new k rows h in (
-          shows 15 of_person the_address params address_cells address_read back (is_address_of person) (is_of_person person []) (λ (a : Address). name_shown a.address)
+          shows 15 of_person the_address params address_cells address_from_row back (is_address_of person) (is_of_person person []) (λ (a : Address). name_result_row a.address)
               (λ n o. refl) (old.now.trees 15) rows k.tables.addresses picks,
           asked_stays find_text 15 of_person the_address by_number _ find_is.0 find_plain find_is.1 (λ t. refl) params old new k rows h,
         )
 
-    pub not_found : (e : Error) → FailsToQuery find_text (Text person ∷ []) old new e → RestsOver behind old new
+    pub not_found : (e : Error) → FailsToQuery find_text (Text person ∷ []) old new e → FaultKeepsRowsOrRollsBack behind old new
     not_found e h = refused_rests find_text 15 of_person the_address by_number _ find_is.0 find_plain find_is.1 (λ t. refl) (Text person ∷ []) old new k e h
 
-    pub not_found_caused : (e : Error) → FailsToQuery find_text (Text person ∷ []) old new e → old.step_limit ≡ None → IsCaused old new e
+    pub not_found_caused : (e : Error) → FailsToQuery find_text (Text person ∷ []) old new e → old.step_limit ≡ None → IsMemoryOrDiskError old new e
     not_found_caused e h free = question_fails_by find_text 15 of_person the_address by_number _ find_is.0 find_plain find_is.1 (Text person ∷ []) find_fit (find_typed person) old new k free e h
 
     pub has : (rows : List Row) → Shown has_text (Text person ∷ []) old new rows
-        → (not (length rows == 0) ≡ list_any (is_address_of person) (archive_of old).addresses) × StaysOver behind old new
+        → (not (length rows == 0) ≡ list_any (is_address_of person) (archive_of old).addresses) × LeavesRowsUnchanged behind old new
     has rows h =
         let params = Text person ∷ [] in
         let picks = asked has_text 15 of_person the_person [] _ has_is.0 has_plain has_is.1 (λ t. refl) params old new k rows h in (
-          any_wanted address_cells address_read back (plain_query 15 of_person the_person []) params (is_address_of person) (is_of_person person []) (old.now.trees 15) rows k.tables.addresses picks,
+          any_wanted address_cells address_from_row back (plain_query 15 of_person the_person []) params (is_address_of person) (is_of_person person []) (old.now.trees 15) rows
+              k.tables.addresses picks,
           asked_stays has_text 15 of_person the_person [] _ has_is.0 has_plain has_is.1 (λ t. refl) params old new k rows h,
         )
 
-    pub has_not : (e : Error) → FailsToQuery has_text (Text person ∷ []) old new e → RestsOver behind old new
+    pub has_not : (e : Error) → FailsToQuery has_text (Text person ∷ []) old new e → FaultKeepsRowsOrRollsBack behind old new
     has_not e h = refused_rests has_text 15 of_person the_person [] _ has_is.0 has_plain has_is.1 (λ t. refl) (Text person ∷ []) old new k e h
 
-    pub has_not_caused : (e : Error) → FailsToQuery has_text (Text person ∷ []) old new e → old.step_limit ≡ None → IsCaused old new e
+    pub has_not_caused : (e : Error) → FailsToQuery has_text (Text person ∷ []) old new e → old.step_limit ≡ None → IsMemoryOrDiskError old new e
     has_not_caused e h free = question_fails_by has_text 15 of_person the_person [] _ has_is.0 has_plain has_is.1 (Text person ∷ []) has_fit (has_typed person) old new k free e h

@@ -19,7 +19,7 @@ use Rattle.sqlite_value.specs.Keys.{plain, first_key}
 use Rattle.sqlite_value.proofs.OrderLemmas.{value_cmp_total}
 use Rattle.sqlite_trees.proofs.ListLemmas.{all_weaker}
 use Rattle.archive_tables.specs.Schema.{schema_2, archive_schema, option_table, address_table}
-use Rattle.archive_tables.specs.Tables.{Numbered, row_of, read_of, Holds, AreApart}
+use Rattle.archive_tables.specs.Tables.{NumberedRecord, numbered_row, numbered_from_row, HoldsRecords, HaveDistinctKeys}
 use Rattle.archive_tables.proofs.RowLemmas.{records_are}
 use Rattle.archive_tables.proofs.SelectLemmas.{alone, truth_back, text_is}
 
@@ -38,11 +38,11 @@ unfolding first_key
 agrees row other = refl
 
 module _ {R : Type 0} (cells : R → Row) (word : R → List ℕ) (first : (n : ℤ) (r : R) → column (Int n ∷ cells r) 1 ≡ Text (word r)) where
-  abbrev rows_of : List (Numbered R) → List Row
-  rows_of = map (row_of cells)
+  abbrev rows_of : List (NumberedRecord R) → List Row
+  rows_of = map (numbered_row cells)
 
-  abbrev its : List (Numbered R) → List R
-  its = map (λ (r : Numbered R). r.it)
+  abbrev its : List (NumberedRecord R) → List R
+  its = map (λ (r : NumberedRecord R). r.it)
 
   abbrev pub same_word : R → R → Bool
   same_word a b = bytes_eq (word b) (word a)
@@ -51,19 +51,19 @@ module _ {R : Type 0} (cells : R → Row) (word : R → List ℕ) (first : (n : 
   abbrev has_key_of : Row → Row → Bool
   has_key_of row other = agree plain (1 ∷ []) other (1 ∷ []) row && differ (rowid other) (rowid row)
 
-  test_is : (r s : Numbered R) → value_cmp (Int r.number) (Int s.number) ≡ Less → has_key_of (row_of cells r) (row_of cells s) ≡ same_word r.it s.it
+  test_is : (r s : NumberedRecord R) → value_cmp (Int r.number) (Int s.number) ≡ Less → has_key_of (numbered_row cells r) (numbered_row cells s) ≡ same_word r.it s.it
   test_is r s less =
       let words = ap₂ (λ (v w : Value). is_true (binary (Compare Eq Binary) v w)) (first s.number s.it) (first r.number r.it) ∙ text_is (word s.it) (word r.it) in
-      ap₂ ◌&&◌ (agrees (row_of cells r) (row_of cells s) ∙ alone _ ∙ words) (differs s.number r.number less) ∙ alone _
+      ap₂ ◌&&◌ (agrees (numbered_row cells r) (numbered_row cells s) ∙ alone _ ∙ words) (differs s.number r.number less) ∙ alone _
 
-  not_again : (r : Numbered R) (all : List (Numbered R)) → AllByRecursion (λ row. value_cmp (Int r.number) (rowid row) ≡ Less) (rows_of all)
-      → list_any (has_key_of (row_of cells r)) (rows_of all) ≡ false → list_any (same_word r.it) (its all) ≡ false
+  not_again : (r : NumberedRecord R) (all : List (NumberedRecord R)) → AllByRecursion (λ row. value_cmp (Int r.number) (rowid row) ≡ Less) (rows_of all)
+      → list_any (has_key_of (numbered_row cells r)) (rows_of all) ≡ false → list_any (same_word r.it) (its all) ≡ false
   not_again r [] above none = refl
   not_again r (s ∷ all) above none =
       let both = none_of _ _ none in
       rw (sym (test_is r s above.0) ∙ both.0) (not_again r all above.1 both.1)
 
-  apart : (all : List (Numbered R)) → IsTable (rows_of all) → AllByRecursion (λ row. clashes plain (1 ∷ []) (rows_of all) row ≡ false) (rows_of all) → AreApart same_word (its all)
+  apart : (all : List (NumberedRecord R)) → IsTable (rows_of all) → AllByRecursion (λ row. clashes plain (1 ∷ []) (rows_of all) row ≡ false) (rows_of all) → HaveDistinctKeys same_word (its all)
   apart [] up none = tt
   apart (r ∷ all) up none =
       let rest = all_weaker (λ row. clashes plain (1 ∷ []) (rows_of (r ∷ all)) row ≡ false) (λ row. clashes plain (1 ∷ []) (rows_of all) row ≡ false)
@@ -71,12 +71,12 @@ module _ {R : Type 0} (cells : R → Row) (word : R → List ℕ) (first : (n : 
       (not_again r all up.0 (none_of _ _ none.0).1, apart all up.1 rest)
 
   -- records whose rows have no key twice
-  pub apart_by_key : (read : Row → R) (back : (n : ℤ) (r : R) → read (Int n ∷ cells r) ≡ r) (rows : List Row) → Holds cells read rows
-      → AllByRecursion (λ row. clashes plain (1 ∷ []) rows row ≡ false) rows → AreApart same_word (map read rows)
+  pub apart_by_key : (read : Row → R) (back : (n : ℤ) (r : R) → read (Int n ∷ cells r) ≡ r) (rows : List Row) → HoldsRecords cells read rows
+      → AllByRecursion (λ row. clashes plain (1 ∷ []) rows row ≡ false) rows → HaveDistinctKeys same_word (map read rows)
   apart_by_key read back rows k none =
-      let all = map (read_of read) rows in
-      subst (AreApart same_word) (sym (records_are cells read back rows k))
-      (apart all (subst IsTable k.coded k.rise) (subst (λ l. AllByRecursion (λ row. clashes plain (1 ∷ []) l row ≡ false) l) k.coded none))
+      let all = map (numbered_from_row read) rows in
+      subst (HaveDistinctKeys same_word) (sym (records_are cells read back rows k))
+      (apart all (subst IsTable k.round_trips k.rise) (subst (λ l. AllByRecursion (λ row. clashes plain (1 ∷ []) l row ≡ false) l) k.round_trips none))
 
 -- ---- `list_option` and `address` have one key each
 

@@ -20,9 +20,9 @@ use Rattle.sqlite.specs.Listing.{understood, reads_listing, IsSourceOf}
 use Rattle.sqlite.specs.State.{State, Fails, IsNotRun, IsNoStatement, FailsToQuery}
 use Rattle.sqlite.proofs.Callers.{IsPlain, command_of}
 use Rattle.archive_tables.specs.Schema.{archive_schema}
-use Rattle.archive_tables.specs.Tables.{IsHeld}
-use Rattle.archive_tables.specs.Rows.{IsTextFault}
-use Rattle.archive_tables.specs.Calls.{IsCaused, StaysOver, RestsOver}
+use Rattle.archive_tables.specs.Tables.{IsOpenArchive}
+use Rattle.archive_tables.specs.Rows.{IsTextReadError}
+use Rattle.archive_tables.specs.Calls.{IsMemoryOrDiskError, LeavesRowsUnchanged, FaultKeepsRowsOrRollsBack}
 use Rattle.archive_tables.proofs.SelectLemmas.{plain_query}
 
 -- one statement, with so many parameters
@@ -41,7 +41,7 @@ no_statement s sql params e fits plain (inr it) =
       | inr other ↦ elim other [ inl few ↦ few.0 (sym c.1) | inr timed ↦ timed.0 p.1 ]
     ]
 
-pub fails_by : (old new : State) (e : Error) → IsTrue old.is_open → Fails old new ⊥ e → IsCaused old new e
+pub fails_by : (old new : State) (e : Error) → IsTrue old.is_open → Fails old new ⊥ e → IsMemoryOrDiskError old new e
 fails_by old new e up (OutOfMemory, is, why, back, tells) = inl is
 fails_by old new e up (Io, is, why, back, tells) = inr why
 fails_by old new e up (Corrupt, is, why, back, tells) = inr why
@@ -60,7 +60,7 @@ module _ (s : Schema) (sql : List ℕ) (body : Query) (names : List (List ℕ)) 
   never_refused e (inr (inr (code, some))) = absurd (let bad = subst IsSome free some in cc)
 
   -- whatever the tables are that it reads
-  pub schema_question_fails_by : (e : Error) → FailsToQuery sql params old new e → IsCaused old new e
+  pub schema_question_fails_by : (e : Error) → FailsToQuery sql params old new e → IsMemoryOrDiskError old new e
   unfolding FailsToQuery IsNotRun
   schema_question_fails_by e (inl (inl refused)) = absurd (no_statement old sql params e
       (subst (λ x. Fits sql (length params) (understood x sql)) (sym has) fits) (subst (λ x. IsPlain (understood x sql)) (sym has) plain) refused.0)
@@ -75,8 +75,8 @@ module _ (s : Schema) (sql : List ℕ) (body : Query) (names : List (List ℕ)) 
 module _ (sql : List ℕ) (body : Query) (names : List (List ℕ)) (is : command_of (understood archive_schema sql) ≡ Select (record { lets = []; body = body }) names)
     (plain : IsPlain (understood archive_schema sql)) (unlisted : reads_listing archive_schema sql ≡ false) (params : Row) (fits : Fits sql (length params) (understood archive_schema sql))
     (typed : accepts_program archive_schema [] body params ≡ true) (calm : (db : Trees) → ¬ ProgramOverflows db params [] [] body)
-    (old new : State) {behind : Option Database} (k : IsHeld behind old) (free : old.step_limit ≡ None) where
-  pub any_question_fails_by : (e : Error) → FailsToQuery sql params old new e → IsCaused old new e
+    (old new : State) {behind : Option Database} (k : IsOpenArchive behind old) (free : old.step_limit ≡ None) where
+  pub any_question_fails_by : (e : Error) → FailsToQuery sql params old new e → IsMemoryOrDiskError old new e
   any_question_fails_by = schema_question_fails_by archive_schema sql body names is plain unlisted params fits typed calm old new k.is_open k.schema free
 
 -- a plain query computes no sum
@@ -88,8 +88,8 @@ module _ (sql : List ℕ) (t : ℕ) (terms shown : List Term) (order : List (Ter
     (is : command_of (understood archive_schema sql) ≡ Select (record { lets = []; body = plain_query t terms shown order }) names) (plain : IsPlain (understood archive_schema sql))
     (unlisted : reads_listing archive_schema sql ≡ false) (params : Row) (fits : Fits sql (length params) (understood archive_schema sql))
     (typed : accepts_program archive_schema [] (plain_query t terms shown order) params ≡ true)
-    (old new : State) {behind : Option Database} (k : IsHeld behind old) (free : old.step_limit ≡ None) where
-  pub question_fails_by : (e : Error) → FailsToQuery sql params old new e → IsCaused old new e
+    (old new : State) {behind : Option Database} (k : IsOpenArchive behind old) (free : old.step_limit ≡ None) where
+  pub question_fails_by : (e : Error) → FailsToQuery sql params old new e → IsMemoryOrDiskError old new e
   question_fails_by = any_question_fails_by sql (plain_query t terms shown order) names is plain unlisted params fits typed (calm t terms shown order params) old new k free
 
 -- ---- a result whose error has a cause
@@ -109,16 +109,16 @@ answers_none (Ok a) Q P is = absurd is
 answers_none (Err f) Q P is = tt
 
 -- what stays rests
-pub stays_rests : (behind : Option Database) (old new : State) → StaysOver behind old new → RestsOver behind old new
+pub stays_rests : (behind : Option Database) (old new : State) → LeavesRowsUnchanged behind old new → FaultKeepsRowsOrRollsBack behind old new
 stays_rests None old new it = λ up. it
 stays_rests (Some db) old new it = λ up. inl it
 
 -- what a row that shows a text says of its fault
-pub read_fails_by : {X : Type 0} (old new : State) (text : X → List ℕ) (found : Option X) (x : X) (e : Error) → found ≡ Some x → IsTextFault (text x) e
-    → IsCaused old new e ⊎ IsSomeAnd found (λ x. ¬ IsUtf8 (text x))
+pub read_fails_by : {X : Type 0} (old new : State) (text : X → List ℕ) (found : Option X) (x : X) (e : Error) → found ≡ Some x → IsTextReadError (text x) e
+    → IsMemoryOrDiskError old new e ⊎ IsSomeAnd found (λ x. ¬ IsUtf8 (text x))
 read_fails_by old new text found x e is (inl none) = inl (inl none)
 read_fails_by old new text found x e is (inr bad) = inr (subst (λ o. IsSomeAnd o (λ x. ¬ IsUtf8 (text x))) (sym is) bad.0)
 
-pub good_text_fails_by : (old new : State) (text : List ℕ) (e : Error) → IsUtf8 text → IsTextFault text e → IsCaused old new e
+pub good_text_fails_by : (old new : State) (text : List ℕ) (e : Error) → IsUtf8 text → IsTextReadError text e → IsMemoryOrDiskError old new e
 good_text_fails_by old new text e good (inl none) = inl none
 good_text_fails_by old new text e good (inr bad) = absurd (bad.0 good)

@@ -11,7 +11,7 @@ use Rattle.sqlite.specs.declared.types.Value.TheVariants.{Int}
 use Rattle.sqlite.specs.Order.{Row, value_cmp}
 use Rattle.sqlite.specs.Tree.{IsTable, put_row, without_rowid, rowid}
 use Rattle.sqlite_value.proofs.OrderLemmas.{value_cmp_total}
-use Rattle.archive_tables.specs.Tables.{Numbered, row_of, read_of, Holds, AreApart}
+use Rattle.archive_tables.specs.Tables.{NumberedRecord, numbered_row, numbered_from_row, HoldsRecords, HaveDistinctKeys}
 use Rattle.archive_tables.proofs.RowLemmas.{holds_from, records_are}
 
 -- ---- records that are apart
@@ -21,7 +21,7 @@ module _ {R : Type 0} (same : R → R → Bool) where
   any_mapped g a b [] keeps = refl
   any_mapped g a b (x ∷ xs) keeps = ap₂ ◌||◌ (keeps a x) (any_mapped g a b xs keeps)
 
-  pub apart_mapped : (g : R → R) → ((x y : R) → same (g x) (g y) ≡ same x y) → (xs : List R) → AreApart same xs → AreApart same (map g xs)
+  pub apart_mapped : (g : R → R) → ((x y : R) → same (g x) (g y) ≡ same x y) → (xs : List R) → HaveDistinctKeys same xs → HaveDistinctKeys same (map g xs)
   apart_mapped g keeps [] apart = tt
   apart_mapped g keeps (x ∷ xs) apart = (any_mapped g x x xs keeps ∙ apart.0, apart_mapped g keeps xs apart.1)
 
@@ -36,10 +36,10 @@ module _ {R : Type 0} (same : R → R → Bool) where
       let rest = none_filtered q p xs both.1 in
       elim (p x) as (λ b. list_any q (cond b (x ∷ filter p xs) (filter p xs)) ≡ false) [ true ↦ rw both.0 rest | false ↦ rest ]
 
-  pub apart_filtered : (p : R → Bool) (xs : List R) → AreApart same xs → AreApart same (filter p xs)
+  pub apart_filtered : (p : R → Bool) (xs : List R) → HaveDistinctKeys same xs → HaveDistinctKeys same (filter p xs)
   apart_filtered p [] apart = tt
   apart_filtered p (x ∷ xs) apart =
-      elim (p x) as (λ b. AreApart same (cond b (x ∷ filter p xs) (filter p xs)))
+      elim (p x) as (λ b. HaveDistinctKeys same (cond b (x ∷ filter p xs) (filter p xs)))
       [ true ↦ (none_filtered (same x) p xs apart.0, apart_filtered p xs apart.1) | false ↦ apart_filtered p xs apart.1 ]
 
   any_more : (q : R → Bool) (xs : List R) (new : R) → list_any q xs ≡ false → q new ≡ false → list_any q (xs ++ new ∷ []) ≡ false
@@ -47,7 +47,7 @@ module _ {R : Type 0} (same : R → R → Bool) where
   any_more q (x ∷ xs) new none last = let both = none_of (q x) (list_any q xs) none in rw both.0 (any_more q xs new both.1 last)
 
   -- one more that is the same as none of them
-  pub apart_more : (xs : List R) (new : R) → ((a b : R) → same a b ≡ same b a) → list_any (same new) xs ≡ false → AreApart same xs → AreApart same (xs ++ new ∷ [])
+  pub apart_more : (xs : List R) (new : R) → ((a b : R) → same a b ≡ same b a) → list_any (same new) xs ≡ false → HaveDistinctKeys same xs → HaveDistinctKeys same (xs ++ new ∷ [])
   apart_more [] new flips none apart = (refl, tt)
   apart_more (x ∷ xs) new flips none apart =
       let both = none_of (same new x) (list_any (same new) xs) none in
@@ -56,33 +56,33 @@ module _ {R : Type 0} (same : R → R → Bool) where
 -- ---- rows
 
 module _ {R : Type 0} (cells : R → Row) (read : Row → R) (back : (n : ℤ) (r : R) → read (Int n ∷ cells r) ≡ r) (wanted : R → Bool) where
-  abbrev rows_of : List (Numbered R) → List Row
-  rows_of = map (row_of cells)
+  abbrev rows_of : List (NumberedRecord R) → List Row
+  rows_of = map (numbered_row cells)
 
-  abbrev its : List (Numbered R) → List R
-  its = map (λ (r : Numbered R). r.it)
+  abbrev its : List (NumberedRecord R) → List R
+  its = map (λ (r : NumberedRecord R). r.it)
 
-  abbrev hit : Numbered R → Bool
+  abbrev hit : NumberedRecord R → Bool
   hit r = wanted r.it
 
-  abbrev AreAbove : ℤ → List (Numbered R) → Type 0
+  abbrev AreAbove : ℤ → List (NumberedRecord R) → Type 0
   AreAbove n all = AllByRecursion (λ row. value_cmp (Int n) (rowid row) ≡ Less) (rows_of all)
 
   above_reversed : (a b : Value) → value_cmp a b ≡ Less → value_cmp b a ≡ Greater
   above_reversed a b less = value_cmp_total.antisymm b a ∙ ap ordering_reverse less
 
-  no_number : (n : ℤ) (all : List (Numbered R)) → AreAbove n all → without_rowid n (rows_of all) ≡ rows_of all
+  no_number : (n : ℤ) (all : List (NumberedRecord R)) → AreAbove n all → without_rowid n (rows_of all) ≡ rows_of all
   no_number n [] above = refl
-  no_number n (r ∷ all) above = rw (above_reversed _ _ above.0) (ap (λ l. row_of cells r ∷ l) (no_number n all above.1))
+  no_number n (r ∷ all) above = rw (above_reversed _ _ above.0) (ap (λ l. numbered_row cells r ∷ l) (no_number n all above.1))
 
-  first_put : (new : Numbered R) (all : List (Numbered R)) → AreAbove new.number all → put_row (row_of cells new) (rows_of all) ≡ row_of cells new ∷ rows_of all
+  first_put : (new : NumberedRecord R) (all : List (NumberedRecord R)) → AreAbove new.number all → put_row (numbered_row cells new) (rows_of all) ≡ numbered_row cells new ∷ rows_of all
   first_put new [] above = refl
   first_put new (r ∷ all) above = rw (above_reversed _ _ above.0) refl
 
-  hit_above : (n : ℤ) (r : Numbered R) (all : List (Numbered R)) → AreAbove n all → filter hit all ≡ r ∷ [] → value_cmp (Int n) (Int r.number) ≡ Less
+  hit_above : (n : ℤ) (r : NumberedRecord R) (all : List (NumberedRecord R)) → AreAbove n all → filter hit all ≡ r ∷ [] → value_cmp (Int n) (Int r.number) ≡ Less
   hit_above n r [] above is = absurd cc
   hit_above n r (x ∷ all) above is = elim (cases_Bool (wanted x.it)) [
-    | inl found ↦ let parts = rw found at is in let first : x ≡ r = cc in subst (λ (y : Numbered R). value_cmp (Int n) (Int y.number) ≡ Less) first above.0
+    | inl found ↦ let parts = rw found at is in let first : x ≡ r = cc in subst (λ (y : NumberedRecord R). value_cmp (Int n) (Int y.number) ≡ Less) first above.0
     | inr other ↦ hit_above n r all above.1 (rw other at is)
   ]
 
@@ -91,7 +91,7 @@ module _ {R : Type 0} (cells : R → Row) (read : Row → R) (back : (n : ℤ) (
 
   -- ---- at most one row is hit
 
-  no_hit : (all : List (Numbered R)) → list_any wanted (its all) ≡ false → filter hit all ≡ []
+  no_hit : (all : List (NumberedRecord R)) → list_any wanted (its all) ≡ false → filter hit all ≡ []
   no_hit [] none = refl
   no_hit (r ∷ all) none = elim (cases_Bool (wanted r.it)) [
     | inl found ↦ absurd (let wrong = rw found at none in cc)
@@ -102,8 +102,8 @@ module _ {R : Type 0} (cells : R → Row) (read : Row → R) (back : (n : ℤ) (
   any_alike same a alike [] = refl
   any_alike same a alike (x ∷ xs) = ap₂ ◌||◌ (alike x) (any_alike same a alike xs)
 
-  pub one_hit : (same : R → R → Bool) → ((a b : R) → wanted a ≡ true → same a b ≡ wanted b) → (all : List (Numbered R)) → AreApart same (its all)
-      → (filter hit all ≡ []) ⊎ ((r : Numbered R) × (filter hit all ≡ r ∷ []))
+  pub one_hit : (same : R → R → Bool) → ((a b : R) → wanted a ≡ true → same a b ≡ wanted b) → (all : List (NumberedRecord R)) → HaveDistinctKeys same (its all)
+      → (filter hit all ≡ []) ⊎ ((r : NumberedRecord R) × (filter hit all ≡ r ∷ []))
   one_hit same alike [] apart = inl refl
   one_hit same alike (r ∷ all) apart = elim (cases_Bool (wanted r.it)) [
     | inl found ↦ inr (r, rw found (ap (λ l. r ∷ l) (no_hit all (sym (any_alike same r.it (λ b. alike r.it b found) (its all)) ∙ apart.0))))
@@ -116,37 +116,39 @@ module _ {R : Type 0} (cells : R → Row) (read : Row → R) (back : (n : ℤ) (
     abbrev changed : R → R
     changed r = if wanted r then change r else r
 
-    abbrev moved : Numbered R → Numbered R
+    abbrev moved : NumberedRecord R → NumberedRecord R
     moved r = record r { it = changed r.it }
 
-    unmoved : (all : List (Numbered R)) → filter hit all ≡ [] → map moved all ≡ all
+    unmoved : (all : List (NumberedRecord R)) → filter hit all ≡ [] → map moved all ≡ all
     unmoved [] none = refl
     unmoved (r ∷ all) none = elim (cases_Bool (wanted r.it)) [
       | inl found ↦ absurd (let wrong = rw found at none in cc)
       | inr other ↦ rw other (ap (λ l. r ∷ l) (unmoved all (rw other at none)))
     ]
 
-    its_moved : (all : List (Numbered R)) → its (map moved all) ≡ map changed (its all)
+    its_moved : (all : List (NumberedRecord R)) → its (map moved all) ≡ map changed (its all)
     its_moved [] = refl
     its_moved (r ∷ all) = ap (λ l. changed r.it ∷ l) (its_moved all)
 
-    above_moved : (n : ℤ) (all : List (Numbered R)) → AreAbove n all → AreAbove n (map moved all)
+    above_moved : (n : ℤ) (all : List (NumberedRecord R)) → AreAbove n all → AreAbove n (map moved all)
     above_moved n [] above = tt
     above_moved n (r ∷ all) above = (above.0, above_moved n all above.1)
 
-    rising_moved : (all : List (Numbered R)) → IsTable (rows_of all) → IsTable (rows_of (map moved all))
+    rising_moved : (all : List (NumberedRecord R)) → IsTable (rows_of all) → IsTable (rows_of (map moved all))
     rising_moved [] up = tt
     rising_moved (r ∷ all) up = (above_moved r.number all up.0, rising_moved all up.1)
 
-    abbrev swapped : Numbered R → List Row → List Row
-    swapped r rows = put_row (row_of cells (record r { it = change r.it })) (without_rowid r.number rows)
+    abbrev swapped : NumberedRecord R → List Row → List Row
+    swapped r rows = put_row (numbered_row cells (record r { it = change r.it })) (without_rowid r.number rows)
 
-    put_first : (x : Numbered R) (all : List (Numbered R)) → wanted x.it ≡ true → AreAbove x.number all → filter hit all ≡ [] → swapped x (rows_of (x ∷ all)) ≡ rows_of (map moved (x ∷ all))
+    put_first : (x : NumberedRecord R) (all : List (NumberedRecord R)) → wanted x.it ≡ true → AreAbove x.number all → filter hit all ≡ []
+        → swapped x (rows_of (x ∷ all)) ≡ rows_of (map moved (x ∷ all))
     put_first x all found above none =
-        let new : Numbered R = record x { it = change x.it } in
-        rw (itself x.number, found) (ap (put_row (row_of cells new)) (no_number x.number all above) ∙ first_put new all above ∙ ap (λ l. row_of cells new ∷ rows_of l) (sym (unmoved all none)))
+        let new : NumberedRecord R = record x { it = change x.it } in
+        rw (itself x.number, found) (ap (put_row (numbered_row cells new)) (no_number x.number all above) ∙ first_put new all above ∙ ap (λ l. numbered_row cells new ∷ rows_of l)
+        (sym (unmoved all none)))
 
-    put_back : (r : Numbered R) (all : List (Numbered R)) → IsTable (rows_of all) → filter hit all ≡ r ∷ [] → swapped r (rows_of all) ≡ rows_of (map moved all)
+    put_back : (r : NumberedRecord R) (all : List (NumberedRecord R)) → IsTable (rows_of all) → filter hit all ≡ r ∷ [] → swapped r (rows_of all) ≡ rows_of (map moved all)
     put_back r [] up is = absurd cc
     put_back r (x ∷ all) up is = elim (cases_Bool (wanted x.it)) [
       | inl found ↦
@@ -156,83 +158,83 @@ module _ {R : Type 0} (cells : R → Row) (read : Row → R) (back : (n : ℤ) (
           subst (λ y. swapped y (rows_of (x ∷ all)) ≡ rows_of (map moved (x ∷ all))) first (put_first x all found up.0 rest)
       | inr other ↦
           let less = hit_above x.number r all up.0 (rw other at is) in
-          rw (less, other) (rw less (ap (λ l. row_of cells x ∷ l) (put_back r all up.1 (rw other at is))))
+          rw (less, other) (rw less (ap (λ l. numbered_row cells x ∷ l) (put_back r all up.1 (rw other at is))))
     ]
 
     -- the records that are wanted are changed, each in its place
-    pub updated : (same : R → R → Bool) → ((a b : R) → wanted a ≡ true → same a b ≡ wanted b) → (rows new : List Row) → Holds cells read rows → AreApart same (map read rows)
-        → ((r : Numbered R) → filter hit (map (read_of read) rows) ≡ r ∷ [] → new ≡ swapped r rows) → (filter hit (map (read_of read) rows) ≡ [] → new ≡ rows)
-        → Holds cells read new × (map read new ≡ map changed (map read rows))
+    pub updated : (same : R → R → Bool) → ((a b : R) → wanted a ≡ true → same a b ≡ wanted b) → (rows new : List Row) → HoldsRecords cells read rows → HaveDistinctKeys same (map read rows)
+        → ((r : NumberedRecord R) → filter hit (map (numbered_from_row read) rows) ≡ r ∷ [] → new ≡ swapped r rows) → (filter hit (map (numbered_from_row read) rows) ≡ [] → new ≡ rows)
+        → HoldsRecords cells read new × (map read new ≡ map changed (map read rows))
         × ((n : ℤ) → AllByRecursion (λ row. value_cmp (Int n) (rowid row) ≡ Less) rows → AllByRecursion (λ row. value_cmp (Int n) (rowid row) ≡ Less) new)
     updated same alike rows new k apart one none =
-        let all = map (read_of read) rows in
+        let all = map (numbered_from_row read) rows in
         let its_are = records_are cells read back rows k in
-        let up = subst IsTable k.coded k.rise in
-        let new_is : new ≡ rows_of (map moved all) = elim (one_hit same alike all (subst (AreApart same) its_are apart)) [
-          | inl nothing ↦ none nothing ∙ k.coded ∙ ap rows_of (sym (unmoved all nothing))
-          | inr found ↦ one found.0 found.1 ∙ ap (swapped found.0) k.coded ∙ put_back found.0 all up found.1
+        let up = subst IsTable k.round_trips k.rise in
+        let new_is : new ≡ rows_of (map moved all) = elim (one_hit same alike all (subst (HaveDistinctKeys same) its_are apart)) [
+          | inl nothing ↦ none nothing ∙ k.round_trips ∙ ap rows_of (sym (unmoved all nothing))
+          | inr found ↦ one found.0 found.1 ∙ ap (swapped found.0) k.round_trips ∙ put_back found.0 all up found.1
         ] in
         let it = holds_from cells read back new (map moved all) new_is (subst IsTable (sym new_is) (rising_moved all up)) in (
           it.0,
           it.1 ∙ its_moved all ∙ ap (map changed) (sym its_are),
           λ n above.
               subst (AllByRecursion (λ row. value_cmp (Int n) (rowid row) ≡ Less)) (sym new_is)
-              (above_moved n all (subst (AllByRecursion (λ row. value_cmp (Int n) (rowid row) ≡ Less)) k.coded above)),
+              (above_moved n all (subst (AllByRecursion (λ row. value_cmp (Int n) (rowid row) ≡ Less)) k.round_trips above)),
         )
 
   -- ---- DELETE
 
-  abbrev left : Numbered R → Bool
+  abbrev left : NumberedRecord R → Bool
   left r = not (wanted r.it)
 
-  all_left : (all : List (Numbered R)) → filter hit all ≡ [] → filter left all ≡ all
+  all_left : (all : List (NumberedRecord R)) → filter hit all ≡ [] → filter left all ≡ all
   all_left [] none = refl
   all_left (r ∷ all) none = elim (cases_Bool (wanted r.it)) [
     | inl found ↦ absurd (let wrong = rw found at none in cc)
     | inr other ↦ rw other (ap (λ l. r ∷ l) (all_left all (rw other at none)))
   ]
 
-  its_left : (all : List (Numbered R)) → its (filter left all) ≡ filter (λ r. not (wanted r)) (its all)
+  its_left : (all : List (NumberedRecord R)) → its (filter left all) ≡ filter (λ r. not (wanted r)) (its all)
   its_left [] = refl
   its_left (r ∷ all) = elim (cases_Bool (wanted r.it)) [ inl found ↦ rw found (its_left all) | inr other ↦ rw other (ap (λ l. r.it ∷ l) (its_left all)) ]
 
-  above_left : (n : ℤ) (all : List (Numbered R)) → AreAbove n all → AreAbove n (filter left all)
+  above_left : (n : ℤ) (all : List (NumberedRecord R)) → AreAbove n all → AreAbove n (filter left all)
   above_left n [] above = tt
   above_left n (r ∷ all) above = elim (cases_Bool (wanted r.it)) [ inl found ↦ rw found (above_left n all above.1) | inr other ↦ rw other (above.0, above_left n all above.1) ]
 
-  rising_left : (all : List (Numbered R)) → IsTable (rows_of all) → IsTable (rows_of (filter left all))
+  rising_left : (all : List (NumberedRecord R)) → IsTable (rows_of all) → IsTable (rows_of (filter left all))
   rising_left [] up = tt
   rising_left (r ∷ all) up =
       elim (cases_Bool (wanted r.it)) [ inl found ↦ rw found (rising_left all up.1) | inr other ↦ rw other (above_left r.number all up.0, rising_left all up.1) ]
 
-  drop_first : (x : Numbered R) (all : List (Numbered R)) → wanted x.it ≡ true → AreAbove x.number all → filter hit all ≡ [] → without_rowid x.number
+  drop_first : (x : NumberedRecord R) (all : List (NumberedRecord R)) → wanted x.it ≡ true → AreAbove x.number all → filter hit all ≡ [] → without_rowid x.number
       (rows_of (x ∷ all)) ≡ rows_of (filter left (x ∷ all))
   drop_first x all found above none = rw (itself x.number, found) (no_number x.number all above ∙ ap rows_of (sym (all_left all none)))
 
-  drop_one : (r : Numbered R) (all : List (Numbered R)) → IsTable (rows_of all) → filter hit all ≡ r ∷ [] → without_rowid r.number (rows_of all) ≡ rows_of (filter left all)
+  drop_one : (r : NumberedRecord R) (all : List (NumberedRecord R)) → IsTable (rows_of all) → filter hit all ≡ r ∷ [] → without_rowid r.number (rows_of all) ≡ rows_of (filter left all)
   drop_one r [] up is = absurd cc
   drop_one r (x ∷ all) up is = elim (cases_Bool (wanted x.it)) [
     | inl found ↦
         let parts = rw found at is in
         let first : x ≡ r = cc in
         let rest : filter hit all ≡ [] = cc in
-        subst (λ (y : Numbered R). without_rowid y.number (rows_of (x ∷ all)) ≡ rows_of (filter left (x ∷ all))) first (drop_first x all found up.0 rest)
+        subst (λ (y : NumberedRecord R). without_rowid y.number (rows_of (x ∷ all)) ≡ rows_of (filter left (x ∷ all))) first (drop_first x all found up.0 rest)
     | inr other ↦
         let less = hit_above x.number r all up.0 (rw other at is) in
-        rw (less, other) (ap (λ l. row_of cells x ∷ l) (drop_one r all up.1 (rw other at is)))
+        rw (less, other) (ap (λ l. numbered_row cells x ∷ l) (drop_one r all up.1 (rw other at is)))
   ]
 
   -- the records that are wanted go
-  pub deleted : (same : R → R → Bool) → ((a b : R) → wanted a ≡ true → same a b ≡ wanted b) → (rows new : List Row) → Holds cells read rows → AreApart same (map read rows)
-      → ((r : Numbered R) → filter hit (map (read_of read) rows) ≡ r ∷ [] → new ≡ without_rowid r.number rows) → (filter hit (map (read_of read) rows) ≡ [] → new ≡ rows)
-      → Holds cells read new × (map read new ≡ filter (λ r. not (wanted r)) (map read rows))
+  pub deleted : (same : R → R → Bool) → ((a b : R) → wanted a ≡ true → same a b ≡ wanted b) → (rows new : List Row) → HoldsRecords cells read rows → HaveDistinctKeys same (map read rows)
+      → ((r : NumberedRecord R) → filter hit (map (numbered_from_row read) rows) ≡ r ∷ [] → new ≡ without_rowid r.number rows) → (filter hit (map (numbered_from_row read) rows) ≡ [] → new ≡ rows)
+      → HoldsRecords cells read new × (map read new ≡ filter (λ r. not (wanted r)) (map read rows))
   deleted same alike rows new k apart one none =
-      let all = map (read_of read) rows in
+      let all = map (numbered_from_row read) rows in
       let its_are = records_are cells read back rows k in
-      let up = subst IsTable k.coded k.rise in
-      let new_is : new ≡ rows_of (filter left all) = elim (one_hit same alike all (subst (AreApart same) its_are apart)) [
-        | inl nothing ↦ none nothing ∙ k.coded ∙ ap rows_of (sym (all_left all nothing))
-        | inr found ↦ one found.0 found.1 ∙ ap (without_rowid found.0.number) k.coded ∙ drop_one found.0 all up found.1
+      let up = subst IsTable k.round_trips k.rise in
+      let new_is : new ≡ rows_of (filter left all) = elim (one_hit same alike all (subst (HaveDistinctKeys same) its_are apart)) [
+        | inl nothing ↦ none nothing ∙ k.round_trips ∙ ap rows_of (sym (all_left all nothing))
+        | inr found ↦ one found.0 found.1 ∙ ap (without_rowid found.0.number) k.round_trips ∙ drop_one found.0 all up found.1
       ] in
       let it = holds_from cells read back new (filter left all) new_is (subst IsTable (sym new_is) (rising_left all up)) in
       (it.0, it.1 ∙ its_left all ∙ ap (filter (λ r. not (wanted r))) (sym its_are))

@@ -23,12 +23,12 @@ use Rattle.sqlite.specs.declared.run.Mode.{Mode}
 use Rattle.sqlite.specs.State.{State, HasCleanDisk, IsLive, Survives, Writes, Runs, MayWrite, MayCommit, CommitsBy}
 use Rattle.sqlite.specs.State.{CommitsShowing, ExecutesIn, Executes, text_of, shows_rows, mode_of, Shown, ShowsRows}
 use Rattle.sqlite.proofs.Callers.{IsPlain, command_of}
-use Rattle.archive_machine.specs.Records.{Archive}
+use Rattle.archive_model.specs.Records.{Archive}
 use Rattle.archive_tables.specs.Schema.{archive_schema}
-use Rattle.archive_tables.specs.Tables.{IsHeld, IsKept, AreTables, archive_in, archive_of}
-use Rattle.archive_tables.specs.Making.{IsMaking, IsWithin, IsMoving, IsMade}
-use Rattle.archive_tables.specs.Calls.{Changes}
-use Rattle.archive_tables.specs.Crashes.{IsStored, IsCommitOf, AddsNothing, AddsOnly, CrashesOver, CrashesAtCommit}
+use Rattle.archive_tables.specs.Tables.{IsOpenArchive, IsArchiveAtRest, AreArchiveTables, archive_in_trees, archive_of}
+use Rattle.archive_tables.specs.Making.{IsCreatingTables, IsInTransactionWithSchema, IsMigratingTables, IsReadyToCommit}
+use Rattle.archive_tables.specs.Calls.{CommitsChange}
+use Rattle.archive_tables.specs.Crashes.{IsArchiveStored, IsCommitOf, CrashAddsNothing, CrashAddsOnly, CrashLeavesOldOrChanged, CrashAddsOnlyCommit}
 use Rattle.sqlite.specs.Store.{Ghosts}
 use Rattle.sqlite.specs.Held.{Held, state}
 use Rattle.archive_tables.proofs.RunLemmas.{value_is}
@@ -155,15 +155,15 @@ writes_run old new how _ text full count ours w = absurd ours
 
 module _ (sql : List ℕ) (k : Command) (is : command_of (understood archive_schema sql) ≡ k) (plain : IsPlain (understood archive_schema sql)) (ours : WritesRows k)
     (params : Row) (change : Archive → Archive) (old new : State) where
-  outside : {behind : Option Database} → IsHeld behind old → (db : Trees) → CommitsBy sql params old db → old.in_transaction ≡ false
+  outside : {behind : Option Database} → IsOpenArchive behind old → (db : Trees) → CommitsBy sql params old db → old.in_transaction ≡ false
   unfolding CommitsBy
   outside held db h =
       let known = sym h.1.is ∙ ap (λ s. understood s sql) held.schema in
       let which : h.0.command ≡ k = ap command_of known ∙ is in
       (writes_only old h.0.returning h.0.command _ _ db (rows_end_nothing h.0.command (subst WritesRows (sym which) ours)) h.2).0
 
-  commits : IsKept old → ((next : State) (count : ℕ) → Executes sql params old next (Ok count) → Changes old next change) → (db : Trees) → CommitsBy sql params old db
-      → IsStored (change (archive_of old)) db
+  commits : IsArchiveAtRest old → ((next : State) (count : ℕ) → Executes sql params old next (Ok count) → CommitsChange old next change) → (db : Trees) → CommitsBy sql params old db
+      → IsArchiveStored (change (archive_of old)) db
   unfolding CommitsBy ExecutesIn
   commits kept does db h =
       let known = sym h.1.is ∙ ap (λ s. understood s sql) kept.schema in
@@ -183,13 +183,13 @@ module _ (sql : List ℕ) (k : Command) (is : command_of (understood archive_sch
       let done = does next count ran in
       record {
         lists = subst (λ (t : Trees). Lists (t catalog_tree) archive_schema) (sym may.5) (subst (λ (x : Schema). Lists (may.2.trees catalog_tree) x) done.0.schema may.4.lists);
-        tables = subst AreTables (sym may.5) done.0.tables;
-        remembers = ap archive_in may.5 ∙ done.1;
+        tables = subst AreArchiveTables (sym may.5) done.0.tables;
+        remembers = ap archive_in_trees may.5 ∙ done.1;
       }
 
-  pub crash_over : (behind : Option Database) → IsHeld behind old → (IsKept old → (next : State) (count : ℕ) → Executes sql params old next (Ok count) → Changes old next change)
+  pub crash_over : (behind : Option Database) → IsOpenArchive behind old → (IsArchiveAtRest old → (next : State) (count : ℕ) → Executes sql params old next (Ok count) → CommitsChange old next change)
       → Survives old new (CommitsBy sql params old) → HasCleanDisk new → (db : Trees) → new.may_leave db
-      → old.may_leave db ⊎ ((behind ≡ None) × IsStored (change (archive_of old)) db)
+      → old.may_leave db ⊎ ((behind ≡ None) × IsArchiveStored (change (archive_of old)) db)
   crash_over None held does s clean db may = elim (s.crash clean db may) [
     | inl before ↦ inl before
     | inr made ↦ inr (refl, commits held (does held) db made)
@@ -228,7 +228,7 @@ module _ (sql : List ℕ) (k : Command) (is : (schema : Schema) → command_of (
 -- ---- within a transaction, over a schema that is known
 
 module _ (sql : List ℕ) (schema : Schema) (k : Command) (is : command_of (understood schema sql) ≡ k) (ours : EndsNothing k) (params : Row) (before : Database) (old new : State)
-    (within : IsWithin old before schema) where
+    (within : IsInTransactionWithSchema old before schema) where
   never_within : (db : Trees) → ¬ CommitsBy sql params old db
   unfolding CommitsBy
   never_within db h =
@@ -244,66 +244,71 @@ module _ (sql : List ℕ) (schema : Schema) (k : Command) (is : command_of (unde
 
 -- ---- what COMMIT leaves of tables that are held
 
-pub commit_is_stored : (behind : Option Database) (s : State) (db : Trees) → IsHeld behind s → IsCommitOf s db → IsStored (archive_of s) db
+pub commit_is_stored : (behind : Option Database) (s : State) (db : Trees) → IsOpenArchive behind s → IsCommitOf s db → IsArchiveStored (archive_of s) db
 commit_is_stored behind s db held it = record {
   lists = subst (λ (t : Trees). Lists (t catalog_tree) archive_schema) (sym it.0) (subst (λ (x : Schema). Lists (s.now.trees catalog_tree) x) held.schema (it.1 held.is_open).0.lists);
-  tables = subst AreTables (sym it.0) held.tables;
-  remembers = ap archive_in it.0;
+  tables = subst AreArchiveTables (sym it.0) held.tables;
+  remembers = ap archive_in_trees it.0;
 }
 
 -- of tables that are made, or brought over
-pub made_is_stored : (before : Database) (archive : Archive) (s : State) (db : Trees) → IsMade s before archive → IsCommitOf s db → IsStored archive db
+pub made_is_stored : (before : Database) (archive : Archive) (s : State) (db : Trees) → IsReadyToCommit s before archive → IsCommitOf s db → IsArchiveStored archive db
 made_is_stored before archive s db made it = record {
   lists = subst (λ (t : Trees). Lists (t catalog_tree) archive_schema) (sym it.0) (subst (λ (x : Schema). Lists (s.now.trees catalog_tree) x) made.schema_is (it.1 made.is_open).0.lists);
-  tables = subst AreTables (sym it.0) made.tables;
-  remembers = ap archive_in it.0 ∙ made.remembers;
+  tables = subst AreArchiveTables (sym it.0) made.tables;
+  remembers = ap archive_in_trees it.0 ∙ made.remembers;
 }
 
 -- ---- one call after the other
 
 module _ {S : Type 0} (g : Ghosts S) where
-  pub quiet_then : (old mid new : Held S) → AddsNothing g old mid → (HasCleanDisk (state g new) → HasCleanDisk (state g mid)) → AddsNothing g mid new → AddsNothing g old new
+  pub quiet_then : (old mid new : Held S) → CrashAddsNothing g old mid → (HasCleanDisk (state g new) → HasCleanDisk (state g mid)) → CrashAddsNothing g mid new → CrashAddsNothing g old new
   quiet_then old mid new first was last clean db may = first (was clean) db (last clean db may)
 
-  pub adds_after : (old mid new : Held S) (Is : Trees → Type 0) → AddsNothing g old mid → (HasCleanDisk (state g new) → HasCleanDisk (state g mid)) → AddsOnly g mid new Is → AddsOnly g old new Is
+  pub adds_after : (old mid new : Held S) (Is : Trees → Type 0) → CrashAddsNothing g old mid → (HasCleanDisk (state g new) → HasCleanDisk (state g mid)) → CrashAddsOnly g mid new Is
+      → CrashAddsOnly g old new Is
   adds_after old mid new Is first was last clean db may = elim (last clean db may) [ inl before ↦ inl (first (was clean) db before) | inr is ↦ inr is ]
 
-  pub adds_before : (old mid new : Held S) (Is : Trees → Type 0) → AddsOnly g old mid Is → (HasCleanDisk (state g new) → HasCleanDisk (state g mid)) → AddsNothing g mid new → AddsOnly g old new Is
+  pub adds_before : (old mid new : Held S) (Is : Trees → Type 0) → CrashAddsOnly g old mid Is → (HasCleanDisk (state g new) → HasCleanDisk (state g mid)) → CrashAddsNothing g mid new
+      → CrashAddsOnly g old new Is
   adds_before old mid new Is first was last clean db may = first (was clean) db (last clean db may)
 
-  pub adds_none : (old new : Held S) (Is : Trees → Type 0) → AddsNothing g old new → AddsOnly g old new Is
+  pub adds_none : (old new : Held S) (Is : Trees → Type 0) → CrashAddsNothing g old new → CrashAddsOnly g old new Is
   adds_none old new Is quiet clean db may = inl (quiet clean db may)
 
-  pub adds_as : (old new : Held S) (a b : Archive) → a ≡ b → AddsOnly g old new (IsStored a) → AddsOnly g old new (IsStored b)
-  adds_as old new a b same adds clean db may = elim (adds clean db may) [ inl before ↦ inl before | inr is ↦ inr (subst (λ x. IsStored x db) same is) ]
+  pub adds_as : (old new : Held S) (a b : Archive) → a ≡ b → CrashAddsOnly g old new (IsArchiveStored a) → CrashAddsOnly g old new (IsArchiveStored b)
+  adds_as old new a b same adds clean db may = elim (adds clean db may) [ inl before ↦ inl before | inr is ↦ inr (subst (λ x. IsArchiveStored x db) same is) ]
 
-  pub adds_weaker : (old new : Held S) (Is So : Trees → Type 0) → ((db : Trees) → Is db → So db) → AddsOnly g old new Is → AddsOnly g old new So
+  pub adds_weaker : (old new : Held S) (Is So : Trees → Type 0) → ((db : Trees) → Is db → So db) → CrashAddsOnly g old new Is → CrashAddsOnly g old new So
   adds_weaker old new Is So weaker adds clean db may = elim (adds clean db may) [ inl before ↦ inl before | inr is ↦ inr (weaker db is) ]
 
   -- what a write adds outside a transaction
-  pub alone_adds : (old new : Held S) (Needs : Archive → Type 0) (change : Archive → Archive) → CrashesOver g old new Needs change → Needs (archive_of (state g old)) → IsKept (state g old)
-      → AddsOnly g old new (IsStored (change (archive_of (state g old))))
+  pub alone_adds : (old new : Held S) (Needs : Archive → Type 0) (change : Archive → Archive) → CrashLeavesOldOrChanged g old new Needs change → Needs (archive_of (state g old))
+      → IsArchiveAtRest (state g old)
+      → CrashAddsOnly g old new (IsArchiveStored (change (archive_of (state g old))))
   alone_adds old new Needs change crash needs kept clean db may = elim (crash None kept needs clean db may) [ inl before ↦ inl before | inr it ↦ inr it.1 ]
 
   -- a write within a transaction
-  pub within_adds : (old new : Held S) (before : Database) (Needs : Archive → Type 0) (change : Archive → Archive) → IsHeld (Some before) (state g old) → Needs (archive_of (state g old))
-      → CrashesOver g old new Needs change → AddsNothing g old new
+  pub within_adds : (old new : Held S) (before : Database) (Needs : Archive → Type 0) (change : Archive → Archive) → IsOpenArchive (Some before) (state g old) → Needs (archive_of (state g old))
+      → CrashLeavesOldOrChanged g old new Needs change → CrashAddsNothing g old new
   within_adds old new before Needs change held needs crash clean db may = elim (crash (Some before) held needs clean db may) [
     | inl earlier ↦ earlier
     | inr it ↦ absurd (let e = it.0 in cc)
   ]
 
-  pub never_adds : (old new : Held S) (before : Database) (Is : Trees → Type 0) → AddsOnly g old new (λ db. (◌≡◌ {A = Option Database} (Some before) None) × Is db) → AddsNothing g old new
+  pub never_adds : (old new : Held S) (before : Database) (Is : Trees → Type 0) → CrashAddsOnly g old new (λ db. (◌≡◌ {A = Option Database} (Some before) None) × Is db) → CrashAddsNothing g old new
   never_adds old new before Is adds clean db may = elim (adds clean db may) [ inl earlier ↦ earlier | inr it ↦ absurd (let e = it.0 in cc) ]
 
-  pub commit_made : (old new : Held S) (before : Database) (archive : Archive) → IsMade (state g old) before archive → CrashesAtCommit g old new → AddsOnly g old new (IsStored archive)
+  pub commit_made : (old new : Held S) (before : Database) (archive : Archive) → IsReadyToCommit (state g old) before archive → CrashAddsOnlyCommit g old new
+      → CrashAddsOnly g old new (IsArchiveStored archive)
   commit_made old new before archive made crash clean db may = elim (crash clean db may) [
     | inl earlier ↦ inl earlier
     | inr it ↦ inr (made_is_stored before archive (state g old) db made it)
   ]
 
   -- COMMIT of tables that are held
-  pub commit_over : (old new : Held S) (before : Database) → IsHeld (Some before) (state g old) → CrashesAtCommit g old new → AddsOnly g old new (IsStored (archive_of (state g old)))
+  pub commit_over : (old new : Held S) (before : Database) → IsOpenArchive (Some before) (state g old) → CrashAddsOnlyCommit g old new
+      → CrashAddsOnly g old new (IsArchiveStored (archive_of (state g old)))
   commit_over old new before held crash clean db may = elim (crash clean db may) [
     | inl earlier ↦ inl earlier
     | inr it ↦ inr (commit_is_stored (Some before) (state g old) db held it)
@@ -312,8 +317,9 @@ module _ {S : Type 0} (g : Ghosts S) where
 -- ---- a transaction that brings tables over
 
 -- what is moved, or made, is within
-pub is_within : (s : State) (before : Database) (schema : Schema) (said : ℤ) (number : ℕ) (archive : Archive) → IsMoving s before schema said number archive → IsWithin s before schema
+pub is_within : (s : State) (before : Database) (schema : Schema) (said : ℤ) (number : ℕ) (archive : Archive) → IsMigratingTables s before schema said number archive
+    → IsInTransactionWithSchema s before schema
 is_within s before schema said number archive k = record { is_open = k.is_open; within = k.within; behind = k.behind; schema_is = k.schema_is }
 
-pub making_within : (s : State) (before : Database) (schema : Schema) → IsMaking s schema before → IsWithin s before schema
+pub making_within : (s : State) (before : Database) (schema : Schema) → IsCreatingTables s schema before → IsInTransactionWithSchema s before schema
 making_within s before schema k = record { is_open = k.is_open; within = k.within; behind = k.behind; schema_is = k.schema_is }

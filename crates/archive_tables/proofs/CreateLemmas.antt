@@ -24,7 +24,7 @@ use Rattle.sqlite_rules.proofs.ListLemmas.{all_has}
 use Rattle.sqlite_schema.specs.declared.schema.Index.{Index}
 use Rattle.sqlite_schema.specs.declared.schema.Keys.TheVariants.{Enforced}
 use Rattle.sqlite_schema.specs.Rules.{table_reals, index_reals}
-use Rattle.archive_tables.specs.Statements.{Statement, MayEnd}
+use Rattle.archive_tables.specs.Statements.{Statement, StatementMayEndIn}
 use Rattle.archive_tables.proofs.MakeLemmas.{AreEmpty, one_made, still_empty, same_empty, one_indexed}
 use Rattle.archive_tables.proofs.RunLemmas.{passed, value_is}
 
@@ -34,8 +34,8 @@ over s trees = record { schema = s; trees = trees }
 
 -- over tables without rows a statement is carried out, and leaves tables without rows
 pub record Proceeds (st : Statement) (from to : Schema) (trees : Trees) : Type 0 where
-  pub never : (stop : Option Error) → ¬ MayEnd st (over from trees) (Err stop)
-  pub makes : (tally : Tally) (next : Database) → MayEnd st (over from trees) (Ok (tally, next)) → (next.schema ≡ to) × AreEmpty next.trees to.tables
+  pub never : (stop : Option Error) → ¬ StatementMayEndIn st (over from trees) (Err stop)
+  pub makes : (tally : Tally) (next : Database) → StatementMayEndIn st (over from trees) (Ok (tally, next)) → (next.schema ≡ to) × AreEmpty next.trees to.tables
 
 abbrev pub at_once : Mode
 at_once = record { keys = Enforced; in_doubt = false; may_wait = false }
@@ -124,7 +124,7 @@ completes_counted made counts some can = record {
 }
 
 pub table_proceeds : (st : Statement) (s to : Schema) (sql : List ℕ) (table : Table) (trees : Trees) → CanCreate s sql table → Completes (created s table) to → AreEmpty trees s.tables
-    → ((out : Result (Tally × Database) (Option Error)) → MayEnd st (over s trees) out → Does None at_once [] (over s trees) sql None CreateTable out) → Proceeds st s to trees
+    → ((out : Result (Tally × Database) (Option Error)) → StatementMayEndIn st (over s trees) out → Does None at_once [] (over s trees) sql None CreateTable out) → Proceeds st s to trees
 table_proceeds st s to sql table trees can completes empty may =
     let made = λ (mid : Database) (it : MakesTable sql (over s trees) (Ok mid)). one_made s sql table (over s trees) mid refl can.defined it in
     record {
@@ -203,7 +203,8 @@ module _ (s : Schema) (at : ℕ) (table : Table) (there : slice_get s.tables at 
   never_index (Some e) (inl bad) = bad.0 can.text
   never_index (Some e) (inr it) = index_not_refused it.0 it.1
 
-  pub index_proceeds : (st : Statement) → ((out : Result (Tally × Database) (Option Error)) → MayEnd st (over s trees) out → Does None at_once [] (over s trees) sql None (CreateIndex at) out)
+  pub index_proceeds : (st : Statement) → ((out : Result (Tally × Database) (Option Error)) → StatementMayEndIn st (over s trees) out
+      → Does None at_once [] (over s trees) sql None (CreateIndex at) out)
       → Proceeds st s (indexed s table index) trees
   index_proceeds st may = record {
     never = λ stop h.

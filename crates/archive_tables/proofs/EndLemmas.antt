@@ -11,9 +11,10 @@ use Rattle.sqlite.specs.Store.{Ghosts}
 use Rattle.sqlite.specs.Held.{Held, state}
 use Rattle.sqlite.specs.State.{State, HasCleanDisk, Survives, Executes, Shown, FailsToQuery, IsUnchanged, IsRolledBack, CommitsBy, CommitsShowing}
 use Rattle.sqlite_resolve.specs.Compile.{first}
-use Rattle.archive_machine.specs.Records.{Archive}
-use Rattle.archive_tables.specs.Tables.{IsHeld, IsKept, archive_in, archive_of}
-use Rattle.archive_tables.specs.Calls.{StaysOver, RestsOver, IsCaused, ChangesOver, AsksOver, AsksRowsOver, FailsByFaultOr, Ends, Asks, AsksAnywhere, AsksRows, Writes as WritesBy}
+use Rattle.archive_model.specs.Records.{Archive}
+use Rattle.archive_tables.specs.Tables.{IsOpenArchive, IsArchiveAtRest, archive_in_trees, archive_of}
+use Rattle.archive_tables.specs.Calls.{LeavesRowsUnchanged, FaultKeepsRowsOrRollsBack, IsMemoryOrDiskError, ChangesArchive, AnswerHoldsOfArchive, AnswerHoldsOfRows}
+use Rattle.archive_tables.specs.Calls.{FailsByFaultOr, EndsConnectionCall, AnswersFromDatabase, AnswersOrFailsByFault, AnswersFromRows, WritesByStatement as WritesBy}
 use Rattle.archive_tables.specs.Statements.{Statement}
 use Rattle.archive_tables.specs.Making.{EndsStep}
 use Rattle.archive_tables.proofs.RunLemmas.{execute_fails, on_fault}
@@ -25,13 +26,13 @@ use Rattle.archive_tables.proofs.LastLemmas.{IsOurText, execute_lasts, execute_o
 -- ---- one call after the other
 
 -- the same rows remember the same archive
-pub archive_stays : {a b : Database} → b ≡ a → archive_in b.trees ≡ archive_in a.trees
-archive_stays same = ap (λ (db : Database). archive_in db.trees) same
+pub archive_stays : {a b : Database} → b ≡ a → archive_in_trees b.trees ≡ archive_in_trees a.trees
+archive_stays same = ap (λ (db : Database). archive_in_trees db.trees) same
 
-pub stays_then : (behind : Option Database) (a b c : State) → StaysOver behind a b → StaysOver behind b c → StaysOver behind a c
+pub stays_then : (behind : Option Database) (a b c : State) → LeavesRowsUnchanged behind a b → LeavesRowsUnchanged behind b c → LeavesRowsUnchanged behind a c
 stays_then behind a b c p q = (q.0, q.1 ∙ p.1)
 
-pub rests_behind : (behind : Option Database) (old mid new : State) → mid.now ≡ old.now → RestsOver behind mid new → RestsOver behind old new
+pub rests_behind : (behind : Option Database) (old mid new : State) → mid.now ≡ old.now → FaultKeepsRowsOrRollsBack behind mid new → FaultKeepsRowsOrRollsBack behind old new
 rests_behind None old mid new same rests = λ up. let it = rests up in (it.0, it.1 ∙ same)
 rests_behind (Some db) old mid new same rests = λ up. elim (rests up) [ inl stays ↦ inl (stays.0, stays.1 ∙ same) | inr back ↦ inr back ]
 
@@ -47,7 +48,7 @@ module _ {S : Type 0} {g : Ghosts S} {old new : Held S} (sql : List ℕ) (params
 
   module _ (r : Result ℕ Error) (ours : IsOurText (first sql)) (s : Survives (state g old) (state g new) P)
       (runs : HasCleanDisk (state g new) → Executes sql params (state g old) (state g new) r) where
-    pub execute_ends : Ends g old new r
+    pub execute_ends : EndsConnectionCall g old new r
     execute_ends = record {
       lasts = execute_lasts (state g old) (state g new) sql params P r s runs;
       was_open = λ clean. execute_open (state g old) (state g new) sql params r ours (runs clean);
@@ -62,7 +63,7 @@ statement_stops old new sql params (Err e) h = execute_fails old new sql params 
 pub step_ends : {S : Type 0} {g : Ghosts S} {old new : Held S} (s : Schema) (st : Statement) (P : Trees → Type 0) (r : Result ℕ Error) → KnowsIn s st → IsOurText (first st.sql)
     → Survives (state g old) (state g new) P → (HasCleanDisk (state g new) → Executes st.sql st.given (state g old) (state g new) r) → EndsStep g old new r s st
 step_ends {S} {g} {old} {new} s st P r knows ours survives runs =
-    let ends : Ends g old new r = execute_ends st.sql st.given P r ours survives runs in
+    let ends : EndsConnectionCall g old new r = execute_ends st.sql st.given P r ours survives runs in
     record {
       lasts = ends.lasts;
       was_open = ends.was_open;
@@ -76,8 +77,8 @@ step_ends {S} {g} {old} {new} s st P r knows ours survives runs =
 module _ (st : Statement) (Needs : Archive → Type 0) (change : Archive → Archive) where
   -- what the statement makes of tables that are held
   abbrev pub Tries : Type 1
-  Tries = (behind : Option Database) (old new : State) (r : Result ℕ Error) → IsHeld behind old → Executes st.sql st.given old new r
-      → MatchResult r (λ _. Needs (archive_of old) → ChangesOver behind old new change) (λ _. RestsOver behind old new)
+  Tries = (behind : Option Database) (old new : State) (r : Result ℕ Error) → IsOpenArchive behind old → Executes st.sql st.given old new r
+      → MatchResult r (λ _. Needs (archive_of old) → ChangesArchive behind old new change) (λ _. FaultKeepsRowsOrRollsBack behind old new)
 
   module _ (knows : Knows st) (ours : IsOurText (first st.sql)) (tries : Tries) where
     pub write_whole : {S : Type 0} {g : Ghosts S} {old new : Held S} (r : Result ℕ Error) → Survives (state g old) (state g new) (CommitsBy st.sql st.given (state g old))
@@ -93,8 +94,8 @@ module _ (st : Statement) (Needs : Archive → Type 0) (change : Archive → Arc
 
 -- where it needs nothing
 pub write_freely : (st : Statement) (change : Archive → Archive) → Knows st → IsOurText (first st.sql)
-    → ((behind : Option Database) (old new : State) (r : Result ℕ Error) → IsHeld behind old → Executes st.sql st.given old new r
-    → MatchResult r (λ _. ChangesOver behind old new change) (λ _. RestsOver behind old new))
+    → ((behind : Option Database) (old new : State) (r : Result ℕ Error) → IsOpenArchive behind old → Executes st.sql st.given old new r
+    → MatchResult r (λ _. ChangesArchive behind old new change) (λ _. FaultKeepsRowsOrRollsBack behind old new))
     → {S : Type 0} {g : Ghosts S} {old new : Held S} (r : Result ℕ Error) → Survives (state g old) (state g new) (CommitsBy st.sql st.given (state g old))
     → (HasCleanDisk (state g new) → Executes st.sql st.given (state g old) (state g new) r) → WritesBy g old new r (λ _. ⊤) change st
 write_freely st change knows ours tries = write_whole st (λ _. ⊤) change knows ours (λ behind old new r k h. needs_nothing r _ _ (tries behind old new r k h))
@@ -110,30 +111,30 @@ module _ {S : Type 0} {g : Ghosts S} {old new : Held S} (sql : List ℕ) (params
   module _ (q : Result (Vec Row Global) Error) (s : Survives (state g old) (state g new) (CommitsShowing sql params (state g old)))
       (ok : HasCleanDisk (state g new) → IfOk q (λ rows. Shown sql params (state g old) (state g new) rows.items))
       (err : HasCleanDisk (state g new) → IfErr q (FailsToQuery sql params (state g old) (state g new))) where
-    query_ends : {A : Type 0} (r : Result A Error) → (HasCleanDisk (state g new) → OnOk r (IsTrue (state g old).is_open)) → Ends g old new r
+    query_ends : {A : Type 0} (r : Result A Error) → (HasCleanDisk (state g new) → OnOk r (IsTrue (state g old).is_open)) → EndsConnectionCall g old new r
     query_ends r was_open = record { lasts = query_lasts (state g old) (state g new) sql params _ q s ok err; was_open = was_open }
 
     -- where its rows are the answer
-    pub shown_ends : Ends g old new q
+    pub shown_ends : EndsConnectionCall g old new q
     shown_ends = query_ends q (λ clean. query_open (state g old) (state g new) sql params q (ok clean))
 
     -- where an answer is made of its rows
     pub answered_ends : {A : Type 0} (a : A) (rows : List Row) → (HasCleanDisk (state g new) → Shown sql params (state g old) (state g new) rows)
-        → (let r : Result A Error = Ok a in Ends g old new r)
+        → (let r : Result A Error = Ok a in EndsConnectionCall g old new r)
     answered_ends a rows shown = query_ends (Ok a) (λ clean. shown_open (state g old) (state g new) sql params rows (shown clean))
 
     -- at the exit of a `?`
-    pub failed_ends : {A : Type 0} (r : Result A Error) (Q : Error → Type 0) → IsErrAnd r Q → Ends g old new r
+    pub failed_ends : {A : Type 0} (r : Result A Error) (Q : Error → Type 0) → IsErrAnd r Q → EndsConnectionCall g old new r
     failed_ends r Q is = query_ends r (λ clean. answers_none r Q _ is)
 
     -- the whole clause there
     pub asks_fails : {A : Type 0} {Says : Archive → A → Type 0} {Unread : Type 0} (r : Result A Error) (e : Error) → IsErrAnd r (λ f. f ≡ e)
-        → (HasCleanDisk (state g new) → (behind : Option Database) → IsHeld behind (state g old) → RestsOver behind (state g old) (state g new))
-        → (HasCleanDisk (state g new) → IsKept (state g old) → (state g old).step_limit ≡ None → IsCaused (state g old) (state g new) e ⊎ Unread)
-        → Asks g old new r Says Unread
+        → (HasCleanDisk (state g new) → (behind : Option Database) → IsOpenArchive behind (state g old) → FaultKeepsRowsOrRollsBack behind (state g old) (state g new))
+        → (HasCleanDisk (state g new) → IsArchiveAtRest (state g old) → (state g old).step_limit ≡ None → IsMemoryOrDiskError (state g old) (state g new) e ⊎ Unread)
+        → AnswersFromDatabase g old new r Says Unread
     asks_fails {A} {Says} {Unread} r e is rests why = record {
       over = λ clean behind k. on_fault _ _ r is (rests clean behind k);
-      caused = λ clean k free. carried r e (λ f. IsCaused (state g old) (state g new) f ⊎ Unread) is (why clean k free);
+      caused = λ clean k free. carried r e (λ f. IsMemoryOrDiskError (state g old) (state g new) f ⊎ Unread) is (why clean k free);
       same = λ clean. answers_none r _ _ is;
       quiet = λ clean db may. question_adds_nothing (state g old) (state g new) sql params asks s clean db may;
       ends = failed_ends r _ is;
@@ -141,31 +142,32 @@ module _ {S : Type 0} {g : Ghosts S} {old new : Held S} (sql : List ℕ) (params
 
     -- where its faults have a cause within a transaction, too
     pub anywhere_fails : {A : Type 0} {Says : Archive → A → Type 0} (r : Result A Error) (e : Error) → IsErrAnd r (λ f. f ≡ e)
-        → (HasCleanDisk (state g new) → (behind : Option Database) → IsHeld behind (state g old) → RestsOver behind (state g old) (state g new))
-        → (HasCleanDisk (state g new) → (behind : Option Database) → IsHeld behind (state g old) → (state g old).step_limit ≡ None → IsCaused (state g old) (state g new) e)
-        → AsksAnywhere g old new r Says
+        → (HasCleanDisk (state g new) → (behind : Option Database) → IsOpenArchive behind (state g old) → FaultKeepsRowsOrRollsBack behind (state g old) (state g new))
+        → (HasCleanDisk (state g new) → (behind : Option Database) → IsOpenArchive behind (state g old) → (state g old).step_limit ≡ None → IsMemoryOrDiskError (state g old) (state g new) e)
+        → AnswersOrFailsByFault g old new r Says
     anywhere_fails {A} {Says} r e is rests why = record {
       over = λ clean behind k. on_fault _ _ r is (rests clean behind k);
-      caused = λ clean behind k free. carried r e (λ f. IsCaused (state g old) (state g new) f) is (why clean behind k free);
+      caused = λ clean behind k free. carried r e (λ f. IsMemoryOrDiskError (state g old) (state g new) f) is (why clean behind k free);
       same = λ clean. answers_none r _ _ is;
       quiet = λ clean db may. question_adds_nothing (state g old) (state g new) sql params asks s clean db may;
       ends = failed_ends r _ is;
     }
 
     pub asks_rows_fails : {A : Type 0} {Says : Trees → A → Type 0} {Unread : Type 0} (r : Result A Error) (e : Error) → IsErrAnd r (λ f. f ≡ e)
-        → (HasCleanDisk (state g new) → (behind : Option Database) → IsHeld behind (state g old) → RestsOver behind (state g old) (state g new))
-        → (HasCleanDisk (state g new) → IsKept (state g old) → (state g old).step_limit ≡ None → IsCaused (state g old) (state g new) e ⊎ Unread)
-        → AsksRows g old new r Says Unread
+        → (HasCleanDisk (state g new) → (behind : Option Database) → IsOpenArchive behind (state g old) → FaultKeepsRowsOrRollsBack behind (state g old) (state g new))
+        → (HasCleanDisk (state g new) → IsArchiveAtRest (state g old) → (state g old).step_limit ≡ None → IsMemoryOrDiskError (state g old) (state g new) e ⊎ Unread)
+        → AnswersFromRows g old new r Says Unread
     asks_rows_fails {A} {Says} {Unread} r e is rests why = record {
       over = λ clean behind k. on_fault _ _ r is (rests clean behind k);
-      caused = λ clean k free. carried r e (λ f. IsCaused (state g old) (state g new) f ⊎ Unread) is (why clean k free);
+      caused = λ clean k free. carried r e (λ f. IsMemoryOrDiskError (state g old) (state g new) f ⊎ Unread) is (why clean k free);
       same = λ clean. answers_none r _ _ is;
       quiet = λ clean db may. question_adds_nothing (state g old) (state g new) sql params asks s clean db may;
       ends = failed_ends r _ is;
     }
 
     -- where its rows are the answer
-    pub asks_shows : {Says : Archive → Vec Row Global → Type 0} {Unread : Type 0} → AsksOver g old new q Says → FailsByFaultOr g old new q Unread → Asks g old new q Says Unread
+    pub asks_shows : {Says : Archive → Vec Row Global → Type 0} {Unread : Type 0} → AnswerHoldsOfArchive g old new q Says → FailsByFaultOr g old new q Unread
+        → AnswersFromDatabase g old new q Says Unread
     asks_shows over caused = record {
       over = over;
       caused = caused;
@@ -174,7 +176,7 @@ module _ {S : Type 0} {g : Ghosts S} {old new : Held S} (sql : List ℕ) (params
       ends = shown_ends;
     }
 
-    pub asks_rows_shows : {Says : Trees → Vec Row Global → Type 0} {Unread : Type 0} → AsksRowsOver g old new q Says → FailsByFaultOr g old new q Unread → AsksRows g old new q Says Unread
+    pub asks_rows_shows : {Says : Trees → Vec Row Global → Type 0} {Unread : Type 0} → AnswerHoldsOfRows g old new q Says → FailsByFaultOr g old new q Unread → AnswersFromRows g old new q Says Unread
     asks_rows_shows over caused = record {
       over = over;
       caused = caused;
@@ -186,8 +188,8 @@ module _ {S : Type 0} {g : Ghosts S} {old new : Held S} (sql : List ℕ) (params
     -- and where it answers
     pub asks_answers : {A : Type 0} {Says : Archive → A → Type 0} {Unread : Type 0} (a : A) (rows : List Row)
         → (HasCleanDisk (state g new) → Shown sql params (state g old) (state g new) rows)
-        → (HasCleanDisk (state g new) → (behind : Option Database) → IsHeld behind (state g old) → Says (archive_of (state g old)) a × StaysOver behind (state g old) (state g new))
-        → Asks g old new (Ok a) Says Unread
+        → (HasCleanDisk (state g new) → (behind : Option Database) → IsOpenArchive behind (state g old) → Says (archive_of (state g old)) a × LeavesRowsUnchanged behind (state g old) (state g new))
+        → AnswersFromDatabase g old new (Ok a) Says Unread
     asks_answers a rows shown over = record {
       over = over;
       caused = λ clean k free. tt;
@@ -198,8 +200,8 @@ module _ {S : Type 0} {g : Ghosts S} {old new : Held S} (sql : List ℕ) (params
 
     pub anywhere_answers : {A : Type 0} {Says : Archive → A → Type 0} (a : A) (rows : List Row)
         → (HasCleanDisk (state g new) → Shown sql params (state g old) (state g new) rows)
-        → (HasCleanDisk (state g new) → (behind : Option Database) → IsHeld behind (state g old) → Says (archive_of (state g old)) a × StaysOver behind (state g old) (state g new))
-        → AsksAnywhere g old new (Ok a) Says
+        → (HasCleanDisk (state g new) → (behind : Option Database) → IsOpenArchive behind (state g old) → Says (archive_of (state g old)) a × LeavesRowsUnchanged behind (state g old) (state g new))
+        → AnswersOrFailsByFault g old new (Ok a) Says
     anywhere_answers a rows shown over = record {
       over = over;
       caused = λ clean behind k free. tt;
@@ -210,9 +212,9 @@ module _ {S : Type 0} {g : Ghosts S} {old new : Held S} (sql : List ℕ) (params
 
     pub asks_rows_answers : {A : Type 0} {Says : Trees → A → Type 0} {Unread : Type 0} (a : A) (rows : List Row)
         → (HasCleanDisk (state g new) → Shown sql params (state g old) (state g new) rows)
-        → (HasCleanDisk (state g new) → (behind : Option Database) → IsHeld behind (state g old)
-        → Says (state g old).now.trees a × StaysOver behind (state g old) (state g new))
-        → AsksRows g old new (Ok a) Says Unread
+        → (HasCleanDisk (state g new) → (behind : Option Database) → IsOpenArchive behind (state g old)
+        → Says (state g old).now.trees a × LeavesRowsUnchanged behind (state g old) (state g new))
+        → AnswersFromRows g old new (Ok a) Says Unread
     asks_rows_answers a rows shown over = record {
       over = over;
       caused = λ clean k free. tt;

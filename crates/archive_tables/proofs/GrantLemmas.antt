@@ -25,12 +25,12 @@ use Rattle.sqlite_tied.specs.Compute.{everything}
 use Rattle.sqlite_rules.specs.Calls.{ids_of}
 use Rattle.sqlite_sql.specs.declared.ops.BinaryOp.TheVariants.{Compare}
 use Rattle.sqlite_sql.specs.declared.ops.CompareOp.TheVariants.{Eq}
-use Rattle.archive_machine.specs.Records.{Grant}
+use Rattle.archive_model.specs.Records.{Grant}
 use Rattle.archive_tables.specs.Schema.{archive_schema, grant_table}
-use Rattle.archive_machine.specs.Questions.{is_grant}
-use Rattle.archive_tables.specs.Tables.{IsHeld, Numbered, row_of, grant_cells, grant_read, archive_of, same_grant, AreApart}
-use Rattle.archive_tables.specs.Rows.{grant_shown}
-use Rattle.archive_tables.specs.Calls.{ChangesOver, StaysOver, RestsOver, IsCaused}
+use Rattle.archive_model.specs.Questions.{is_grant_of_rank}
+use Rattle.archive_tables.specs.Tables.{IsOpenArchive, NumberedRecord, numbered_row, grant_cells, grant_from_row, archive_of, same_grant_key, HaveDistinctKeys}
+use Rattle.archive_tables.specs.Rows.{grant_result_row}
+use Rattle.archive_tables.specs.Calls.{ChangesArchive, LeavesRowsUnchanged, FaultKeepsRowsOrRollsBack, IsMemoryOrDiskError}
 use Rattle.archive_tables.proofs.RunLemmas.{passed, value_is, no_action, cast_null, cast_int, kept_by, rests, execute_fails}
 use Rattle.archive_tables.proofs.RowLemmas.{put_past}
 use Rattle.archive_tables.proofs.TableLemmas.{SameBut, same_but, grants_change}
@@ -40,7 +40,7 @@ use Rattle.archive_tables.proofs.SelectLemmas.{shows, alone, text_is, int_is, te
 use Rattle.archive_tables.proofs.CauseLemmas.{Fits, question_fails_by}
 use Rattle.sqlite_typing.specs.Types.{accepts_program}
 
-back : (n : ℤ) (g : Grant) → grant_read (Int n ∷ grant_cells g) ≡ g
+back : (n : ℤ) (g : Grant) → grant_from_row (Int n ∷ grant_cells g) ≡ g
 back n g = refl
 
 -- ---- keys of grants
@@ -53,14 +53,14 @@ number_flips a b = either (int_eq a b) (int_eq b a) (λ h. (Decides-int_eq b a).
     either false true there back = back refl
     either false false there back = refl
 
-flips : (a b : Grant) → same_grant a b ≡ same_grant b a
+flips : (a b : Grant) → same_grant_key a b ≡ same_grant_key b a
 flips a b = ap₂ ◌&&◌ (text_flips b.person a.person) (ap₂ ◌&&◌ (text_flips b.list a.list) (number_flips b.rank a.rank))
 
 parts : (p q : Bool) → (p && q) ≡ true → (p ≡ true) × (q ≡ true)
 parts true q h = (refl, h)
 parts false q h = absurd cc
 
-alike : (person list : List ℕ) (rank : ℤ) (a b : Grant) → is_grant person list rank a ≡ true → same_grant a b ≡ is_grant person list rank b
+alike : (person list : List ℕ) (rank : ℤ) (a b : Grant) → is_grant_of_rank person list rank a ≡ true → same_grant_key a b ≡ is_grant_of_rank person list rank b
 alike person list rank a b found =
     let first = parts (bytes_eq a.person person) _ found in
     let rest = parts (bytes_eq a.list list) (int_eq a.rank rank) first.1 in
@@ -76,7 +76,7 @@ abbrev of_both : List Term
 of_both = op2 (Compare Eq Binary) (col 1 1) (col 0 0) ∷ op2 (Compare Eq Binary) (col 1 2) (col 0 1) ∷ []
 
 has_key : (person list : List ℕ) (rank : ℤ) (more : Row) (n : ℤ) (g : Grant)
-    → passes at_key (Text person ∷ Text list ∷ Int rank ∷ more) (Int n ∷ grant_cells g) ≡ is_grant person list rank g
+    → passes at_key (Text person ∷ Text list ∷ Int rank ∷ more) (Int n ∷ grant_cells g) ≡ is_grant_of_rank person list rank g
 has_key person list rank more n g = ap₂ ◌&&◌ (text_is g.person person) (ap₂ ◌&&◌ (text_is g.list list) (alone _ ∙ int_is g.rank rank))
 
 has_both : (person list : List ℕ) (n : ℤ) (g : Grant) → passes of_both (Text person ∷ Text list ∷ []) (Int n ∷ grant_cells g) ≡ (bytes_eq g.person person && bytes_eq g.list list)
@@ -101,16 +101,16 @@ add_plain = (refl, refl)
 abbrev pub params_of : Grant → Row
 params_of = grant_cells
 
-abbrev fresh : Trees → Grant → Numbered Grant
+abbrev fresh : Trees → Grant → NumberedRecord Grant
 fresh db g = record { number = next_rowid (db 6); it = g }
 
 adding : (db : Trees) (g : Grant) (given : List Row) → given ≡ (Null ∷ grant_cells g) ∷ []
-    → edited db (edit_of db grant_table [] Chosen 0 given) ≡ put_row (row_of grant_cells (fresh db g)) (db 6)
+    → edited db (edit_of db grant_table [] Chosen 0 given) ≡ put_row (numbered_row grant_cells (fresh db g)) (db 6)
 adding db g given from = rw (from, cast_null, cast_int g.rank, cast_int g.from_day, cast_int g.until_day)
 
-adds : {behind : Option Database} (old new : State) (g : Grant) (count : ℕ) → IsHeld behind old → list_any (is_grant g.person g.list g.rank) (archive_of old).grants ≡ false
+adds : {behind : Option Database} (old new : State) (g : Grant) (count : ℕ) → IsOpenArchive behind old → list_any (is_grant_of_rank g.person g.list g.rank) (archive_of old).grants ≡ false
     → Executes add_text (params_of g) old new (Ok count)
-    → ChangesOver behind old new (λ a. record a { grants = a.grants ++ g ∷ [] })
+    → ChangesArchive behind old new (λ a. record a { grants = a.grants ++ g ∷ [] })
 adds old new g count k none h =
     let params = params_of g in
     let db = old.now.trees in
@@ -126,16 +126,16 @@ adds old new g count k none h =
     let applied = one_step archive_schema _ db written.0 edit (no_action 6 (taken_by db edit) edit.news) written.1 in
     let trees : new.now.trees ≡ written.0 =
     ap (λ (d : Database). d.trees) now ∙ ap (λ (it : Written). it.trees) (value_is counted.2) ∙ value_is counted.1 in
-    let put = put_past grant_cells grant_read back (db 6) (fresh db g) (inl refl) k.tables.grants in
-    let rows : new.now.trees 6 ≡ put_row (row_of grant_cells (fresh db g)) (db 6) = ap (λ (t : Trees). t 6) trees ∙ applied.rows ∙ adding db g given.0 given.1.1 in
+    let put = put_past grant_cells grant_from_row back (db 6) (fresh db g) (inl refl) k.tables.grants in
+    let rows : new.now.trees 6 ≡ put_row (numbered_row grant_cells (fresh db g)) (db 6) = ap (λ (t : Trees). t 6) trees ∙ applied.rows ∙ adding db g given.0 given.1.1 in
     let same = subst (SameBut 6 db) (sym trees) (same_but 6 db written.0 applied.tables) in
-    let apart = subst (AreApart same_grant) (sym put.1) (apart_more same_grant (archive_of old).grants g flips none k.tables.grants_apart) in
+    let apart = subst (HaveDistinctKeys same_grant_key) (sym put.1) (apart_more same_grant_key (archive_of old).grants g flips none k.tables.grants_distinct) in
     let it = grants_change db new.now.trees k.tables same _ rows put.0 apart in
     (kept_by old new k w.shown (ap (λ (d : Database). d.schema) now) it.0, it.1 ∙ ap (λ l. record (archive_of old) { grants = l }) put.1)
 
-pub tries_to_add : (behind : Option Database) (old new : State) (g : Grant) (r : Result ℕ Error) → IsHeld behind old → Executes add_text (params_of g) old new r
-    → MatchResult r (λ _. list_any (is_grant g.person g.list g.rank) (archive_of old).grants ≡ false → ChangesOver behind old new (λ a. record a { grants = a.grants ++ g ∷ [] }))
-    (λ _. RestsOver behind old new)
+pub tries_to_add : (behind : Option Database) (old new : State) (g : Grant) (r : Result ℕ Error) → IsOpenArchive behind old → Executes add_text (params_of g) old new r
+    → MatchResult r (λ _. list_any (is_grant_of_rank g.person g.list g.rank) (archive_of old).grants ≡ false → ChangesArchive behind old new (λ a. record a { grants = a.grants ++ g ∷ [] }))
+    (λ _. FaultKeepsRowsOrRollsBack behind old new)
 tries_to_add behind old new g (Ok count) k h = λ none. adds old new g count k none h
 tries_to_add behind old new g (Err e) k h = rests old new k (execute_fails old new add_text (params_of g) e h)
 
@@ -178,30 +178,30 @@ module _ (person list : List ℕ) (rank : ℤ) where
     days g = record g { from_day = from_day; until_day = until_day }
 
     abbrev change : Grant → Grant
-    change g = if is_grant person list rank g then days g else g
+    change g = if is_grant_of_rank person list rank g then days g else g
 
     abbrev change_params : Row
     change_params = Text person ∷ Text list ∷ Int rank ∷ Int from_day ∷ Int until_day ∷ []
 
-    keeps : (a b : Grant) → same_grant (change a) (change b) ≡ same_grant a b
+    keeps : (a b : Grant) → same_grant_key (change a) (change b) ≡ same_grant_key a b
     keeps a b = ap₂ ◌&&◌ (ap₂ bytes_eq (same_person b) (same_person a)) (ap₂ ◌&&◌ (ap₂ bytes_eq (same_list b) (same_list a)) (ap₂ int_eq (same_rank b) (same_rank a)))
       where
         same_person : (g : Grant) → (change g).person ≡ g.person
-        same_person g = elim (is_grant person list rank g) as (λ c. (cond c (days g) g).person ≡ g.person) [ true ↦ refl | false ↦ refl ]
+        same_person g = elim (is_grant_of_rank person list rank g) as (λ c. (cond c (days g) g).person ≡ g.person) [ true ↦ refl | false ↦ refl ]
 
         same_list : (g : Grant) → (change g).list ≡ g.list
-        same_list g = elim (is_grant person list rank g) as (λ c. (cond c (days g) g).list ≡ g.list) [ true ↦ refl | false ↦ refl ]
+        same_list g = elim (is_grant_of_rank person list rank g) as (λ c. (cond c (days g) g).list ≡ g.list) [ true ↦ refl | false ↦ refl ]
 
         same_rank : (g : Grant) → (change g).rank ≡ g.rank
-        same_rank g = elim (is_grant person list rank g) as (λ c. (cond c (days g) g).rank ≡ g.rank) [ true ↦ refl | false ↦ refl ]
+        same_rank g = elim (is_grant_of_rank person list rank g) as (λ c. (cond c (days g) g).rank ≡ g.rank) [ true ↦ refl | false ↦ refl ]
 
-    puts : (db : Trees) (r : Numbered Grant) (given : List Row)
+    puts : (db : Trees) (r : NumberedRecord Grant) (given : List Row)
         → given ≡ (Int r.number ∷ Int r.number ∷ Text r.it.person ∷ Text r.it.list ∷ Int r.it.rank ∷ Int from_day ∷ Int until_day ∷ []) ∷ []
-        → edited db (edit_of db grant_table (ids_of given) Given 1 given) ≡ put_row (row_of grant_cells (record r { it = days r.it })) (without_rowid r.number (db 6))
+        → edited db (edit_of db grant_table (ids_of given) Given 1 given) ≡ put_row (numbered_row grant_cells (record r { it = days r.it })) (without_rowid r.number (db 6))
     puts db r given from = rw (from, cast_int r.number, cast_int r.it.rank, cast_int from_day, cast_int until_day)
 
-    changes : {behind : Option Database} (old new : State) (count : ℕ) → IsHeld behind old → Executes change_text change_params old new (Ok count)
-        → ChangesOver behind old new (λ a. record a { grants = map change a.grants })
+    changes : {behind : Option Database} (old new : State) (count : ℕ) → IsOpenArchive behind old → Executes change_text change_params old new (Ok count)
+        → ChangesArchive behind old new (λ a. record a { grants = map change a.grants })
     changes old new count k h =
         let params = change_params in
         let query = plain_query 6 at_key changed_cells [] in
@@ -218,29 +218,30 @@ module _ (person list : List ℕ) (rank : ℤ) where
         let applied = one_step archive_schema _ db written.0 edit (no_action 6 (taken_by db edit) edit.news) written.1 in
         let trees : new.now.trees ≡ written.0 = ap (λ (d : Database). d.trees) now ∙ ap (λ (x : Written). x.trees) (value_is written.2) in
         let rows : new.now.trees 6 ≡ edited db edit = ap (λ (t : Trees). t 6) trees ∙ applied.rows in
-        let found = hits grant_cells grant_read back query params (is_grant person list rank) (has_key person list rank (Int from_day ∷ Int until_day ∷ [])) (db 6) k.tables.grants in
-        let it = updated grant_cells grant_read back (is_grant person list rank) days same_grant (alike person list rank) (db 6) (edited db edit) k.tables.grants k.tables.grants_apart
-        (λ r one. puts db r queried.0 (one_row query params (db 6) queried.0 (row_of grant_cells r) picks (found.0 ∙ ap (map (row_of grant_cells)) one)))
-        (λ none. ap (λ l. edited db (edit_of db grant_table (ids_of l) Given 1 l)) (no_row query params (db 6) queried.0 picks (found.0 ∙ ap (map (row_of grant_cells)) none))) in
+        let found = hits grant_cells grant_from_row back query params (is_grant_of_rank person list rank) (has_key person list rank (Int from_day ∷ Int until_day ∷ [])) (db 6) k.tables.grants in
+        let it = updated grant_cells grant_from_row back (is_grant_of_rank person list rank) days same_grant_key (alike person list rank) (db 6) (edited db edit) k.tables.grants
+        k.tables.grants_distinct
+        (λ r one. puts db r queried.0 (one_row query params (db 6) queried.0 (numbered_row grant_cells r) picks (found.0 ∙ ap (map (numbered_row grant_cells)) one)))
+        (λ none. ap (λ l. edited db (edit_of db grant_table (ids_of l) Given 1 l)) (no_row query params (db 6) queried.0 picks (found.0 ∙ ap (map (numbered_row grant_cells)) none))) in
         let same = subst (SameBut 6 db) (sym trees) (same_but 6 db written.0 applied.tables) in
-        let apart = subst (AreApart same_grant) (sym it.1) (apart_mapped same_grant change keeps (archive_of old).grants k.tables.grants_apart) in
+        let apart = subst (HaveDistinctKeys same_grant_key) (sym it.1) (apart_mapped same_grant_key change keeps (archive_of old).grants k.tables.grants_distinct) in
         let all = grants_change db new.now.trees k.tables same _ rows it.0 apart in
         (kept_by old new k w.shown (ap (λ (d : Database). d.schema) now) all.0, all.1 ∙ ap (λ l. record (archive_of old) { grants = l }) it.1)
 
-    pub tries_to_change : (behind : Option Database) (old new : State) (r : Result ℕ Error) → IsHeld behind old → Executes change_text change_params old new r
-        → MatchResult r (λ _. ChangesOver behind old new (λ a. record a { grants = map change a.grants })) (λ _. RestsOver behind old new)
+    pub tries_to_change : (behind : Option Database) (old new : State) (r : Result ℕ Error) → IsOpenArchive behind old → Executes change_text change_params old new r
+        → MatchResult r (λ _. ChangesArchive behind old new (λ a. record a { grants = map change a.grants })) (λ _. FaultKeepsRowsOrRollsBack behind old new)
     tries_to_change behind old new (Ok count) k h = changes old new count k h
     tries_to_change behind old new (Err e) k h = rests old new k (execute_fails old new change_text change_params e h)
 
   abbrev key_params : Row
   key_params = Text person ∷ Text list ∷ Int rank ∷ []
 
-  drops : (db : Trees) (r : Numbered Grant) (given : List Row) → given ≡ (Int r.number ∷ []) ∷ []
+  drops : (db : Trees) (r : NumberedRecord Grant) (given : List Row) → given ≡ (Int r.number ∷ []) ∷ []
       → edited db (edit_of db grant_table (ids_of given) Given 0 []) ≡ without_rowid r.number (db 6)
   drops db r given from = rw (from)
 
-  removes : {behind : Option Database} (old new : State) (count : ℕ) → IsHeld behind old → Executes remove_text key_params old new (Ok count)
-      → ChangesOver behind old new (λ a. record a { grants = filter (λ g. not (is_grant person list rank g)) a.grants })
+  removes : {behind : Option Database} (old new : State) (count : ℕ) → IsOpenArchive behind old → Executes remove_text key_params old new (Ok count)
+      → ChangesArchive behind old new (λ a. record a { grants = filter (λ g. not (is_grant_of_rank person list rank g)) a.grants })
   removes old new count k h =
       let params = key_params in
       let query = plain_query 6 at_key number_cell [] in
@@ -257,17 +258,18 @@ module _ (person list : List ℕ) (rank : ℤ) where
       let applied = one_step archive_schema _ db written.0 edit (no_action 6 (taken_by db edit) edit.news) written.1 in
       let trees : new.now.trees ≡ written.0 = ap (λ (d : Database). d.trees) now ∙ ap (λ (x : Written). x.trees) (value_is written.2) in
       let rows : new.now.trees 6 ≡ edited db edit = ap (λ (t : Trees). t 6) trees ∙ applied.rows in
-      let found = hits grant_cells grant_read back query params (is_grant person list rank) (has_key person list rank []) (db 6) k.tables.grants in
-      let it = deleted grant_cells grant_read back (is_grant person list rank) same_grant (alike person list rank) (db 6) (edited db edit) k.tables.grants k.tables.grants_apart
-      (λ r one. drops db r queried.0 (one_row query params (db 6) queried.0 (row_of grant_cells r) picks (found.0 ∙ ap (map (row_of grant_cells)) one)))
-      (λ none. ap (λ l. edited db (edit_of db grant_table (ids_of l) Given 0 [])) (no_row query params (db 6) queried.0 picks (found.0 ∙ ap (map (row_of grant_cells)) none))) in
+      let found = hits grant_cells grant_from_row back query params (is_grant_of_rank person list rank) (has_key person list rank []) (db 6) k.tables.grants in
+      let it = deleted grant_cells grant_from_row back (is_grant_of_rank person list rank) same_grant_key (alike person list rank) (db 6) (edited db edit) k.tables.grants k.tables.grants_distinct
+      (λ r one. drops db r queried.0 (one_row query params (db 6) queried.0 (numbered_row grant_cells r) picks (found.0 ∙ ap (map (numbered_row grant_cells)) one)))
+      (λ none. ap (λ l. edited db (edit_of db grant_table (ids_of l) Given 0 [])) (no_row query params (db 6) queried.0 picks (found.0 ∙ ap (map (numbered_row grant_cells)) none))) in
       let same = subst (SameBut 6 db) (sym trees) (same_but 6 db written.0 applied.tables) in
-      let apart = subst (AreApart same_grant) (sym it.1) (apart_filtered same_grant (λ g. not (is_grant person list rank g)) (archive_of old).grants k.tables.grants_apart) in
+      let apart = subst (HaveDistinctKeys same_grant_key) (sym it.1) (apart_filtered same_grant_key (λ g. not (is_grant_of_rank person list rank g)) (archive_of old).grants
+      k.tables.grants_distinct) in
       let all = grants_change db new.now.trees k.tables same _ rows it.0 apart in
       (kept_by old new k w.shown (ap (λ (d : Database). d.schema) now) all.0, all.1 ∙ ap (λ l. record (archive_of old) { grants = l }) it.1)
 
-  pub tries_to_remove : (behind : Option Database) (old new : State) (r : Result ℕ Error) → IsHeld behind old → Executes remove_text key_params old new r
-      → MatchResult r (λ _. ChangesOver behind old new (λ a. record a { grants = filter (λ g. not (is_grant person list rank g)) a.grants })) (λ _. RestsOver behind old new)
+  pub tries_to_remove : (behind : Option Database) (old new : State) (r : Result ℕ Error) → IsOpenArchive behind old → Executes remove_text key_params old new r
+      → MatchResult r (λ _. ChangesArchive behind old new (λ a. record a { grants = filter (λ g. not (is_grant_of_rank person list rank g)) a.grants })) (λ _. FaultKeepsRowsOrRollsBack behind old new)
   tries_to_remove behind old new (Ok count) k h = removes old new count k h
   tries_to_remove behind old new (Err e) k h = rests old new k (execute_fails old new remove_text key_params e h)
 
@@ -319,37 +321,38 @@ both_typed : (person : List ℕ) (list : List ℕ) → accepts_program archive_s
 unfolding everything
 both_typed person list = refl
 
-module _ (old new : State) (person list : List ℕ) {behind : Option Database} (k : IsHeld behind old) where
+module _ (old new : State) (person list : List ℕ) {behind : Option Database} (k : IsOpenArchive behind old) where
   pub of_person : (rows : List Row) → Shown both_text (Text person ∷ Text list ∷ []) old new rows
-      → (rows ≡ map grant_shown (filter (λ g. bytes_eq g.person person && bytes_eq g.list list) (archive_of old).grants)) × StaysOver behind old new
+      → (rows ≡ map grant_result_row (filter (λ g. bytes_eq g.person person && bytes_eq g.list list) (archive_of old).grants)) × LeavesRowsUnchanged behind old new
   of_person rows h =
       let params = Text person ∷ Text list ∷ [] in
       let picks = asked both_text 6 of_both day_cells by_number _ both_is.0 both_plain both_is.1 (λ t. refl) params old new k rows h in (
-        shows 6 of_both day_cells params grant_cells grant_read back (λ g. bytes_eq g.person person && bytes_eq g.list list) (has_both person list) grant_shown
+        shows 6 of_both day_cells params grant_cells grant_from_row back (λ g. bytes_eq g.person person && bytes_eq g.list list) (has_both person list) grant_result_row
             (λ n g. refl) (old.now.trees 6) rows k.tables.grants picks,
         asked_stays both_text 6 of_both day_cells by_number _ both_is.0 both_plain both_is.1 (λ t. refl) params old new k rows h,
       )
 
-  pub not_of_person : (e : Error) → FailsToQuery both_text (Text person ∷ Text list ∷ []) old new e → RestsOver behind old new
+  pub not_of_person : (e : Error) → FailsToQuery both_text (Text person ∷ Text list ∷ []) old new e → FaultKeepsRowsOrRollsBack behind old new
   not_of_person e h = refused_rests both_text 6 of_both day_cells by_number _ both_is.0 both_plain both_is.1 (λ t. refl) (Text person ∷ Text list ∷ []) old new k e h
 
-  pub not_of_person_caused : (e : Error) → FailsToQuery both_text (Text person ∷ Text list ∷ []) old new e → old.step_limit ≡ None → IsCaused old new e
+  pub not_of_person_caused : (e : Error) → FailsToQuery both_text (Text person ∷ Text list ∷ []) old new e → old.step_limit ≡ None → IsMemoryOrDiskError old new e
   not_of_person_caused e h free = question_fails_by both_text 6 of_both day_cells by_number _ both_is.0 both_plain both_is.1 (Text person ∷ Text list ∷ []) both_fit
       (both_typed person list) old new k free e h
 
   module _ (rank : ℤ) where
     pub has : (rows : List Row) → Shown has_text (Text person ∷ Text list ∷ Int rank ∷ []) old new rows
-        → (not (length rows == 0) ≡ list_any (is_grant person list rank) (archive_of old).grants) × StaysOver behind old new
+        → (not (length rows == 0) ≡ list_any (is_grant_of_rank person list rank) (archive_of old).grants) × LeavesRowsUnchanged behind old new
     has rows h =
         let params = Text person ∷ Text list ∷ Int rank ∷ [] in
         let picks = asked has_text 6 at_key rank_cell [] _ has_is.0 has_plain has_is.1 (λ t. refl) params old new k rows h in (
-          any_wanted grant_cells grant_read back (plain_query 6 at_key rank_cell []) params (is_grant person list rank) (has_key person list rank []) (old.now.trees 6) rows k.tables.grants picks,
+          any_wanted grant_cells grant_from_row back (plain_query 6 at_key rank_cell []) params (is_grant_of_rank person list rank) (has_key person list rank []) (old.now.trees 6) rows
+              k.tables.grants picks,
           asked_stays has_text 6 at_key rank_cell [] _ has_is.0 has_plain has_is.1 (λ t. refl) params old new k rows h,
         )
 
-    pub has_not : (e : Error) → FailsToQuery has_text (Text person ∷ Text list ∷ Int rank ∷ []) old new e → RestsOver behind old new
+    pub has_not : (e : Error) → FailsToQuery has_text (Text person ∷ Text list ∷ Int rank ∷ []) old new e → FaultKeepsRowsOrRollsBack behind old new
     has_not e h = refused_rests has_text 6 at_key rank_cell [] _ has_is.0 has_plain has_is.1 (λ t. refl) (Text person ∷ Text list ∷ Int rank ∷ []) old new k e h
 
-    pub has_not_caused : (e : Error) → FailsToQuery has_text (Text person ∷ Text list ∷ Int rank ∷ []) old new e → old.step_limit ≡ None → IsCaused old new e
+    pub has_not_caused : (e : Error) → FailsToQuery has_text (Text person ∷ Text list ∷ Int rank ∷ []) old new e → old.step_limit ≡ None → IsMemoryOrDiskError old new e
     has_not_caused e h free = question_fails_by has_text 6 at_key rank_cell [] _ has_is.0 has_plain has_is.1 (Text person ∷ Text list ∷ Int rank ∷ []) has_fit
         (has_typed person list rank) old new k free e h

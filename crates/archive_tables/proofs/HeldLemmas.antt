@@ -13,9 +13,9 @@ use Rattle.sqlite.specs.State.{State, Executes, ExecutesIn, shows_rows, IsNotRun
 use Rattle.sqlite.proofs.Callers.{IsPlain, command_of, runs_as}
 use Rattle.sqlite_tied.specs.Compute.{everything}
 use Rattle.archive_tables.specs.Schema.{archive_schema}
-use Rattle.archive_tables.specs.Tables.{IsHeld, IsKept}
-use Rattle.archive_tables.specs.Making.{IsBackTo, IsStopped}
-use Rattle.archive_tables.specs.Calls.{StaysOver, RestsOver, Rests, IsBackAt, IsHeldOrBack}
+use Rattle.archive_tables.specs.Tables.{IsOpenArchive, IsArchiveAtRest}
+use Rattle.archive_tables.specs.Making.{IsRolledBackIfOpen, IsRollbackPendingOrDone}
+use Rattle.archive_tables.specs.Calls.{LeavesRowsUnchanged, FaultKeepsRowsOrRollsBack, FaultKeepsRows, IsRolledBackTo, IsOpenArchiveOrRolledBack}
 use Rattle.archive_tables.proofs.RunLemmas.{execute_fails, rests, goes_back, kept_at}
 use Rattle.archive_tables.proofs.MakeLemmas.{begin_text, commit_text, commit_is, commit_plain, rollback_text, undoes}
 
@@ -29,8 +29,8 @@ begin_plain : IsPlain (understood archive_schema begin_text)
 unfolding understood everything
 begin_plain = (refl, refl)
 
-pub begins_over : (old new : State) (r : Result ℕ Error) → IsKept old → Executes begin_text [] old new r
-    → MatchResult r (λ _. StaysOver (Some old.now) old new) (λ _. Rests old new)
+pub begins_over : (old new : State) (r : Result ℕ Error) → IsArchiveAtRest old → Executes begin_text [] old new r
+    → MatchResult r (λ _. LeavesRowsUnchanged (Some old.now) old new) (λ _. FaultKeepsRows old new)
 begins_over old new (Ok count) k h =
     let ran = runs_as begin_text [] old new archive_schema k.schema Begin begin_is begin_plain count h in (
       record {
@@ -47,8 +47,8 @@ begins_over old new (Err e) k h = rests old new k (execute_fails old new begin_t
 
 -- ---- COMMIT
 
-pub commits_over : (db : Database) (old new : State) (r : Result ℕ Error) → IsHeld (Some db) old → Executes commit_text [] old new r
-    → MatchResult r (λ _. StaysOver None old new) (λ _. RestsOver (Some db) old new)
+pub commits_over : (db : Database) (old new : State) (r : Result ℕ Error) → IsOpenArchive (Some db) old → Executes commit_text [] old new r
+    → MatchResult r (λ _. LeavesRowsUnchanged None old new) (λ _. FaultKeepsRowsOrRollsBack (Some db) old new)
 commits_over db old new (Ok count) k h =
     let ran = runs_as commit_text [] old new archive_schema k.schema Commit commit_is commit_plain count h in
     kept_at new old.now ran.1.is_open ran.1.now_is ran.1.committed_is ran.1.mode k.schema k.tables
@@ -93,16 +93,16 @@ ends old new e within (inr ran) =
       ]
     ]
 
-back_is : (db : Database) (old new : State) → IsBackAt db old → IsUnchanged old new ⊎ IsRolledBack old new → IsTrue new.is_open → IsBackAt db new
+back_is : (db : Database) (old new : State) → IsRolledBackTo db old → IsUnchanged old new ⊎ IsRolledBack old new → IsTrue new.is_open → IsRolledBackTo db new
 back_is db old new k how up = let r = rests old new k.0 how up in (r.0, r.1 ∙ k.1)
 
-from_held : (db : Database) (old new : State) (r : Result ℕ Error) → IsHeld (Some db) old → Executes rollback_text [] old new r → IsTrue new.is_open → IsBackAt db new
+from_held : (db : Database) (old new : State) (r : Result ℕ Error) → IsOpenArchive (Some db) old → Executes rollback_text [] old new r → IsTrue new.is_open → IsRolledBackTo db new
 from_held db old new (Ok count) k h up =
     let it = undoes old new count h up in
     kept_at new db up (it.1 ∙ k.settled) (it.2 ∙ k.settled) it.3 k.whole.0 k.whole.1
 from_held db old new (Err e) k h up = goes_back db old new k (ends old new e k.autocommit h) up
 
-from_back : (db : Database) (old new : State) (r : Result ℕ Error) → IsBackAt db old → Executes rollback_text [] old new r → IsTrue new.is_open → IsBackAt db new
+from_back : (db : Database) (old new : State) (r : Result ℕ Error) → IsRolledBackTo db old → Executes rollback_text [] old new r → IsTrue new.is_open → IsRolledBackTo db new
 from_back db old new (Ok count) k h up =
     let it = undoes old new count h up in
     let r = kept_at new old.now up (it.1 ∙ k.0.settled) (it.2 ∙ k.0.settled) it.3 k.0.schema k.0.tables in
@@ -114,7 +114,7 @@ pub was_open : (old new : State) (r : Result ℕ Error) → Executes rollback_te
 was_open old new (Ok count) h up = (undoes old new count h up).0
 was_open old new (Err e) h up = elim (execute_fails old new rollback_text [] e h) [ inl same ↦ same.0.was_open | inr undone ↦ undone.was_open up ]
 
-pub leaves_over : (db : Database) (old new : State) (r : Result ℕ Error) → IsHeldOrBack db old → Executes rollback_text [] old new r → IsTrue new.is_open → IsBackAt db new
+pub leaves_over : (db : Database) (old new : State) (r : Result ℕ Error) → IsOpenArchiveOrRolledBack db old → Executes rollback_text [] old new r → IsTrue new.is_open → IsRolledBackTo db new
 leaves_over db old new r k h up = elim (k (was_open old new r h up)) [
   | inl held ↦ from_held db old new r held h up
   | inr back ↦ from_back db old new r back h up
@@ -122,7 +122,7 @@ leaves_over db old new r k h up = elim (k (was_open old new r h up)) [
 
 -- ---- the same of any database
 
-from_within : (before : Database) (old new : State) (r : Result ℕ Error) → old.committed ≡ before → old.in_transaction ≡ true → Executes rollback_text [] old new r → IsBackTo new before
+from_within : (before : Database) (old new : State) (r : Result ℕ Error) → old.committed ≡ before → old.in_transaction ≡ true → Executes rollback_text [] old new r → IsRolledBackIfOpen new before
 from_within before old new (Ok count) behind within h up =
     let it = undoes old new count h up in
     (it.1 ∙ behind, it.2 ∙ behind, it.3)
@@ -131,7 +131,7 @@ from_within before old new (Err e) behind within h up =
     ((back.undone up).0 ∙ behind, (back.undone up).1 ∙ behind, back.autocommit)
 
 from_outside : (before : Database) (old new : State) (r : Result ℕ Error) → old.committed ≡ before → old.now ≡ before → old.in_transaction ≡ false
-    → Executes rollback_text [] old new r → IsBackTo new before
+    → Executes rollback_text [] old new r → IsRolledBackIfOpen new before
 from_outside before old new (Ok count) behind now mode h up =
     let it = undoes old new count h up in
     (it.1 ∙ behind, it.2 ∙ behind, it.3)
@@ -140,7 +140,7 @@ from_outside before old new (Err e) behind now mode h up = elim (execute_fails o
   | inr undone ↦ ((undone.undone up).0 ∙ behind, (undone.undone up).1 ∙ behind, undone.autocommit)
 ]
 
-pub goes_back_to : (before : Database) (old new : State) (r : Result ℕ Error) → IsStopped old before → Executes rollback_text [] old new r → IsBackTo new before
+pub goes_back_to : (before : Database) (old new : State) (r : Result ℕ Error) → IsRollbackPendingOrDone old before → Executes rollback_text [] old new r → IsRolledBackIfOpen new before
 goes_back_to before old new r stopped h up =
     let k = stopped (was_open old new r h up) in
     elim k.1 [

@@ -1,7 +1,7 @@
 -- Worked examples of what a call does to a connection.
 use Rattle.std.proofs.Common.{inl, inr, true, false, None, refl, arith}
 use Rattle.sqlite.specs.State.{State, HasCleanDisk}
-use Rattle.archive_tables.specs.Calls.{Lasts}
+use Rattle.archive_tables.specs.Calls.{KeepsConnectionUnlessDiskFails}
 
 -- with so many faults of the disk
 abbrev open_at : State → State
@@ -13,7 +13,7 @@ shut_at_4 s = record s { is_open = false; is_clean = true; faults = 4; step_limi
 abbrev shut_at_3 : State → State
 shut_at_3 s = record s { is_open = false; is_clean = true; faults = 3; step_limit = None }
 
-nothing_happens : (s : State) → Lasts (open_at s) (open_at s)
+nothing_happens : (s : State) → KeepsConnectionUnlessDiskFails (open_at s) (open_at s)
 nothing_happens s = record {
   returned = λ clean. clean;
   shut = record { faults = omega arith; stays_open = λ clean up. inl up };
@@ -21,7 +21,7 @@ nothing_happens s = record {
   limit = refl;
 }
 
-a_fault_shuts_it : (s : State) → Lasts (open_at s) (shut_at_4 s)
+a_fault_shuts_it : (s : State) → KeepsConnectionUnlessDiskFails (open_at s) (shut_at_4 s)
 a_fault_shuts_it s = record {
   returned = λ clean. clean;
   shut = record { faults = omega arith; stays_open = λ clean up. inr (omega arith) };
@@ -29,11 +29,11 @@ a_fault_shuts_it s = record {
   limit = refl;
 }
 
-nothing_else_does : (s : State) → HasCleanDisk (shut_at_3 s) → Lasts (open_at s) (shut_at_3 s) → ⊥
+nothing_else_does : (s : State) → HasCleanDisk (shut_at_3 s) → KeepsConnectionUnlessDiskFails (open_at s) (shut_at_3 s) → ⊥
 nothing_else_does s clean lasts = elim (lasts.shut.stays_open clean refl) [ inl up ↦ absurd cc | inr more ↦ absurd (omega (arith, more)) ]
 
-nothing_opens_it : (s : State) → HasCleanDisk (open_at s) → Lasts (shut_at_3 s) (open_at s) → ⊥
+nothing_opens_it : (s : State) → HasCleanDisk (open_at s) → KeepsConnectionUnlessDiskFails (shut_at_3 s) (open_at s) → ⊥
 nothing_opens_it s clean lasts = let up = lasts.stays_shut clean refl in absurd cc
 
-no_fault_is_forgotten : (s : State) → Lasts (shut_at_4 s) (shut_at_3 s) → ⊥
+no_fault_is_forgotten : (s : State) → KeepsConnectionUnlessDiskFails (shut_at_4 s) (shut_at_3 s) → ⊥
 no_fault_is_forgotten s lasts = let few = lasts.shut.faults in absurd (omega (arith, few))

@@ -38,12 +38,12 @@ use Rattle.sqlite_resolve.specs.Compile.{first, with_command, meaning, planned, 
 use Rattle.sqlite_resolve.specs.Compile.{create_index, is_attached, is_reserved, creates, target, on_table, new_rows, returning, timed, small}
 use Rattle.sqlite.specs.Listing.{understood, reads_listing, listing_schema, if_select, is_select}
 use Rattle.sqlite.specs.State.{State, HasCleanDisk, Survives, Runs, IsUnchanged, IsRolledBack, ExecutesIn, Executes, shows_rows, Shown, ShowsRows, FailsToShow, FailsToQuery, IsNotRun}
-use Rattle.archive_tables.specs.Calls.{ShutsByFault, Lasts}
+use Rattle.archive_tables.specs.Calls.{ClosesOnlyByFault, KeepsConnectionUnlessDiskFails}
 use Rattle.archive_tables.proofs.RunLemmas.{execute_fails, value_is}
 
 -- ---- one call after the other
 
-pub shut_then : (a b c : State) → ShutsByFault a b → ShutsByFault b c → (HasCleanDisk c → HasCleanDisk b) → ShutsByFault a c
+pub shut_then : (a b c : State) → ClosesOnlyByFault a b → ClosesOnlyByFault b c → (HasCleanDisk c → HasCleanDisk b) → ClosesOnlyByFault a c
 shut_then a b c p q was = record {
   faults = omega (arith, p.faults, q.faults);
   stays_open = λ clean up. elim (p.stays_open (was clean) up) [
@@ -52,7 +52,7 @@ shut_then a b c p q was = record {
   ];
 }
 
-pub lasts_then : (a b c : State) → Lasts a b → Lasts b c → Lasts a c
+pub lasts_then : (a b c : State) → KeepsConnectionUnlessDiskFails a b → KeepsConnectionUnlessDiskFails b c → KeepsConnectionUnlessDiskFails a c
 lasts_then a b c p q = record {
   returned = λ clean. p.returned (q.returned clean);
   shut = shut_then a b c p.shut q.shut q.returned;
@@ -60,7 +60,7 @@ lasts_then a b c p q = record {
   limit = q.limit ∙ p.limit;
 }
 
-pub lasts_same : (s : State) → Lasts s s
+pub lasts_same : (s : State) → KeepsConnectionUnlessDiskFails s s
 lasts_same s = record {
   returned = λ clean. clean;
   shut = record { faults = omega arith; stays_open = λ clean up. inl up };
@@ -74,7 +74,7 @@ same_or_back : (old new : State) → IsUnchanged old new ⊎ IsRolledBack old ne
 same_or_back old new (inl same) up = same.0.was_open
 same_or_back old new (inr undone) up = undone.was_open up
 
-survives_lasts : (old new : State) (P : Trees → Type 0) → Survives old new P → (HasCleanDisk new → IsTrue new.is_open → IsTrue old.is_open) → Lasts old new
+survives_lasts : (old new : State) (P : Trees → Type 0) → Survives old new P → (HasCleanDisk new → IsTrue new.is_open → IsTrue old.is_open) → KeepsConnectionUnlessDiskFails old new
 survives_lasts old new P s shut = record {
   returned = λ clean. omega (arith, s.clean, clean);
   shut = record { faults = s.counts; stays_open = s.closes };
@@ -265,7 +265,7 @@ module _ (old new : State) (sql : List ℕ) (params : Row) where
   executes_up (Ok count) h up = (ran count h).3 up
   executes_up (Err e) h up = same_or_back old new (execute_fails old new sql params e h) up
 
-  pub execute_lasts : (P : Trees → Type 0) (r : Result ℕ Error) → Survives old new P → (HasCleanDisk new → Executes sql params old new r) → Lasts old new
+  pub execute_lasts : (P : Trees → Type 0) (r : Result ℕ Error) → Survives old new P → (HasCleanDisk new → Executes sql params old new r) → KeepsConnectionUnlessDiskFails old new
   execute_lasts P r s runs = survives_lasts old new P s (λ clean up. executes_up r (runs clean) up)
 
   pub execute_open : (r : Result ℕ Error) → IsOurText (first sql) → Executes sql params old new r → OnOk r (IsTrue old.is_open)
@@ -300,7 +300,7 @@ module _ (old new : State) (sql : List ℕ) (params : Row) where
   query_up (Err e) ok err up = query_fails_up e err up
 
   pub query_lasts : (P : Trees → Type 0) (r : Result (Vec Row Global) Error) → Survives old new P → (HasCleanDisk new → IfOk r (λ rows. Shown sql params old new rows.items))
-      → (HasCleanDisk new → IfErr r (FailsToQuery sql params old new)) → Lasts old new
+      → (HasCleanDisk new → IfErr r (FailsToQuery sql params old new)) → KeepsConnectionUnlessDiskFails old new
   query_lasts P r s ok err = survives_lasts old new P s (λ clean up. query_up r (ok clean) (err clean) up)
 
   pub query_open : (r : Result (Vec Row Global) Error) → IfOk r (λ rows. Shown sql params old new rows.items) → OnOk r (IsTrue old.is_open)

@@ -26,8 +26,8 @@ use Rattle.sqlite_sql.specs.declared.ops.BinaryOp.TheVariants.{Compare}
 use Rattle.sqlite_sql.specs.declared.ops.CompareOp.TheVariants.{Eq}
 use Rattle.sqlite_value.proofs.OrderLemmas.{value_cmp-Text}
 use Rattle.archive_tables.specs.Schema.{archive_schema, list_table}
-use Rattle.archive_tables.specs.Tables.{IsHeld, Numbered, row_of, list_cells, list_read, archive_of}
-use Rattle.archive_tables.specs.Calls.{ChangesOver, RestsOver, StaysOver, IsCaused}
+use Rattle.archive_tables.specs.Tables.{IsOpenArchive, NumberedRecord, numbered_row, list_cells, list_from_row, archive_of}
+use Rattle.archive_tables.specs.Calls.{ChangesArchive, FaultKeepsRowsOrRollsBack, LeavesRowsUnchanged, IsMemoryOrDiskError}
 use Rattle.archive_tables.proofs.RunLemmas.{passed, value_is, no_action, cast_null, kept_by, rests, execute_fails}
 use Rattle.archive_tables.proofs.RowLemmas.{put_past}
 use Rattle.archive_tables.proofs.TableLemmas.{SameBut, same_but, lists_change}
@@ -51,15 +51,15 @@ add_plain : IsPlain (understood archive_schema add_text)
 unfolding understood everything
 add_plain = (refl, refl)
 
-abbrev fresh : Trees → List ℕ → Numbered (List ℕ)
+abbrev fresh : Trees → List ℕ → NumberedRecord (List ℕ)
 fresh db name = record { number = next_rowid (db 1); it = name }
 
 puts : (db : Trees) (name : List ℕ) (given : List Row) → given ≡ (Null ∷ Text name ∷ []) ∷ []
-    → edited db (edit_of db list_table [] Chosen 0 given) ≡ put_row (row_of list_cells (fresh db name)) (db 1)
+    → edited db (edit_of db list_table [] Chosen 0 given) ≡ put_row (numbered_row list_cells (fresh db name)) (db 1)
 puts db name given from = rw (from, cast_null)
 
-adds : {behind : Option Database} (old new : State) (name : List ℕ) (count : ℕ) → IsHeld behind old → Executes add_text (Text name ∷ []) old new (Ok count)
-    → ChangesOver behind old new (λ a. record a { lists = a.lists ++ name ∷ [] })
+adds : {behind : Option Database} (old new : State) (name : List ℕ) (count : ℕ) → IsOpenArchive behind old → Executes add_text (Text name ∷ []) old new (Ok count)
+    → ChangesArchive behind old new (λ a. record a { lists = a.lists ++ name ∷ [] })
 adds old new name count k h =
     let params = Text name ∷ [] in
     let db = old.now.trees in
@@ -75,14 +75,14 @@ adds old new name count k h =
     let applied = one_step archive_schema _ db written.0 edit (no_action 1 (taken_by db edit) edit.news) written.1 in
     let trees : new.now.trees ≡ written.0 =
     ap (λ (d : Database). d.trees) now ∙ ap (λ (it : Written). it.trees) (value_is counted.2) ∙ value_is counted.1 in
-    let put = put_past list_cells list_read (λ n r. refl) (db 1) (fresh db name) (inl refl) k.tables.lists in
-    let rows : new.now.trees 1 ≡ put_row (row_of list_cells (fresh db name)) (db 1) = ap (λ (t : Trees). t 1) trees ∙ applied.rows ∙ puts db name given.0 given.1.1 in
+    let put = put_past list_cells list_from_row (λ n r. refl) (db 1) (fresh db name) (inl refl) k.tables.lists in
+    let rows : new.now.trees 1 ≡ put_row (numbered_row list_cells (fresh db name)) (db 1) = ap (λ (t : Trees). t 1) trees ∙ applied.rows ∙ puts db name given.0 given.1.1 in
     let same = subst (SameBut 1 db) (sym trees) (same_but 1 db written.0 applied.tables) in
     let it = lists_change db new.now.trees k.tables same _ rows put.0 in
     (kept_by old new k w.shown (ap (λ (d : Database). d.schema) now) it.0, it.1 ∙ ap (λ l. record (archive_of old) { lists = l }) put.1)
 
-pub tries_to_add : (behind : Option Database) (old new : State) (name : List ℕ) (r : Result ℕ Error) → IsHeld behind old → Executes add_text (Text name ∷ []) old new r
-    → MatchResult r (λ _. ChangesOver behind old new (λ a. record a { lists = a.lists ++ name ∷ [] })) (λ _. RestsOver behind old new)
+pub tries_to_add : (behind : Option Database) (old new : State) (name : List ℕ) (r : Result ℕ Error) → IsOpenArchive behind old → Executes add_text (Text name ∷ []) old new r
+    → MatchResult r (λ _. ChangesArchive behind old new (λ a. record a { lists = a.lists ++ name ∷ [] })) (λ _. FaultKeepsRowsOrRollsBack behind old new)
 tries_to_add behind old new name (Ok count) k h = adds old new name count k h
 tries_to_add behind old new name (Err e) k h = rests old new k (execute_fails old new add_text (Text name ∷ []) e h)
 
@@ -118,18 +118,18 @@ is_named : (name : List ℕ) (n : ℤ) (it : List ℕ) → passes has_name (Text
 unfolding binary
 is_named name n it = alone _ ∙ truth_back _ ∙ ap is_eq (value_cmp-Text it name) ∙ is_eq-slice_cmp it name
 
-module _ (old new : State) (name : List ℕ) {behind : Option Database} (k : IsHeld behind old) where
+module _ (old new : State) (name : List ℕ) {behind : Option Database} (k : IsOpenArchive behind old) where
   pub has : (rows : List Row) → Shown has_text (Text name ∷ []) old new rows
-      → (not (length rows == 0) ≡ list_any (λ n. bytes_eq n name) (archive_of old).lists) × StaysOver behind old new
+      → (not (length rows == 0) ≡ list_any (λ n. bytes_eq n name) (archive_of old).lists) × LeavesRowsUnchanged behind old new
   has rows h =
       let q = plain_query 1 has_name name_shown [] in
       let picks = asked has_text 1 has_name name_shown [] _ has_is.0 has_plain has_is.1 (λ t. refl) (Text name ∷ []) old new k rows h in (
-        any_wanted list_cells list_read (λ n r. refl) q (Text name ∷ []) (λ it. bytes_eq it name) (is_named name) (old.now.trees 1) rows k.tables.lists picks,
+        any_wanted list_cells list_from_row (λ n r. refl) q (Text name ∷ []) (λ it. bytes_eq it name) (is_named name) (old.now.trees 1) rows k.tables.lists picks,
         asked_stays has_text 1 has_name name_shown [] _ has_is.0 has_plain has_is.1 (λ t. refl) (Text name ∷ []) old new k rows h,
       )
 
-  pub has_not : (e : Error) → FailsToQuery has_text (Text name ∷ []) old new e → RestsOver behind old new
+  pub has_not : (e : Error) → FailsToQuery has_text (Text name ∷ []) old new e → FaultKeepsRowsOrRollsBack behind old new
   has_not e h = refused_rests has_text 1 has_name name_shown [] _ has_is.0 has_plain has_is.1 (λ t. refl) (Text name ∷ []) old new k e h
 
-  pub has_not_caused : (e : Error) → FailsToQuery has_text (Text name ∷ []) old new e → old.step_limit ≡ None → IsCaused old new e
+  pub has_not_caused : (e : Error) → FailsToQuery has_text (Text name ∷ []) old new e → old.step_limit ≡ None → IsMemoryOrDiskError old new e
   has_not_caused e h free = question_fails_by has_text 1 has_name name_shown [] _ has_is.0 has_plain has_is.1 (Text name ∷ []) has_fit (has_typed name) old new k free e h

@@ -29,13 +29,13 @@ use Rattle.sqlite_trees.proofs.ListLemmas.{map-map, all_weaker}
 use Rattle.sqlite_value.specs.declared.keys.Key.{Key}
 use Rattle.sqlite_value.specs.Keys.{ascending}
 use Rattle.sqlite_value.proofs.OrderLemmas.{value_cmp-Text}
-use Rattle.archive_machine.specs.Filing.{Filed, filed}
-use Rattle.archive_machine.specs.Damage.{with_listed, by_list}
+use Rattle.archive_model.specs.Filing.{IndexedMessage, indexed_messages}
+use Rattle.archive_model.specs.Damage.{insert_by_list_name, sort_by_list_name}
 use Rattle.archive_tables.specs.Schema.{archive_schema}
-use Rattle.archive_tables.specs.Tables.{IsHeld, AreTables, Numbered, row_of, filed_cells, filed_read, archive_in}
-use Rattle.archive_tables.specs.Rows.{numbered_filed, place_shown}
-use Rattle.archive_tables.specs.Listed.{was_listed_before, with_listed_row, rows_by_list, all_places, filed_at, filed_shown}
-use Rattle.archive_tables.specs.Calls.{RestsOver, StaysOver, IsCaused}
+use Rattle.archive_tables.specs.Tables.{IsOpenArchive, AreArchiveTables, NumberedRecord, numbered_row, indexed_message_cells, indexed_message_from_row, archive_in_trees}
+use Rattle.archive_tables.specs.Rows.{numbered_indexed_messages, rowid_result_row}
+use Rattle.archive_tables.specs.Listed.{was_listed_before, with_listed_row, rows_by_list, all_places, filed_at, indexed_result_row}
+use Rattle.archive_tables.specs.Calls.{FaultKeepsRowsOrRollsBack, LeavesRowsUnchanged, IsMemoryOrDiskError}
 use Rattle.archive_tables.proofs.MessageLemmas.{filed_back, filed_are}
 use Rattle.archive_tables.proofs.OrderLemmas.{one_order}
 use Rattle.archive_tables.proofs.RowLemmas.{records_are}
@@ -46,18 +46,19 @@ use Rattle.sqlite_typing.specs.Types.{accepts_program}
 
 -- ---- rows in the order of the lists' names
 
-all_with_listed : (P : Numbered Filed → Type 0) (r : Numbered Filed) (rows : List (Numbered Filed)) → P r → AllByRecursion P rows → AllByRecursion P (with_listed_row r rows)
+all_with_listed : (P : NumberedRecord IndexedMessage → Type 0) (r : NumberedRecord IndexedMessage) (rows : List (NumberedRecord IndexedMessage)) → P r → AllByRecursion P rows
+    → AllByRecursion P (with_listed_row r rows)
 all_with_listed P r [] one all = (one, tt)
 all_with_listed P r (s ∷ rows) one all = elim (cases_Bool (was_listed_before s r)) [
   | inl before ↦ rw before (all.0, all_with_listed P r rows one all.1)
   | inr after ↦ rw after (one, all)
 ]
 
-all_by_list : (P : Numbered Filed → Type 0) (rows : List (Numbered Filed)) → AllByRecursion P rows → AllByRecursion P (rows_by_list rows)
+all_by_list : (P : NumberedRecord IndexedMessage → Type 0) (rows : List (NumberedRecord IndexedMessage)) → AllByRecursion P rows → AllByRecursion P (rows_by_list rows)
 all_by_list P [] all = tt
 all_by_list P (r ∷ rows) all = all_with_listed P r (rows_by_list rows) all.0 (all_by_list P rows all.1)
 
-more_same : (r : Numbered Filed) (rows : List (Numbered Filed)) → IsPermutation (r ∷ rows) (with_listed_row r rows)
+more_same : (r : NumberedRecord IndexedMessage) (rows : List (NumberedRecord IndexedMessage)) → IsPermutation (r ∷ rows) (with_listed_row r rows)
 more_same r [] = IsPermutation-refl (r ∷ [])
 more_same r (s ∷ rows) = elim (cases_Bool (was_listed_before s r)) [
   | inl before ↦ rw before (IsPermutation-trans (r ∷ s ∷ rows) (s ∷ r ∷ rows) (s ∷ with_listed_row r rows) (IsPermutation-middle (r ∷ []) s rows)
@@ -65,24 +66,25 @@ more_same r (s ∷ rows) = elim (cases_Bool (was_listed_before s r)) [
   | inr after ↦ rw after (IsPermutation-refl (r ∷ s ∷ rows))
 ]
 
-same_rows : (rows : List (Numbered Filed)) → IsPermutation rows (rows_by_list rows)
+same_rows : (rows : List (NumberedRecord IndexedMessage)) → IsPermutation rows (rows_by_list rows)
 same_rows [] = IsPermutation-refl []
 same_rows (r ∷ rows) =
     IsPermutation-trans (r ∷ rows) (r ∷ rows_by_list rows) (with_listed_row r (rows_by_list rows))
     (IsPermutation-cons r rows (rows_by_list rows) (same_rows rows)) (more_same r (rows_by_list rows))
 
 -- what is filed is in the order of its lists' names
-its_with : (r : Numbered Filed) (rows : List (Numbered Filed))
-    → map (λ (s : Numbered Filed). s.it) (with_listed_row r rows) ≡ with_listed r.it (map (λ (s : Numbered Filed). s.it) rows)
+its_with : (r : NumberedRecord IndexedMessage) (rows : List (NumberedRecord IndexedMessage))
+    → map (λ (s : NumberedRecord IndexedMessage). s.it) (with_listed_row r rows) ≡ insert_by_list_name r.it (map (λ (s : NumberedRecord IndexedMessage). s.it) rows)
 its_with r [] = refl
 its_with r (s ∷ rows) = elim (cases_Bool (was_listed_before s r)) [
   | inl before ↦ rw before (ap (λ l. s.it ∷ l) (its_with r rows))
   | inr after ↦ rw after refl
 ]
 
-its_by_list : (rows : List (Numbered Filed)) → map (λ (s : Numbered Filed). s.it) (rows_by_list rows) ≡ by_list (map (λ (s : Numbered Filed). s.it) rows)
+its_by_list : (rows : List (NumberedRecord IndexedMessage)) → map (λ (s : NumberedRecord IndexedMessage). s.it) (rows_by_list rows) ≡ sort_by_list_name
+    (map (λ (s : NumberedRecord IndexedMessage). s.it) rows)
 its_by_list [] = refl
-its_by_list (r ∷ rows) = its_with r (rows_by_list rows) ∙ ap (with_listed r.it) (its_by_list rows)
+its_by_list (r ∷ rows) = its_with r (rows_by_list rows) ∙ ap (insert_by_list_name r.it) (its_by_list rows)
 
 -- ---- the query by this order
 
@@ -114,23 +116,23 @@ places_typed : accepts_program archive_schema [] (plain_query 8 [] number_cell l
 unfolding everything
 places_typed = refl
 
-abbrev out : Numbered Filed → Output
-out r = output query (env_of [] (row_of filed_cells r))
+abbrev out : NumberedRecord IndexedMessage → Output
+out r = output query (env_of [] (numbered_row indexed_message_cells r))
 
-abbrev IsBefore : Numbered Filed → Numbered Filed → Type 0
+abbrev IsBefore : NumberedRecord IndexedMessage → NumberedRecord IndexedMessage → Type 0
 IsBefore r s = output_cmp query (out r) (out s) ≡ Less
 
-abbrev IsLower : Numbered Filed → Numbered Filed → Type 0
+abbrev IsLower : NumberedRecord IndexedMessage → NumberedRecord IndexedMessage → Type 0
 IsLower r s = value_cmp (Int r.number) (Int s.number) ≡ Less
 
 abbrev order : List ℕ → List ℕ → Ordering
 order = slice_cmp nat_cmp
 
-by_both : (r s : Numbered Filed) → output_cmp query (out r) (out s)
+by_both : (r s : NumberedRecord IndexedMessage) → output_cmp query (out r) (out s)
     ≡ ordering_then (order r.it.0.list s.it.0.list) (ordering_then (value_cmp (Int r.number) (Int s.number)) Equal)
 by_both r s = ap (λ o. ordering_then o (ordering_then (value_cmp (Int r.number) (Int s.number)) Equal)) (value_cmp-Text r.it.0.list s.it.0.list)
 
-list_first : (r s : Numbered Filed) → was_listed_before r s ≡ true → IsBefore r s
+list_first : (r s : NumberedRecord IndexedMessage) → was_listed_before r s ≡ true → IsBefore r s
 list_first r s first = by_both r s ∙ earlier (order r.it.0.list s.it.0.list) (ordering_then (value_cmp (Int r.number) (Int s.number)) Equal) first
   where
     earlier : (o n : Ordering) → is_lt o ≡ true → ordering_then o n ≡ Less
@@ -138,7 +140,7 @@ list_first r s first = by_both r s ∙ earlier (order r.it.0.list s.it.0.list) (
     earlier Equal n e = absurd cc
     earlier Greater n e = absurd cc
 
-or_lower : (r s : Numbered Filed) → was_listed_before s r ≡ false → IsLower r s → IsBefore r s
+or_lower : (r s : NumberedRecord IndexedMessage) → was_listed_before s r ≡ false → IsLower r s → IsBefore r s
 or_lower r s not_first lower =
     by_both r s ∙ later (order s.it.0.list r.it.0.list) (order r.it.0.list s.it.0.list) (value_cmp (Int r.number) (Int s.number))
     (nat_list_cmp_total.antisymm r.it.0.list s.it.0.list) not_first lower
@@ -148,11 +150,11 @@ or_lower r s not_first lower =
     later Equal o n e not_less l = rw (e, l) refl
     later Greater o n e not_less l = rw e refl
 
-abbrev Rises : List (Numbered Filed) → Type 0
+abbrev Rises : List (NumberedRecord IndexedMessage) → Type 0
 Rises [] = Unit {0}
 Rises (r ∷ rows) = AllByRecursion (IsBefore r) rows × Rises rows
 
-rises_with : (r : Numbered Filed) (rows : List (Numbered Filed)) → AllByRecursion (IsLower r) rows → Rises rows → Rises (with_listed_row r rows)
+rises_with : (r : NumberedRecord IndexedMessage) (rows : List (NumberedRecord IndexedMessage)) → AllByRecursion (IsLower r) rows → Rises rows → Rises (with_listed_row r rows)
 rises_with r [] lower up = (tt, tt)
 rises_with r (s ∷ rows) lower up = elim (cases_Bool (was_listed_before s r)) [
   | inl before ↦ rw before (all_with_listed (IsBefore s) r rows (list_first s r before) up.0, rises_with r rows lower.1 up.1)
@@ -161,59 +163,62 @@ rises_with r (s ∷ rows) lower up = elim (cases_Bool (was_listed_before s r)) [
       rw after ((first, all_weaker (IsBefore s) (IsBefore r) (λ x later. (output_cmp_total query).trans (out r) (out s) (out x) first later) rows up.0), up)
 ]
 
-all_lower : (r : Numbered Filed) (rows : List (Numbered Filed)) → AllByRecursion (λ row. value_cmp (Int r.number) (rowid row) ≡ Less) (map (row_of filed_cells) rows)
+all_lower : (r : NumberedRecord IndexedMessage) (rows : List (NumberedRecord IndexedMessage))
+    → AllByRecursion (λ row. value_cmp (Int r.number) (rowid row) ≡ Less) (map (numbered_row indexed_message_cells) rows)
     → AllByRecursion (IsLower r) rows
 all_lower r [] all = tt
 all_lower r (s ∷ rows) all = (all.0, all_lower r rows all.1)
 
-rises_by_list : (rows : List (Numbered Filed)) → IsTable (map (row_of filed_cells) rows) → Rises (rows_by_list rows)
+rises_by_list : (rows : List (NumberedRecord IndexedMessage)) → IsTable (map (numbered_row indexed_message_cells) rows) → Rises (rows_by_list rows)
 rises_by_list [] up = tt
 rises_by_list (r ∷ rows) up = rises_with r (rows_by_list rows) (all_by_list (IsLower r) rows (all_lower r rows up.0)) (rises_by_list rows up.1)
 
-all_out : (r : Numbered Filed) (rows : List (Numbered Filed)) → AllByRecursion (IsBefore r) rows → AllByRecursion (λ o. output_cmp query (out r) o ≡ Less) (map out rows)
+all_out : (r : NumberedRecord IndexedMessage) (rows : List (NumberedRecord IndexedMessage)) → AllByRecursion (IsBefore r) rows → AllByRecursion (λ o. output_cmp query (out r) o ≡ Less) (map out rows)
 all_out r [] all = tt
 all_out r (s ∷ rows) all = (all.0, all_out r rows all.1)
 
-strictly : (rows : List (Numbered Filed)) → Rises rows → IsStrictlySortedBy (output_cmp query) (map out rows)
+strictly : (rows : List (NumberedRecord IndexedMessage)) → Rises rows → IsStrictlySortedBy (output_cmp query) (map out rows)
 unfolding IsStrictlySortedBy
 strictly [] up = tt
 strictly (r ∷ rows) up = (all_out r rows up.0, strictly rows up.1)
 
-numbers_shown : (rows : List (Numbered Filed)) → map (λ (o : Output). o.1) (map out rows) ≡ map place_shown (map (λ (r : Numbered Filed). r.number) rows)
+numbers_shown : (rows : List (NumberedRecord IndexedMessage)) → map (λ (o : Output). o.1) (map out rows) ≡ map rowid_result_row (map (λ (r : NumberedRecord IndexedMessage). r.number) rows)
 numbers_shown [] = refl
-numbers_shown (r ∷ rows) = ap (λ l. place_shown r.number ∷ l) (numbers_shown rows)
+numbers_shown (r ∷ rows) = ap (λ l. rowid_result_row r.number ∷ l) (numbers_shown rows)
 
-outs : (rows : List (Numbered Filed)) → map (λ row. output query (env_of [] row)) (map (row_of filed_cells) rows) ≡ map out rows
+outs : (rows : List (NumberedRecord IndexedMessage)) → map (λ row. output query (env_of [] row)) (map (numbered_row indexed_message_cells) rows) ≡ map out rows
 outs [] = refl
 outs (r ∷ rows) = ap (λ l. out r ∷ l) (outs rows)
 
-picked_places : (trees : Trees) → AreTables trees → (shown : List Row) → Picks query [] (trees 8) shown → shown ≡ map place_shown (all_places trees)
+picked_places : (trees : Trees) → AreArchiveTables trees → (shown : List Row) → Picks query [] (trees 8) shown → shown ≡ map rowid_result_row (all_places trees)
 picked_places trees k shown it =
-    let all = numbered_filed trees in
+    let all = numbered_indexed_messages trees in
     let start : map (λ row. output query (env_of [] row)) (filter (passes [] []) (trees 8)) ≡ map out all =
-    ap (map (λ row. output query (env_of [] row))) (all_pass [] (trees 8) ∙ k.messages.coded) ∙ outs all in
+    ap (map (λ row. output query (env_of [] row))) (all_pass [] (trees 8) ∙ k.messages.round_trips) ∙ outs all in
     let there = IsPermutation-trans (map out (rows_by_list all)) (map out all) it.ordered
     (IsPermutation-sym (map out all) (map out (rows_by_list all)) (IsPermutation-map out all (rows_by_list all) (same_rows all)))
     (subst (λ l. IsPermutation l it.ordered) start it.same) in
-    let rises = rises_by_list all (subst IsTable k.messages.coded k.messages.rise) in
+    let rises = rises_by_list all (subst IsTable k.messages.round_trips k.messages.rise) in
     let order = one_order (output_cmp_total query) (map out (rows_by_list all)) it.ordered (strictly (rows_by_list all) rises) there it.sorted in
     it.is ∙ ap (map (λ (o : Output). o.1)) order ∙ numbers_shown (rows_by_list all)
 
 -- ---- the law: a walk over these numbers shows all messages
 
-filed_of : (all wanted : List (Numbered Filed)) → AllByRecursion (λ r. finds all r ≡ Some r) wanted
-    → map (λ place. option_map (λ (r : Numbered Filed). r.it) (find (λ (r : Numbered Filed). int_eq r.number place) all)) (map (λ (r : Numbered Filed). r.number) wanted)
-    ≡ map (λ (r : Numbered Filed). Some r.it) wanted
+filed_of : (all wanted : List (NumberedRecord IndexedMessage)) → AllByRecursion (λ r. finds all r ≡ Some r) wanted
+    → map (λ place. option_map (λ (r : NumberedRecord IndexedMessage). r.it) (find (λ (r : NumberedRecord IndexedMessage). int_eq r.number place) all))
+    (map (λ (r : NumberedRecord IndexedMessage). r.number) wanted)
+    ≡ map (λ (r : NumberedRecord IndexedMessage). Some r.it) wanted
 filed_of all [] h = refl
-filed_of all (r ∷ wanted) h = ap₂ ◌∷◌ (ap (option_map (λ (r : Numbered Filed). r.it)) h.0) (filed_of all wanted h.1)
+filed_of all (r ∷ wanted) h = ap₂ ◌∷◌ (ap (option_map (λ (r : NumberedRecord IndexedMessage). r.it)) h.0) (filed_of all wanted h.1)
 
-pub walked_all : (trees : Trees) → AreTables trees → map (filed_at trees) (all_places trees) ≡ map Some (by_list (filed (archive_in trees)))
+pub walked_all : (trees : Trees) → AreArchiveTables trees → map (filed_at trees) (all_places trees) ≡ map Some (sort_by_list_name (indexed_messages (archive_in_trees trees)))
 walked_all trees k =
-    let all = numbered_filed trees in
-    let found = all_by_list (λ r. finds all r ≡ Some r) all (each_found all (subst IsTable k.messages.coded k.messages.rise)) in
-    let its : map (λ (r : Numbered Filed). r.it) all ≡ filed (archive_in trees) = sym (records_are filed_cells filed_read filed_back (trees 8) k.messages) ∙ sym (filed_are (trees 8)) in
-    filed_of all (rows_by_list all) found ∙ sym (map-map (λ (f : Filed). Some f) (λ (r : Numbered Filed). r.it) (rows_by_list all))
-    ∙ ap (map Some) (its_by_list all ∙ ap by_list its)
+    let all = numbered_indexed_messages trees in
+    let found = all_by_list (λ r. finds all r ≡ Some r) all (each_found all (subst IsTable k.messages.round_trips k.messages.rise)) in
+    let its : map (λ (r : NumberedRecord IndexedMessage). r.it) all ≡ indexed_messages (archive_in_trees trees) = sym
+    (records_are indexed_message_cells indexed_message_from_row filed_back (trees 8) k.messages) ∙ sym (filed_are (trees 8)) in
+    filed_of all (rows_by_list all) found ∙ sym (map-map (λ (f : IndexedMessage). Some f) (λ (r : NumberedRecord IndexedMessage). r.it) (rows_by_list all))
+    ∙ ap (map Some) (its_by_list all ∙ ap sort_by_list_name its)
 
 -- ---- the message of a number
 
@@ -246,65 +251,67 @@ unfolding everything
 filed_typed place = refl
 
 module _ (place : ℤ) where
-  abbrev is_at : Numbered Filed → Bool
+  abbrev is_at : NumberedRecord IndexedMessage → Bool
   is_at r = int_eq r.number place
 
-  has_place : (r : Numbered Filed) → passes at_place (Int place ∷ []) (row_of filed_cells r) ≡ is_at r
+  has_place : (r : NumberedRecord IndexedMessage) → passes at_place (Int place ∷ []) (numbered_row indexed_message_cells r) ≡ is_at r
   has_place r = alone _ ∙ int_is r.number place
 
-  passing : (all : List (Numbered Filed)) → filter (passes at_place (Int place ∷ [])) (map (row_of filed_cells) all) ≡ map (row_of filed_cells) (filter is_at all)
+  passing : (all : List (NumberedRecord IndexedMessage)) → filter (passes at_place (Int place ∷ [])) (map (numbered_row indexed_message_cells) all) ≡ map (numbered_row indexed_message_cells)
+      (filter is_at all)
   passing [] = refl
   passing (r ∷ all) =
-      rw (has_place r) (elim (is_at r) as (λ b. cond b (row_of filed_cells r ∷ filter (passes at_place (Int place ∷ [])) (map (row_of filed_cells) all))
-      (filter (passes at_place (Int place ∷ [])) (map (row_of filed_cells) all))
-      ≡ map (row_of filed_cells) (cond b (r ∷ filter is_at all) (filter is_at all)))
-      [ true ↦ ap (λ l. row_of filed_cells r ∷ l) (passing all) | false ↦ passing all ])
+      rw (has_place r) (elim (is_at r) as (λ b. cond b (numbered_row indexed_message_cells r ∷ filter (passes at_place (Int place ∷ [])) (map (numbered_row indexed_message_cells) all))
+      (filter (passes at_place (Int place ∷ [])) (map (numbered_row indexed_message_cells) all))
+      ≡ map (numbered_row indexed_message_cells) (cond b (r ∷ filter is_at all) (filter is_at all)))
+      [ true ↦ ap (λ l. numbered_row indexed_message_cells r ∷ l) (passing all) | false ↦ passing all ])
 
   -- what the query shows of a row
   abbrev cells_of : Row → Row
   cells_of row = (output (plain_query 8 at_place cells by_number) (env_of (Int place ∷ []) row)).1
 
-  shown_cells : (all : List (Numbered Filed)) → map cells_of (map (row_of filed_cells) all) ≡ map (λ (r : Numbered Filed). filed_shown r.it) all
+  shown_cells : (all : List (NumberedRecord IndexedMessage)) → map cells_of (map (numbered_row indexed_message_cells) all) ≡ map (λ (r : NumberedRecord IndexedMessage). indexed_result_row r.it) all
   shown_cells [] = refl
-  shown_cells (r ∷ all) = ap (λ l. filed_shown r.it ∷ l) (shown_cells all)
+  shown_cells (r ∷ all) = ap (λ l. indexed_result_row r.it ∷ l) (shown_cells all)
 
-  first_shown : (all : List (Numbered Filed)) → slice_get (map (λ (r : Numbered Filed). filed_shown r.it) all) 0 ≡ option_map filed_shown (option_map (λ (r : Numbered Filed). r.it) (slice_get all 0))
+  first_shown : (all : List (NumberedRecord IndexedMessage)) → slice_get (map (λ (r : NumberedRecord IndexedMessage). indexed_result_row r.it) all) 0 ≡ option_map indexed_result_row
+      (option_map (λ (r : NumberedRecord IndexedMessage). r.it) (slice_get all 0))
   first_shown [] = refl
   first_shown (r ∷ all) = refl
 
-  first_is : (all : List (Numbered Filed)) (rows : List Row) → rows ≡ map (λ (r : Numbered Filed). filed_shown r.it) (filter is_at all)
-      → slice_get rows 0 ≡ option_map filed_shown (option_map (λ (r : Numbered Filed). r.it) (find is_at all))
+  first_is : (all : List (NumberedRecord IndexedMessage)) (rows : List Row) → rows ≡ map (λ (r : NumberedRecord IndexedMessage). indexed_result_row r.it) (filter is_at all)
+      → slice_get rows 0 ≡ option_map indexed_result_row (option_map (λ (r : NumberedRecord IndexedMessage). r.it) (find is_at all))
   first_is all rows are =
-      ap (λ l. slice_get l 0) are ∙ first_shown (filter is_at all) ∙ ap (λ o. option_map filed_shown (option_map (λ (r : Numbered Filed). r.it) o)) (first_kept is_at all)
+      ap (λ l. slice_get l 0) are ∙ first_shown (filter is_at all) ∙ ap (λ o. option_map indexed_result_row (option_map (λ (r : NumberedRecord IndexedMessage). r.it) o)) (first_kept is_at all)
 
 -- ---- what the texts show
 
-module _ (old new : State) {behind : Option Database} (k : IsHeld behind old) where
-  pub all_found : (rows : List Row) → Shown places_text [] old new rows → (rows ≡ map place_shown (all_places old.now.trees)) × StaysOver behind old new
+module _ (old new : State) {behind : Option Database} (k : IsOpenArchive behind old) where
+  pub all_found : (rows : List Row) → Shown places_text [] old new rows → (rows ≡ map rowid_result_row (all_places old.now.trees)) × LeavesRowsUnchanged behind old new
   all_found rows h =
       let picks = asked places_text 8 [] number_cell list_then_number _ places_is.0 places_plain places_is.1 (λ t. refl) [] old new k rows h in
       let same = asked_stays places_text 8 [] number_cell list_then_number _ places_is.0 places_plain places_is.1 (λ t. refl) [] old new k rows h in
       (picked_places old.now.trees k.tables rows picks, same)
 
-  pub none_found : (e : Error) → FailsToQuery places_text [] old new e → RestsOver behind old new
+  pub none_found : (e : Error) → FailsToQuery places_text [] old new e → FaultKeepsRowsOrRollsBack behind old new
   none_found e h = refused_rests places_text 8 [] number_cell list_then_number _ places_is.0 places_plain places_is.1 (λ t. refl) [] old new k e h
 
-  pub none_found_caused : (e : Error) → FailsToQuery places_text [] old new e → old.step_limit ≡ None → IsCaused old new e
+  pub none_found_caused : (e : Error) → FailsToQuery places_text [] old new e → old.step_limit ≡ None → IsMemoryOrDiskError old new e
   none_found_caused e h free = question_fails_by places_text 8 [] number_cell list_then_number _ places_is.0 places_plain places_is.1 [] places_fit places_typed old new k free e h
 
   pub filed_found : (place : ℤ) (rows : List Row) → Shown filed_text (Int place ∷ []) old new rows
-      → (slice_get rows 0 ≡ option_map filed_shown (filed_at old.now.trees place)) × StaysOver behind old new
+      → (slice_get rows 0 ≡ option_map indexed_result_row (filed_at old.now.trees place)) × LeavesRowsUnchanged behind old new
   filed_found place rows h =
       let params = Int place ∷ [] in
-      let all = numbered_filed old.now.trees in
+      let all = numbered_indexed_messages old.now.trees in
       let picks = asked filed_text 8 at_place cells by_number _ filed_is.0 filed_plain filed_is.1 (λ t. refl) params old new k rows h in
       let same = asked_stays filed_text 8 at_place cells by_number _ filed_is.0 filed_plain filed_is.1 (λ t. refl) params old new k rows h in
       let are = in_order 8 at_place cells params (old.now.trees 8) rows k.tables.messages.rise picks
-      ∙ ap (map (cells_of place)) (ap (filter (passes at_place params)) k.tables.messages.coded ∙ passing place all) ∙ shown_cells place (filter (is_at place) all) in
+      ∙ ap (map (cells_of place)) (ap (filter (passes at_place params)) k.tables.messages.round_trips ∙ passing place all) ∙ shown_cells place (filter (is_at place) all) in
       (first_is place all rows are, same)
 
-  pub not_filed : (place : ℤ) (e : Error) → FailsToQuery filed_text (Int place ∷ []) old new e → RestsOver behind old new
+  pub not_filed : (place : ℤ) (e : Error) → FailsToQuery filed_text (Int place ∷ []) old new e → FaultKeepsRowsOrRollsBack behind old new
   not_filed place e h = refused_rests filed_text 8 at_place cells by_number _ filed_is.0 filed_plain filed_is.1 (λ t. refl) (Int place ∷ []) old new k e h
 
-  pub not_filed_caused : (place : ℤ) (e : Error) → FailsToQuery filed_text (Int place ∷ []) old new e → old.step_limit ≡ None → IsCaused old new e
+  pub not_filed_caused : (place : ℤ) (e : Error) → FailsToQuery filed_text (Int place ∷ []) old new e → old.step_limit ≡ None → IsMemoryOrDiskError old new e
   not_filed_caused place e h free = question_fails_by filed_text 8 at_place cells by_number _ filed_is.0 filed_plain filed_is.1 (Int place ∷ []) filed_fit (filed_typed place) old new k free e h

@@ -15,12 +15,12 @@ use Rattle.sqlite.proofs.Callers.{IsPlain, command_of}
 use Rattle.sqlite_tied.specs.Compute.{everything}
 use Rattle.sqlite_sql.specs.declared.ops.BinaryOp.TheVariants.{Compare}
 use Rattle.sqlite_sql.specs.declared.ops.CompareOp.TheVariants.{Eq}
-use Rattle.archive_machine.specs.Filing.{Filed}
+use Rattle.archive_model.specs.Filing.{IndexedMessage}
 use Rattle.archive_tables.specs.Schema.{archive_schema}
-use Rattle.archive_machine.specs.Questions.{is_message}
-use Rattle.archive_tables.specs.Tables.{IsHeld, filed_cells, archive_of}
-use Rattle.archive_tables.specs.Rows.{message_shown, marks_shown}
-use Rattle.archive_tables.specs.Calls.{RestsOver, StaysOver, IsCaused}
+use Rattle.archive_model.specs.Questions.{is_message_at_key}
+use Rattle.archive_tables.specs.Tables.{IsOpenArchive, indexed_message_cells, archive_of}
+use Rattle.archive_tables.specs.Rows.{message_result_row, marks_result_row}
+use Rattle.archive_tables.specs.Calls.{FaultKeepsRowsOrRollsBack, LeavesRowsUnchanged, IsMemoryOrDiskError}
 use Rattle.archive_tables.proofs.MessageLemmas.{shows_messages, counts_messages, has_messages}
 use Rattle.archive_tables.proofs.SelectLemmas.{plain_query, by_number, passes, asked, asked_stays, refused_rests, alone, text_is}
 use Rattle.archive_tables.proofs.CauseLemmas.{Fits, question_fails_by}
@@ -32,11 +32,11 @@ of_list = op2 (Compare Eq Binary) (col 1 2) (col 0 0) ∷ []
 abbrev pub at_key : List Term
 at_key = op2 (Compare Eq Binary) (col 1 2) (col 0 0) ∷ op2 (Compare Eq Binary) (col 1 3) (col 0 1) ∷ []
 
-pub has_list : (list : List ℕ) (n : ℤ) (f : Filed) → passes of_list (Text list ∷ []) (Int n ∷ filed_cells f) ≡ bytes_eq f.0.list list
+pub has_list : (list : List ℕ) (n : ℤ) (f : IndexedMessage) → passes of_list (Text list ∷ []) (Int n ∷ indexed_message_cells f) ≡ bytes_eq f.0.list list
 has_list list n f = alone _ ∙ text_is f.0.list list
 
 -- whatever the later parameters are
-pub has_key : (list key : List ℕ) (more : Row) (n : ℤ) (f : Filed) → passes at_key (Text list ∷ Text key ∷ more) (Int n ∷ filed_cells f) ≡ is_message list key f.0
+pub has_key : (list key : List ℕ) (more : Row) (n : ℤ) (f : IndexedMessage) → passes at_key (Text list ∷ Text key ∷ more) (Int n ∷ indexed_message_cells f) ≡ is_message_at_key list key f.0
 has_key list key more n f = ap₂ ◌&&◌ (text_is f.0.list list) (alone _ ∙ text_is f.0.key key)
 
 abbrev all_cells : List Term
@@ -138,9 +138,9 @@ count_typed : (list : List ℕ) → accepts_program archive_schema [] (plain_que
 unfolding everything
 count_typed list = refl
 
-module _ (old new : State) (list : List ℕ) {behind : Option Database} (k : IsHeld behind old) where
+module _ (old new : State) (list : List ℕ) {behind : Option Database} (k : IsOpenArchive behind old) where
   pub count : (rows : List Row) → Shown count_text (Text list ∷ []) old new rows
-      → (length rows ≡ length (filter (λ m. bytes_eq m.list list) (archive_of old).messages)) × StaysOver behind old new
+      → (length rows ≡ length (filter (λ m. bytes_eq m.list list) (archive_of old).messages)) × LeavesRowsUnchanged behind old new
   count rows h =
       let params = Text list ∷ [] in
       let picks = asked count_text 8 of_list number_cell [] _ count_is.0 count_plain count_is.1 (λ t. refl) params old new k rows h in (
@@ -148,55 +148,55 @@ module _ (old new : State) (list : List ℕ) {behind : Option Database} (k : IsH
         asked_stays count_text 8 of_list number_cell [] _ count_is.0 count_plain count_is.1 (λ t. refl) params old new k rows h,
       )
 
-  pub no_count : (e : Error) → FailsToQuery count_text (Text list ∷ []) old new e → RestsOver behind old new
+  pub no_count : (e : Error) → FailsToQuery count_text (Text list ∷ []) old new e → FaultKeepsRowsOrRollsBack behind old new
   no_count e h = refused_rests count_text 8 of_list number_cell [] _ count_is.0 count_plain count_is.1 (λ t. refl) (Text list ∷ []) old new k e h
 
-  pub no_count_caused : (e : Error) → FailsToQuery count_text (Text list ∷ []) old new e → old.step_limit ≡ None → IsCaused old new e
+  pub no_count_caused : (e : Error) → FailsToQuery count_text (Text list ∷ []) old new e → old.step_limit ≡ None → IsMemoryOrDiskError old new e
   no_count_caused e h free = question_fails_by count_text 8 of_list number_cell [] _ count_is.0 count_plain count_is.1 (Text list ∷ []) count_fit (count_typed list) old new k free e h
 
   module _ (key : List ℕ) where
     pub one : (rows : List Row) → Shown one_text (Text list ∷ Text key ∷ []) old new rows
-        → (rows ≡ map message_shown (filter (is_message list key) (archive_of old).messages)) × StaysOver behind old new
+        → (rows ≡ map message_result_row (filter (is_message_at_key list key) (archive_of old).messages)) × LeavesRowsUnchanged behind old new
     one rows h =
         let params = Text list ∷ Text key ∷ [] in
         let picks = asked one_text 8 at_key all_cells by_number _ one_is.0 one_plain one_is.1 (λ t. refl) params old new k rows h in (
-          shows_messages at_key all_cells params (is_message list key) (has_key list key []) message_shown (λ n m. refl) (old.now.trees 8) rows k.tables.messages picks,
+          shows_messages at_key all_cells params (is_message_at_key list key) (has_key list key []) message_result_row (λ n m. refl) (old.now.trees 8) rows k.tables.messages picks,
           asked_stays one_text 8 at_key all_cells by_number _ one_is.0 one_plain one_is.1 (λ t. refl) params old new k rows h,
         )
 
-    pub not_one : (e : Error) → FailsToQuery one_text (Text list ∷ Text key ∷ []) old new e → RestsOver behind old new
+    pub not_one : (e : Error) → FailsToQuery one_text (Text list ∷ Text key ∷ []) old new e → FaultKeepsRowsOrRollsBack behind old new
     not_one e h = refused_rests one_text 8 at_key all_cells by_number _ one_is.0 one_plain one_is.1 (λ t. refl) (Text list ∷ Text key ∷ []) old new k e h
 
-    pub not_one_caused : (e : Error) → FailsToQuery one_text (Text list ∷ Text key ∷ []) old new e → old.step_limit ≡ None → IsCaused old new e
+    pub not_one_caused : (e : Error) → FailsToQuery one_text (Text list ∷ Text key ∷ []) old new e → old.step_limit ≡ None → IsMemoryOrDiskError old new e
     not_one_caused e h free = question_fails_by one_text 8 at_key all_cells by_number _ one_is.0 one_plain one_is.1 (Text list ∷ Text key ∷ []) one_fit (one_typed list key) old new k free e h
 
     pub marks : (rows : List Row) → Shown marks_text (Text list ∷ Text key ∷ []) old new rows
-        → (rows ≡ map marks_shown (filter (is_message list key) (archive_of old).messages)) × StaysOver behind old new
+        → (rows ≡ map marks_result_row (filter (is_message_at_key list key) (archive_of old).messages)) × LeavesRowsUnchanged behind old new
     marks rows h =
         let params = Text list ∷ Text key ∷ [] in
         let picks = asked marks_text 8 at_key mark_cells by_number _ marks_is.0 marks_plain marks_is.1 (λ t. refl) params old new k rows h in (
-          shows_messages at_key mark_cells params (is_message list key) (has_key list key []) marks_shown (λ n m. refl) (old.now.trees 8) rows k.tables.messages picks,
+          shows_messages at_key mark_cells params (is_message_at_key list key) (has_key list key []) marks_result_row (λ n m. refl) (old.now.trees 8) rows k.tables.messages picks,
           asked_stays marks_text 8 at_key mark_cells by_number _ marks_is.0 marks_plain marks_is.1 (λ t. refl) params old new k rows h,
         )
 
-    pub no_marks : (e : Error) → FailsToQuery marks_text (Text list ∷ Text key ∷ []) old new e → RestsOver behind old new
+    pub no_marks : (e : Error) → FailsToQuery marks_text (Text list ∷ Text key ∷ []) old new e → FaultKeepsRowsOrRollsBack behind old new
     no_marks e h = refused_rests marks_text 8 at_key mark_cells by_number _ marks_is.0 marks_plain marks_is.1 (λ t. refl) (Text list ∷ Text key ∷ []) old new k e h
 
-    pub no_marks_caused : (e : Error) → FailsToQuery marks_text (Text list ∷ Text key ∷ []) old new e → old.step_limit ≡ None → IsCaused old new e
+    pub no_marks_caused : (e : Error) → FailsToQuery marks_text (Text list ∷ Text key ∷ []) old new e → old.step_limit ≡ None → IsMemoryOrDiskError old new e
     no_marks_caused e h free = question_fails_by marks_text 8 at_key mark_cells by_number _ marks_is.0 marks_plain marks_is.1 (Text list ∷ Text key ∷ []) marks_fit
         (marks_typed list key) old new k free e h
 
     pub has : (rows : List Row) → Shown has_text (Text list ∷ Text key ∷ []) old new rows
-        → (not (length rows == 0) ≡ list_any (is_message list key) (archive_of old).messages) × StaysOver behind old new
+        → (not (length rows == 0) ≡ list_any (is_message_at_key list key) (archive_of old).messages) × LeavesRowsUnchanged behind old new
     has rows h =
         let params = Text list ∷ Text key ∷ [] in
         let picks = asked has_text 8 at_key number_cell [] _ has_is.0 has_plain has_is.1 (λ t. refl) params old new k rows h in (
-          has_messages at_key number_cell params (is_message list key) (has_key list key []) (old.now.trees 8) rows k.tables.messages picks,
+          has_messages at_key number_cell params (is_message_at_key list key) (has_key list key []) (old.now.trees 8) rows k.tables.messages picks,
           asked_stays has_text 8 at_key number_cell [] _ has_is.0 has_plain has_is.1 (λ t. refl) params old new k rows h,
         )
 
-    pub has_not : (e : Error) → FailsToQuery has_text (Text list ∷ Text key ∷ []) old new e → RestsOver behind old new
+    pub has_not : (e : Error) → FailsToQuery has_text (Text list ∷ Text key ∷ []) old new e → FaultKeepsRowsOrRollsBack behind old new
     has_not e h = refused_rests has_text 8 at_key number_cell [] _ has_is.0 has_plain has_is.1 (λ t. refl) (Text list ∷ Text key ∷ []) old new k e h
 
-    pub has_not_caused : (e : Error) → FailsToQuery has_text (Text list ∷ Text key ∷ []) old new e → old.step_limit ≡ None → IsCaused old new e
+    pub has_not_caused : (e : Error) → FailsToQuery has_text (Text list ∷ Text key ∷ []) old new e → old.step_limit ≡ None → IsMemoryOrDiskError old new e
     has_not_caused e h free = question_fails_by has_text 8 at_key number_cell [] _ has_is.0 has_plain has_is.1 (Text list ∷ Text key ∷ []) has_fit (has_typed list key) old new k free e h

@@ -22,15 +22,16 @@ use Rattle.sqlite.specs.Effect.{Database}
 use Rattle.sqlite.specs.State.{State, Writes, Executes, mode_of}
 use Rattle.sqlite.proofs.Callers.{IsPlain, command_of, statement_of, runs_as, one_step}
 use Rattle.sqlite_tied.specs.Compute.{everything}
-use Rattle.archive_tables.specs.Schema.{no_schema, with_version, with_list, with_person, with_grant, with_message, with_month_index, schema_1, schema_2, archive_schema}
+use Rattle.archive_tables.specs.Schema.{empty_schema, schema_with_version, schema_with_lists, schema_with_persons, schema_with_grants}
+use Rattle.archive_tables.specs.Schema.{schema_with_messages, schema_with_month_index, schema_1, schema_2, archive_schema}
 use Rattle.archive_tables.specs.Schema.{create_version, create_list, create_person, create_grant, create_message, create_month_index, create_author_index, create_option}
 use Rattle.archive_tables.specs.Schema.{create_address, version_table, list_table, person_table, grant_table, message_table, sequence_table, option_table, address_table, month_index}
 use Rattle.archive_tables.specs.Schema.{author_index}
-use Rattle.archive_machine.specs.Records.{Archive}
-use Rattle.archive_tables.specs.Tables.{AreTables, IsKept, archive_in, archive_of, version_rows}
-use Rattle.archive_tables.specs.Making.{IsMaking, IsMade, empty_archive}
+use Rattle.archive_model.specs.Records.{Archive}
+use Rattle.archive_tables.specs.Tables.{AreArchiveTables, IsArchiveAtRest, archive_in_trees, archive_of, version_rows}
+use Rattle.archive_tables.specs.Making.{IsCreatingTables, IsReadyToCommit, empty_archive}
 use Rattle.archive_tables.specs.declared.texts.schema.TheConstants.{VERSION}
-use Rattle.archive_tables.proofs.SchemaLemmas.{unplaced, version_is, list_is, person_is, grant_is, message_is, sequence_is, option_is, address_is, month_index_is, author_index_is}
+use Rattle.archive_tables.proofs.SchemaLemmas.{unplaced, version_is, list_matches, person_is, grant_is, message_is, sequence_is, option_is, address_is, month_index_is, author_index_is}
 use Rattle.archive_tables.proofs.RunLemmas.{passed, value_is, no_action, cast_null, cast_int}
 use Rattle.archive_tables.proofs.TableLemmas.{SameBut, same_but}
 
@@ -74,7 +75,7 @@ module _ (s : Schema) (sql : List ℕ) (table : Table) (is : command_of (underst
       let now : new.now ≡ first.0 = ap (λ (p : Tally × Database). p.1) (value_is all.2) ∙ value_is (rw lacks at first.2) in
       subst (Makes s table old.now) (sym now) made
 
-  goes_on : (before : Database) → IsMaking old s before → (next : Schema) → new.now.schema ≡ next → AreEmpty new.now.trees next.tables → IsMaking new next before
+  goes_on : (before : Database) → IsCreatingTables old s before → (next : Schema) → new.now.schema ≡ next → AreEmpty new.now.trees next.tables → IsCreatingTables new next before
   goes_on before k next schema empty = record {
     is_open = ran.shown.is_open;
     within = ran.shown.mode ∙ k.within;
@@ -83,14 +84,14 @@ module _ (s : Schema) (sql : List ℕ) (table : Table) (is : command_of (underst
     empty = empty;
   }
 
-  pub makes : (before : Database) → IsMaking old s before → lacks_sequence (created s table) ≡ false → IsMaking new (created s table) before
+  pub makes : (before : Database) → IsCreatingTables old s before → lacks_sequence (created s table) ≡ false → IsCreatingTables new (created s table) before
   makes before k none =
       let here = table_made none in
       goes_on before k (created s table) here.schema (still_empty s table old.now new.now here k.empty)
 
   -- the first table with AUTOINCREMENT brings the table of the counts along
-  pub makes_both : (before : Database) → IsMaking old s before → lacks_sequence (created s table) ≡ true → (counts : Table) → table_defined_by sequence_text ≡ Ok counts
-      → IsMaking new (created (created s table) counts) before
+  pub makes_both : (before : Database) → IsCreatingTables old s before → lacks_sequence (created s table) ≡ true → (counts : Table) → table_defined_by sequence_text ≡ Ok counts
+      → IsCreatingTables new (created (created s table) counts) before
   makes_both before k some counts counts_is =
       let all = passed ran.changed in
       let first = passed all.1 in
@@ -122,11 +123,11 @@ one_indexed s table sql index old new has defined it =
 
 module _ (s : Schema) (sql : List ℕ) (at : ℕ) (table : Table) (index : Index) (there : slice_get s.tables at ≡ Some table) (is : command_of (understood s sql) ≡ CreateIndex at)
     (whole : statement_of sql (understood s sql) ≡ sql) (plain : IsPlain (understood s sql)) (defined : index_defined_by table sql ≡ Ok index)
-    (old new : State) (before : Database) (k : IsMaking old s before) (count : ℕ) (h : Executes sql [] old new (Ok count)) where
+    (old new : State) (before : Database) (k : IsCreatingTables old s before) (count : ℕ) (h : Executes sql [] old new (Ok count)) where
   index_ran : Writes old new None (CreateIndex at) sql [] count
   index_ran = subst (λ t. Writes old new None (CreateIndex at) t [] count) whole (runs_as sql [] old new s k.schema_is (CreateIndex at) is plain count h)
 
-  pub makes_index : IsMaking new (indexed s table index) before
+  pub makes_index : IsCreatingTables new (indexed s table index) before
   makes_index =
       let ran = index_ran in
       let changed = subst (λ d. Does old.step_limit (mode_of old) [] (record old.now { schema = d }) sql None (CreateIndex at) (Ok (ran.tally, new.now))) k.schema_is ran.changed in
@@ -143,90 +144,90 @@ module _ (s : Schema) (sql : List ℕ) (at : ℕ) (table : Table) (index : Index
 
 -- ---- the nine texts, each over what the ones before it made
 
-version_text_is : (command_of (understood no_schema create_version) ≡ CreateTable) × (statement_of create_version (understood no_schema create_version) ≡ create_version)
+version_text_is : (command_of (understood empty_schema create_version) ≡ CreateTable) × (statement_of create_version (understood empty_schema create_version) ≡ create_version)
 unfolding understood everything
 version_text_is = (refl, refl)
 
-version_plain : IsPlain (understood no_schema create_version)
+version_plain : IsPlain (understood empty_schema create_version)
 unfolding understood everything
 version_plain = (refl, refl)
 
-pub version_alone : (lacks_sequence (created no_schema (unplaced version_table)) ≡ false) × (created no_schema (unplaced version_table) ≡ with_version)
+pub version_alone : (lacks_sequence (created empty_schema (unplaced version_table)) ≡ false) × (created empty_schema (unplaced version_table) ≡ schema_with_version)
 unfolding everything
 version_alone = (refl, refl)
 
-list_text_is : (command_of (understood with_version create_list) ≡ CreateTable) × (statement_of create_list (understood with_version create_list) ≡ create_list)
+list_text_is : (command_of (understood schema_with_version create_list) ≡ CreateTable) × (statement_of create_list (understood schema_with_version create_list) ≡ create_list)
 unfolding understood everything
 list_text_is = (refl, refl)
 
-list_plain : IsPlain (understood with_version create_list)
+list_plain : IsPlain (understood schema_with_version create_list)
 unfolding understood everything
 list_plain = (refl, refl)
 
-pub list_alone : (lacks_sequence (created with_version (unplaced list_table)) ≡ false) × (created with_version (unplaced list_table) ≡ with_list)
+pub list_alone : (lacks_sequence (created schema_with_version (unplaced list_table)) ≡ false) × (created schema_with_version (unplaced list_table) ≡ schema_with_lists)
 unfolding everything
 list_alone = (refl, refl)
 
-person_text_is : (command_of (understood with_list create_person) ≡ CreateTable) × (statement_of create_person (understood with_list create_person) ≡ create_person)
+person_text_is : (command_of (understood schema_with_lists create_person) ≡ CreateTable) × (statement_of create_person (understood schema_with_lists create_person) ≡ create_person)
 unfolding understood everything
 person_text_is = (refl, refl)
 
-person_plain : IsPlain (understood with_list create_person)
+person_plain : IsPlain (understood schema_with_lists create_person)
 unfolding understood everything
 person_plain = (refl, refl)
 
-pub person_alone : (lacks_sequence (created with_list (unplaced person_table)) ≡ false) × (created with_list (unplaced person_table) ≡ with_person)
+pub person_alone : (lacks_sequence (created schema_with_lists (unplaced person_table)) ≡ false) × (created schema_with_lists (unplaced person_table) ≡ schema_with_persons)
 unfolding everything
 person_alone = (refl, refl)
 
-grant_text_is : (command_of (understood with_person create_grant) ≡ CreateTable) × (statement_of create_grant (understood with_person create_grant) ≡ create_grant)
+grant_text_is : (command_of (understood schema_with_persons create_grant) ≡ CreateTable) × (statement_of create_grant (understood schema_with_persons create_grant) ≡ create_grant)
 unfolding understood everything
 grant_text_is = (refl, refl)
 
-grant_plain : IsPlain (understood with_person create_grant)
+grant_plain : IsPlain (understood schema_with_persons create_grant)
 unfolding understood everything
 grant_plain = (refl, refl)
 
-pub grant_alone : (lacks_sequence (created with_person (unplaced grant_table)) ≡ false) × (created with_person (unplaced grant_table) ≡ with_grant)
+pub grant_alone : (lacks_sequence (created schema_with_persons (unplaced grant_table)) ≡ false) × (created schema_with_persons (unplaced grant_table) ≡ schema_with_grants)
 unfolding everything
 grant_alone = (refl, refl)
 
-message_text_is : (command_of (understood with_grant create_message) ≡ CreateTable) × (statement_of create_message (understood with_grant create_message) ≡ create_message)
+message_text_is : (command_of (understood schema_with_grants create_message) ≡ CreateTable) × (statement_of create_message (understood schema_with_grants create_message) ≡ create_message)
 unfolding understood everything
 message_text_is = (refl, refl)
 
-message_plain : IsPlain (understood with_grant create_message)
+message_plain : IsPlain (understood schema_with_grants create_message)
 unfolding understood everything
 message_plain = (refl, refl)
 
-pub message_brings : (lacks_sequence (created with_grant (unplaced message_table)) ≡ true)
-    × (created (created with_grant (unplaced message_table)) (unplaced sequence_table) ≡ with_message)
+pub message_brings : (lacks_sequence (created schema_with_grants (unplaced message_table)) ≡ true)
+    × (created (created schema_with_grants (unplaced message_table)) (unplaced sequence_table) ≡ schema_with_messages)
 unfolding everything
 message_brings = (refl, refl)
 
-month_index_text_is : (command_of (understood with_message create_month_index) ≡ CreateIndex 4)
-    × (statement_of create_month_index (understood with_message create_month_index) ≡ create_month_index)
+month_index_text_is : (command_of (understood schema_with_messages create_month_index) ≡ CreateIndex 4)
+    × (statement_of create_month_index (understood schema_with_messages create_month_index) ≡ create_month_index)
 unfolding understood everything
 month_index_text_is = (refl, refl)
 
-month_index_plain : IsPlain (understood with_message create_month_index)
+month_index_plain : IsPlain (understood schema_with_messages create_month_index)
 unfolding understood everything
 month_index_plain = (refl, refl)
 
-month_indexed : indexed with_message message_table month_index ≡ with_month_index
+month_indexed : indexed schema_with_messages message_table month_index ≡ schema_with_month_index
 unfolding everything
 month_indexed = refl
 
-author_index_text_is : (command_of (understood with_month_index create_author_index) ≡ CreateIndex 4)
-    × (statement_of create_author_index (understood with_month_index create_author_index) ≡ create_author_index)
+author_index_text_is : (command_of (understood schema_with_month_index create_author_index) ≡ CreateIndex 4)
+    × (statement_of create_author_index (understood schema_with_month_index create_author_index) ≡ create_author_index)
 unfolding understood everything
 author_index_text_is = (refl, refl)
 
-author_index_plain : IsPlain (understood with_month_index create_author_index)
+author_index_plain : IsPlain (understood schema_with_month_index create_author_index)
 unfolding understood everything
 author_index_plain = (refl, refl)
 
-pub author_indexed : indexed with_month_index message_table author_index ≡ schema_1
+pub author_indexed : indexed schema_with_month_index message_table author_index ≡ schema_1
 unfolding everything
 author_indexed = refl
 
@@ -255,41 +256,42 @@ unfolding everything
 address_alone = (refl, refl)
 
 module _ (old new : State) (before : Database) (count : ℕ) where
-  pub makes_version : IsMaking old no_schema before → Executes create_version [] old new (Ok count) → IsMaking new with_version before
-  makes_version k h = subst (λ s. IsMaking new s before) version_alone.1
-      (makes no_schema create_version (unplaced version_table) version_text_is.0 version_text_is.1 version_plain version_is old new k.schema_is count h before k version_alone.0)
+  pub makes_version : IsCreatingTables old empty_schema before → Executes create_version [] old new (Ok count) → IsCreatingTables new schema_with_version before
+  makes_version k h = subst (λ s. IsCreatingTables new s before) version_alone.1
+      (makes empty_schema create_version (unplaced version_table) version_text_is.0 version_text_is.1 version_plain version_is old new k.schema_is count h before k version_alone.0)
 
-  pub makes_list : IsMaking old with_version before → Executes create_list [] old new (Ok count) → IsMaking new with_list before
-  makes_list k h = subst (λ s. IsMaking new s before) list_alone.1
-      (makes with_version create_list (unplaced list_table) list_text_is.0 list_text_is.1 list_plain list_is old new k.schema_is count h before k list_alone.0)
+  pub makes_list : IsCreatingTables old schema_with_version before → Executes create_list [] old new (Ok count) → IsCreatingTables new schema_with_lists before
+  makes_list k h = subst (λ s. IsCreatingTables new s before) list_alone.1
+      (makes schema_with_version create_list (unplaced list_table) list_text_is.0 list_text_is.1 list_plain list_matches old new k.schema_is count h before k list_alone.0)
 
-  pub makes_person : IsMaking old with_list before → Executes create_person [] old new (Ok count) → IsMaking new with_person before
-  makes_person k h = subst (λ s. IsMaking new s before) person_alone.1
-      (makes with_list create_person (unplaced person_table) person_text_is.0 person_text_is.1 person_plain person_is old new k.schema_is count h before k person_alone.0)
+  pub makes_person : IsCreatingTables old schema_with_lists before → Executes create_person [] old new (Ok count) → IsCreatingTables new schema_with_persons before
+  makes_person k h = subst (λ s. IsCreatingTables new s before) person_alone.1
+      (makes schema_with_lists create_person (unplaced person_table) person_text_is.0 person_text_is.1 person_plain person_is old new k.schema_is count h before k person_alone.0)
 
-  pub makes_grant : IsMaking old with_person before → Executes create_grant [] old new (Ok count) → IsMaking new with_grant before
-  makes_grant k h = subst (λ s. IsMaking new s before) grant_alone.1
-      (makes with_person create_grant (unplaced grant_table) grant_text_is.0 grant_text_is.1 grant_plain grant_is old new k.schema_is count h before k grant_alone.0)
+  pub makes_grant : IsCreatingTables old schema_with_persons before → Executes create_grant [] old new (Ok count) → IsCreatingTables new schema_with_grants before
+  makes_grant k h = subst (λ s. IsCreatingTables new s before) grant_alone.1
+      (makes schema_with_persons create_grant (unplaced grant_table) grant_text_is.0 grant_text_is.1 grant_plain grant_is old new k.schema_is count h before k grant_alone.0)
 
-  pub makes_message : IsMaking old with_grant before → Executes create_message [] old new (Ok count) → IsMaking new with_message before
-  makes_message k h = subst (λ s. IsMaking new s before) message_brings.1
-      (makes_both with_grant create_message (unplaced message_table) message_text_is.0 message_text_is.1 message_plain message_is old new k.schema_is count h before k message_brings.0
+  pub makes_message : IsCreatingTables old schema_with_grants before → Executes create_message [] old new (Ok count) → IsCreatingTables new schema_with_messages before
+  makes_message k h = subst (λ s. IsCreatingTables new s before) message_brings.1
+      (makes_both schema_with_grants create_message (unplaced message_table) message_text_is.0 message_text_is.1 message_plain message_is old new k.schema_is count h before k message_brings.0
       (unplaced sequence_table) sequence_is)
 
-  pub makes_month_index : IsMaking old with_message before → Executes create_month_index [] old new (Ok count) → IsMaking new with_month_index before
-  makes_month_index k h = makes_index with_message create_month_index 4 message_table month_index refl month_index_text_is.0 month_index_text_is.1 month_index_plain
+  pub makes_month_index : IsCreatingTables old schema_with_messages before → Executes create_month_index [] old new (Ok count) → IsCreatingTables new schema_with_month_index before
+  makes_month_index k h = makes_index schema_with_messages create_month_index 4 message_table month_index refl month_index_text_is.0 month_index_text_is.1 month_index_plain
       month_index_is old new before k count h
 
-  pub makes_author_index : IsMaking old with_month_index before → Executes create_author_index [] old new (Ok count) → IsMaking new schema_1 before
-  makes_author_index k h = subst (λ s. IsMaking new s before) author_indexed
-      (makes_index with_month_index create_author_index 4 message_table author_index refl author_index_text_is.0 author_index_text_is.1 author_index_plain author_index_is old new before k count h)
+  pub makes_author_index : IsCreatingTables old schema_with_month_index before → Executes create_author_index [] old new (Ok count) → IsCreatingTables new schema_1 before
+  makes_author_index k h = subst (λ s. IsCreatingTables new s before) author_indexed
+      (makes_index schema_with_month_index create_author_index 4 message_table author_index refl author_index_text_is.0 author_index_text_is.1 author_index_plain author_index_is old new
+      before k count h)
 
-  pub makes_option : IsMaking old schema_1 before → Executes create_option [] old new (Ok count) → IsMaking new schema_2 before
-  makes_option k h = subst (λ s. IsMaking new s before) option_alone.1
+  pub makes_option : IsCreatingTables old schema_1 before → Executes create_option [] old new (Ok count) → IsCreatingTables new schema_2 before
+  makes_option k h = subst (λ s. IsCreatingTables new s before) option_alone.1
       (makes schema_1 create_option (unplaced option_table) option_text_is.0 option_text_is.1 option_plain option_is old new k.schema_is count h before k option_alone.0)
 
-  pub makes_address : IsMaking old schema_2 before → Executes create_address [] old new (Ok count) → IsMaking new archive_schema before
-  makes_address k h = subst (λ s. IsMaking new s before) address_alone.1
+  pub makes_address : IsCreatingTables old schema_2 before → Executes create_address [] old new (Ok count) → IsCreatingTables new archive_schema before
+  makes_address k h = subst (λ s. IsCreatingTables new s before) address_alone.1
       (makes schema_2 create_address (unplaced address_table) address_text_is.0 address_text_is.1 address_plain address_is old new k.schema_is count h before k address_alone.0)
 
 -- ---- the transaction
@@ -297,17 +299,17 @@ module _ (old new : State) (before : Database) (count : ℕ) where
 abbrev pub begin_text : List ℕ
 begin_text = codes "BEGIN"
 
-begin_is : command_of (understood no_schema begin_text) ≡ Begin
+begin_is : command_of (understood empty_schema begin_text) ≡ Begin
 unfolding understood everything
 begin_is = refl
 
-begin_plain : IsPlain (understood no_schema begin_text)
+begin_plain : IsPlain (understood empty_schema begin_text)
 unfolding understood everything
 begin_plain = (refl, refl)
 
-pub begins : (old new : State) (count : ℕ) → old.now.schema ≡ no_schema → Executes begin_text [] old new (Ok count) → IsMaking new no_schema old.committed
+pub begins : (old new : State) (count : ℕ) → old.now.schema ≡ empty_schema → Executes begin_text [] old new (Ok count) → IsCreatingTables new empty_schema old.committed
 begins old new count has h =
-    let ran = runs_as begin_text [] old new no_schema has Begin begin_is begin_plain count h in
+    let ran = runs_as begin_text [] old new empty_schema has Begin begin_is begin_plain count h in
     record {
       is_open = ran.1.is_open;
       within = ran.1.mode;
@@ -327,8 +329,8 @@ pub commit_plain : IsPlain (understood archive_schema commit_text)
 unfolding understood everything
 commit_plain = (refl, refl)
 
-pub commits : (old new : State) (before : Database) (archive : Archive) (count : ℕ) → IsMade old before archive → Executes commit_text [] old new (Ok count)
-    → IsKept new × (archive_of new ≡ archive)
+pub commits : (old new : State) (before : Database) (archive : Archive) (count : ℕ) → IsReadyToCommit old before archive → Executes commit_text [] old new (Ok count)
+    → IsArchiveAtRest new × (archive_of new ≡ archive)
 commits old new before archive count k h =
     let ran = runs_as commit_text [] old new archive_schema k.schema_is Commit commit_is commit_plain count h in (
       record {
@@ -336,10 +338,10 @@ commits old new before archive count k h =
         autocommit = ran.1.mode;
         settled = ran.1.committed_is ∙ sym ran.1.now_is;
         schema = ap (λ (d : Database). d.schema) ran.1.now_is ∙ k.schema_is;
-        tables = subst (λ (d : Database). AreTables d.trees) (sym ran.1.now_is) k.tables;
+        tables = subst (λ (d : Database). AreArchiveTables d.trees) (sym ran.1.now_is) k.tables;
         whole = tt;
       },
-      ap (λ (d : Database). archive_in d.trees) ran.1.now_is ∙ k.remembers,
+      ap (λ (d : Database). archive_in_trees d.trees) ran.1.now_is ∙ k.remembers,
     )
 
 abbrev pub rollback_text : List ℕ
@@ -380,26 +382,27 @@ pub puts : (db : Trees) (given : List Row) → db 0 ≡ [] → given ≡ (Null �
 puts db given none from = rw (from, none, cast_null, cast_int VERSION)
 
 nothing_in : (trees : Trees) → trees 0 ≡ version_rows VERSION → trees 1 ≡ [] → trees 3 ≡ [] → trees 6 ≡ [] → trees 8 ≡ [] → trees 13 ≡ [] → trees 15 ≡ []
-    → AreTables trees × (archive_in trees ≡ empty_archive)
+    → AreArchiveTables trees × (archive_in_trees trees ≡ empty_archive)
 nothing_in trees version lists persons grants messages options addresses = (
   record {
     version = version;
-    lists = rw lists (record { coded = refl; rise = tt });
-    persons = rw persons (record { coded = refl; rise = tt });
-    grants = rw grants (record { coded = refl; rise = tt });
-    messages = rw messages (record { coded = refl; rise = tt });
-    grants_apart = rw grants tt;
-    messages_apart = rw messages tt;
+    lists = rw lists (record { round_trips = refl; rise = tt });
+    persons = rw persons (record { round_trips = refl; rise = tt });
+    grants = rw grants (record { round_trips = refl; rise = tt });
+    messages = rw messages (record { round_trips = refl; rise = tt });
+    grants_distinct = rw grants tt;
+    messages_distinct = rw messages tt;
     positive = rw messages tt;
-    options = rw options (record { coded = refl; rise = tt });
-    options_apart = rw options tt;
-    addresses = rw addresses (record { coded = refl; rise = tt });
-    addresses_apart = rw addresses tt;
+    options = rw options (record { round_trips = refl; rise = tt });
+    options_distinct = rw options tt;
+    addresses = rw addresses (record { round_trips = refl; rise = tt });
+    addresses_distinct = rw addresses tt;
   },
   rw (lists, persons, grants, messages, options, addresses),
 )
 
-pub makes_whole : (old new : State) (before : Database) (count : ℕ) → IsMaking old archive_schema before → Executes version_text (Int VERSION ∷ []) old new (Ok count) → IsMade new before empty_archive
+pub makes_whole : (old new : State) (before : Database) (count : ℕ) → IsCreatingTables old archive_schema before → Executes version_text (Int VERSION ∷ []) old new (Ok count)
+    → IsReadyToCommit new before empty_archive
 makes_whole old new before count k h =
     let db = old.now.trees in
     let command = Insert 0 (Values version_cells 2) in

@@ -26,80 +26,86 @@ use Rattle.sqlite.proofs.Callers.{IsPlain, command_of, statement_of, runs_as, on
 use Rattle.sqlite_tied.specs.Compute.{everything}
 use Rattle.sqlite_rules.specs.Action as Action
 use Rattle.sqlite_schema.specs.declared.schema.Keys.TheVariants.{Enforced}
-use Rattle.archive_machine.specs.Records.{Message, Filing, Archive}
-use Rattle.archive_machine.specs.Filing.{Filed}
+use Rattle.archive_model.specs.Records.{Message, IndexColumns, Archive}
+use Rattle.archive_model.specs.Filing.{IndexedMessage}
 use Rattle.archive_tables.specs.Schema.{archive_schema, message_table, sequence_table}
-use Rattle.archive_machine.specs.Questions.{is_message}
-use Rattle.archive_tables.specs.Tables.{IsHeld, Numbered, row_of, Holds, message_read, filed_cells, filing_read, filed_read, archive_of, or_null, if_int, same_message, AreApart}
-use Rattle.archive_tables.specs.Rows.{new_message}
-use Rattle.archive_tables.specs.Calls.{ChangesOver, RestsOver}
+use Rattle.archive_model.specs.Questions.{is_message_at_key}
+use Rattle.archive_tables.specs.Tables.{IsOpenArchive, NumberedRecord, numbered_row, HoldsRecords, message_from_row, indexed_message_cells}
+use Rattle.archive_tables.specs.Tables.{index_columns_from_row, indexed_message_from_row, archive_of, int_or_null_value, int_of_value, same_message_key, HaveDistinctKeys}
+use Rattle.archive_tables.specs.Rows.{unmarked_message}
+use Rattle.archive_tables.specs.Calls.{ChangesArchive, FaultKeepsRowsOrRollsBack}
 use Rattle.archive_tables.proofs.RunLemmas.{passed, value_is, no_action, cast_null, cast_int, kept_by, rests, execute_fails}
 use Rattle.archive_tables.proofs.RowLemmas.{put_past, raised, positive_more}
 use Rattle.archive_tables.proofs.TableLemmas.{SameBut, same_but, messages_change}
 use Rattle.archive_tables.proofs.ChangeLemmas.{apart_more}
 use Rattle.archive_tables.proofs.SelectLemmas.{plain_query, by_number, env_of, passes, Picks, shows, count_wanted, any_wanted, text_flips}
 
-pub embargo_back : (o : Option ℤ) → if_int (or_null o) ≡ o
+pub embargo_back : (o : Option ℤ) → int_of_value (int_or_null_value o) ≡ o
 embargo_back None = refl
 embargo_back (Some n) = refl
 
-pub filed_back : (n : ℤ) (f : Filed) → filed_read (Int n ∷ filed_cells f) ≡ f
+pub filed_back : (n : ℤ) (f : IndexedMessage) → indexed_message_from_row (Int n ∷ indexed_message_cells f) ≡ f
 filed_back n f = ap (λ o. (record f.0 { embargo = o }, f.1)) (embargo_back f.0.embargo)
 
 -- ---- rows of messages, whatever is filed of them
 
-pub messages_are : (rows : List Row) → map (λ (f : Filed). f.0) (map filed_read rows) ≡ map message_read rows
-messages_are rows = map-map (λ (f : Filed). f.0) filed_read rows
+pub messages_are : (rows : List Row) → map (λ (f : IndexedMessage). f.0) (map indexed_message_from_row rows) ≡ map message_from_row rows
+messages_are rows = map-map (λ (f : IndexedMessage). f.0) indexed_message_from_row rows
 
-pub filings_are : (rows : List Row) → map (λ (f : Filed). f.1) (map filed_read rows) ≡ map filing_read rows
-filings_are rows = map-map (λ (f : Filed). f.1) filed_read rows
+pub filings_are : (rows : List Row) → map (λ (f : IndexedMessage). f.1) (map indexed_message_from_row rows) ≡ map index_columns_from_row rows
+filings_are rows = map-map (λ (f : IndexedMessage). f.1) indexed_message_from_row rows
 
-pub filed_are : (rows : List Row) → zip (map message_read rows) (map filing_read rows) ≡ map filed_read rows
+pub filed_are : (rows : List Row) → zip (map message_from_row rows) (map index_columns_from_row rows) ≡ map indexed_message_from_row rows
 filed_are [] = refl
-filed_are (row ∷ rows) = ap (λ l. filed_read row ∷ l) (filed_are rows)
+filed_are (row ∷ rows) = ap (λ l. indexed_message_from_row row ∷ l) (filed_are rows)
 
 pub wanted_messages : {X : Type 0} (wanted : Message → Bool) (show : Message → X) (rows : List Row)
-    → map (λ (f : Filed). show f.0) (filter (λ (f : Filed). wanted f.0) (map filed_read rows)) ≡ map show (filter wanted (map message_read rows))
+    → map (λ (f : IndexedMessage). show f.0) (filter (λ (f : IndexedMessage). wanted f.0) (map indexed_message_from_row rows)) ≡ map show (filter wanted (map message_from_row rows))
 wanted_messages wanted show [] = refl
-wanted_messages wanted show (row ∷ rows) = elim (cases_Bool (wanted (message_read row))) [
-  | inl kept ↦ rw kept (ap (λ l. show (message_read row) ∷ l) (wanted_messages wanted show rows))
+wanted_messages wanted show (row ∷ rows) = elim (cases_Bool (wanted (message_from_row row))) [
+  | inl kept ↦ rw kept (ap (λ l. show (message_from_row row) ∷ l) (wanted_messages wanted show rows))
   | inr dropped ↦ rw dropped (wanted_messages wanted show rows)
 ]
 
-any_of_messages : (wanted : Message → Bool) (rows : List Row) → list_any (λ (f : Filed). wanted f.0) (map filed_read rows) ≡ list_any wanted (map message_read rows)
+any_of_messages : (wanted : Message → Bool) (rows : List Row) → list_any (λ (f : IndexedMessage). wanted f.0) (map indexed_message_from_row rows) ≡ list_any wanted (map message_from_row rows)
 any_of_messages wanted [] = refl
-any_of_messages wanted (row ∷ rows) = ap (λ b. wanted (message_read row) || b) (any_of_messages wanted rows)
+any_of_messages wanted (row ∷ rows) = ap (λ b. wanted (message_from_row row) || b) (any_of_messages wanted rows)
 
 count_of_messages : (wanted : Message → Bool) (rows : List Row)
-    → length (filter (λ (f : Filed). wanted f.0) (map filed_read rows)) ≡ length (filter wanted (map message_read rows))
+    → length (filter (λ (f : IndexedMessage). wanted f.0) (map indexed_message_from_row rows)) ≡ length (filter wanted (map message_from_row rows))
 count_of_messages wanted rows =
-    sym (length-map (filter (λ (f : Filed). wanted f.0) (map filed_read rows)) (λ (f : Filed). f.0)) ∙ ap length (wanted_messages wanted (λ m. m) rows)
-    ∙ length-map (filter wanted (map message_read rows)) (λ m. m)
+    sym (length-map (filter (λ (f : IndexedMessage). wanted f.0) (map indexed_message_from_row rows)) (λ (f : IndexedMessage). f.0)) ∙ ap length (wanted_messages wanted (λ m. m) rows)
+    ∙ length-map (filter wanted (map message_from_row rows)) (λ m. m)
 
-pub one_filed : (new old : List Row) (f : Filed) → map filed_read new ≡ map filed_read old ++ f ∷ []
-    → (map message_read new ≡ map message_read old ++ f.0 ∷ []) × (map filing_read new ≡ map filing_read old ++ f.1 ∷ [])
+pub one_filed : (new old : List Row) (f : IndexedMessage) → map indexed_message_from_row new ≡ map indexed_message_from_row old ++ f ∷ []
+    → (map message_from_row new ≡ map message_from_row old ++ f.0 ∷ []) × (map index_columns_from_row new ≡ map index_columns_from_row old ++ f.1 ∷ [])
 one_filed new old f is = (
-  sym (messages_are new) ∙ ap (map (λ (g : Filed). g.0)) is ∙ map-append (λ (g : Filed). g.0) (map filed_read old) (f ∷ []) ∙ ap (λ l. l ++ f.0 ∷ []) (messages_are old),
-  sym (filings_are new) ∙ ap (map (λ (g : Filed). g.1)) is ∙ map-append (λ (g : Filed). g.1) (map filed_read old) (f ∷ []) ∙ ap (λ l. l ++ f.1 ∷ []) (filings_are old),
+  sym (messages_are new) ∙ ap (map (λ (g : IndexedMessage). g.0)) is ∙ map-append (λ (g : IndexedMessage). g.0) (map indexed_message_from_row old) (f ∷ []) ∙ ap (λ l. l ++ f.0 ∷ [])
+      (messages_are old),
+  sym (filings_are new) ∙ ap (map (λ (g : IndexedMessage). g.1)) is ∙ map-append (λ (g : IndexedMessage). g.1) (map indexed_message_from_row old) (f ∷ []) ∙ ap (λ l. l ++ f.1 ∷ []) (filings_are old),
 )
 
-module _ (terms shown : List Term) (params : Row) (wanted : Message → Bool) (tests : (n : ℤ) (f : Filed) → passes terms params (Int n ∷ filed_cells f) ≡ wanted f.0) where
-  pub shows_messages : (show : Message → Row) (same : (n : ℤ) (f : Filed) → (output (plain_query 8 terms shown by_number) (env_of params (Int n ∷ filed_cells f))).1 ≡ show f.0)
-      (rows picked : List Row) → Holds filed_cells filed_read rows → Picks (plain_query 8 terms shown by_number) params rows picked → picked ≡ map show (filter wanted (map message_read rows))
+module _ (terms shown : List Term) (params : Row) (wanted : Message → Bool) (tests : (n : ℤ) (f : IndexedMessage) → passes terms params (Int n ∷ indexed_message_cells f) ≡ wanted f.0) where
+  pub shows_messages : (show : Message → Row) (same : (n : ℤ) (f : IndexedMessage) → (output (plain_query 8 terms shown by_number) (env_of params (Int n ∷ indexed_message_cells f))).1 ≡ show f.0)
+      (rows picked : List Row) → HoldsRecords indexed_message_cells indexed_message_from_row rows → Picks (plain_query 8 terms shown by_number) params rows picked
+      → picked ≡ map show (filter wanted (map message_from_row rows))
   shows_messages show same rows picked k it =
-      shows 8 terms shown params filed_cells filed_read filed_back (λ (f : Filed). wanted f.0) tests (λ (f : Filed). show f.0) same rows picked k it ∙ wanted_messages wanted show rows
+      shows 8 terms shown params indexed_message_cells indexed_message_from_row filed_back (λ (f : IndexedMessage). wanted f.0) tests (λ (f : IndexedMessage). show f.0) same rows picked k it
+      ∙ wanted_messages wanted show rows
 
-  pub counts_messages : (rows picked : List Row) → Holds filed_cells filed_read rows → Picks (plain_query 8 terms shown []) params rows picked
-      → length picked ≡ length (filter wanted (map message_read rows))
+  pub counts_messages : (rows picked : List Row) → HoldsRecords indexed_message_cells indexed_message_from_row rows → Picks (plain_query 8 terms shown []) params rows picked
+      → length picked ≡ length (filter wanted (map message_from_row rows))
   counts_messages rows picked k it =
-      count_wanted filed_cells filed_read filed_back (plain_query 8 terms shown []) params (λ (f : Filed). wanted f.0) tests rows picked k it ∙ count_of_messages wanted rows
+      count_wanted indexed_message_cells indexed_message_from_row filed_back (plain_query 8 terms shown []) params (λ (f : IndexedMessage). wanted f.0) tests rows picked k it ∙
+      count_of_messages wanted rows
 
-  pub has_messages : (rows picked : List Row) → Holds filed_cells filed_read rows → Picks (plain_query 8 terms shown []) params rows picked
-      → not (nat_eq (length picked) 0) ≡ list_any wanted (map message_read rows)
+  pub has_messages : (rows picked : List Row) → HoldsRecords indexed_message_cells indexed_message_from_row rows → Picks (plain_query 8 terms shown []) params rows picked
+      → not (nat_eq (length picked) 0) ≡ list_any wanted (map message_from_row rows)
   has_messages rows picked k it =
-      any_wanted filed_cells filed_read filed_back (plain_query 8 terms shown []) params (λ (f : Filed). wanted f.0) tests rows picked k it ∙ any_of_messages wanted rows
+      any_wanted indexed_message_cells indexed_message_from_row filed_back (plain_query 8 terms shown []) params (λ (f : IndexedMessage). wanted f.0) tests rows picked k it ∙ any_of_messages
+      wanted rows
 
-pub flips : (a b : Message) → same_message a b ≡ same_message b a
+pub flips : (a b : Message) → same_message_key a b ≡ same_message_key b a
 flips a b = ap₂ ◌&&◌ (text_flips b.list a.list) (text_flips b.key a.key)
 
 -- ---- INSERT
@@ -147,22 +153,22 @@ counts limit params mid next counter top h = elim (cases_Bool (is_lt (int_cmp (c
     counted None h = written (counting mid message_table sequence_table top None) refl h
     counted (Some row) h = written (counting mid message_table sequence_table top (Some row)) refl h
 
-module _ (list key sender : List ℕ) (arrival : ℤ) (text : List ℕ) (filing : Filing) where
+module _ (list key sender : List ℕ) (arrival : ℤ) (text : List ℕ) (filing : IndexColumns) where
   abbrev new : Message
-  new = new_message list key sender arrival text
+  new = unmarked_message list key sender arrival text
 
   abbrev params_of : Row
   params_of = Text list ∷ Text key ∷ Blob sender ∷ Int arrival ∷ Blob text ∷ Int filing.sent ∷ Int filing.month ∷ Blob filing.author ∷ []
 
   abbrev more : Archive → Archive
-  more a = record a { messages = a.messages ++ new ∷ []; filings = a.filings ++ filing ∷ [] }
+  more a = record a { messages = a.messages ++ new ∷ []; index_columns = a.index_columns ++ filing ∷ [] }
 
-  abbrev fresh : Trees → ℤ → Numbered Filed
+  abbrev fresh : Trees → ℤ → NumberedRecord IndexedMessage
   fresh db top = record { number = at_least (Above top) (next_rowid (db 8)); it = (new, filing) }
 
   puts : (db : Trees) (top : ℤ) (given : List Row)
       → given ≡ (Null ∷ Null ∷ Text list ∷ Text key ∷ Blob sender ∷ Int arrival ∷ Blob text ∷ Int (pos 0) ∷ Null ∷ Int filing.sent ∷ Int filing.month ∷ Blob filing.author ∷ []) ∷ []
-      → edited db (edit_of db message_table [] (Above top) 0 given) ≡ put_row (row_of filed_cells (fresh db top)) (db 8)
+      → edited db (edit_of db message_table [] (Above top) 0 given) ≡ put_row (numbered_row indexed_message_cells (fresh db top)) (db 8)
   puts db top given from = rw (from, cast_null, cast_int arrival, cast_int (pos 0), cast_int filing.sent, cast_int filing.month)
 
   after : (db mid next : Trees) → SameBut 8 db mid → SameBut 10 mid next → SameBut 8 db next
@@ -176,9 +182,9 @@ module _ (list key sender : List ℕ) (arrival : ℤ) (text : List ℕ) (filing 
     addresses = λ e. last.addresses (λ f. omega (arith, f)) ∙ first.addresses e;
   }
 
-  adds : {behind : Option Database} (old new_state : State) (count : ℕ) → IsHeld behind old → list_any (is_message list key) (archive_of old).messages ≡ false
+  adds : {behind : Option Database} (old new_state : State) (count : ℕ) → IsOpenArchive behind old → list_any (is_message_at_key list key) (archive_of old).messages ≡ false
       → Executes add_text params_of old new_state (Ok count)
-      → ChangesOver behind old new_state more
+      → ChangesArchive behind old new_state more
   adds old next count k none h =
       let params = params_of in
       let db = old.now.trees in
@@ -197,17 +203,17 @@ module _ (list key sender : List ℕ) (arrival : ℤ) (text : List ℕ) (filing 
       let later = counts old.step_limit params written.0 counted.0 counter.0 (fold higher top edit.news) counted.1 in
       let trees : next.now.trees ≡ counted.0 = ap (λ (d : Database). d.trees) now ∙ ap (λ (it : Written). it.trees) (value_is counted.2) in
       let far = raised top (next_rowid (db 8)) in
-      let put = put_past filed_cells filed_read filed_back (db 8) (fresh db top) far k.tables.messages in
-      let rows : next.now.trees 8 ≡ put_row (row_of filed_cells (fresh db top)) (db 8) =
+      let put = put_past indexed_message_cells indexed_message_from_row filed_back (db 8) (fresh db top) far k.tables.messages in
+      let rows : next.now.trees 8 ≡ put_row (numbered_row indexed_message_cells (fresh db top)) (db 8) =
       ap (λ (t : Trees). t 8) trees ∙ later.messages (λ e. omega (arith, e)) ∙ applied.rows ∙ puts db top given.0 given.1.1 in
       let same = subst (SameBut 8 db) (sym trees) (after db written.0 counted.0 (same_but 8 db written.0 applied.tables) later) in
-      let both = one_filed (put_row (row_of filed_cells (fresh db top)) (db 8)) (db 8) (new, filing) put.1 in
-      let apart = subst (AreApart same_message) (sym both.0) (apart_more same_message (archive_of old).messages new flips none k.tables.messages_apart) in
-      let positive = positive_more filed_cells filed_read filed_back (db 8) (fresh db top) far k.tables.messages k.tables.positive in
+      let both = one_filed (put_row (numbered_row indexed_message_cells (fresh db top)) (db 8)) (db 8) (new, filing) put.1 in
+      let apart = subst (HaveDistinctKeys same_message_key) (sym both.0) (apart_more same_message_key (archive_of old).messages new flips none k.tables.messages_distinct) in
+      let positive = positive_more indexed_message_cells indexed_message_from_row filed_back (db 8) (fresh db top) far k.tables.messages k.tables.positive in
       let it = messages_change db next.now.trees k.tables same _ rows put.0 apart positive in
-      (kept_by old next k w.shown (ap (λ (d : Database). d.schema) now) it.0, it.1 ∙ ap₂ (λ l n. record (archive_of old) { messages = l; filings = n }) both.0 both.1)
+      (kept_by old next k w.shown (ap (λ (d : Database). d.schema) now) it.0, it.1 ∙ ap₂ (λ l n. record (archive_of old) { messages = l; index_columns = n }) both.0 both.1)
 
-  pub tries_to_add : (behind : Option Database) (old next : State) (r : Result ℕ Error) → IsHeld behind old → Executes add_text params_of old next r
-      → MatchResult r (λ _. list_any (is_message list key) (archive_of old).messages ≡ false → ChangesOver behind old next more) (λ _. RestsOver behind old next)
+  pub tries_to_add : (behind : Option Database) (old next : State) (r : Result ℕ Error) → IsOpenArchive behind old → Executes add_text params_of old next r
+      → MatchResult r (λ _. list_any (is_message_at_key list key) (archive_of old).messages ≡ false → ChangesArchive behind old next more) (λ _. FaultKeepsRowsOrRollsBack behind old next)
   tries_to_add behind old next (Ok count) k h = λ none. adds old next count k none h
   tries_to_add behind old next (Err e) k h = rests old next k (execute_fails old next add_text params_of e h)

@@ -37,13 +37,15 @@ use Rattle.sqlite_trees.proofs.ListLemmas.{map-map}
 use Rattle.sqlite_value.specs.Keys.{plain}
 use Rattle.sqlite_value.proofs.OrderLemmas.{value_cmp_total}
 use Rattle.std.proofs.lemmas.Cmp.{tied_itself}
-use Rattle.archive_machine.specs.Records.{ListOption, Archive}
-use Rattle.archive_machine.specs.Machine.{merging}
-use Rattle.archive_tables.specs.Schema.{schema_1, schema_2, archive_schema, schema_of, create_option, create_address, version_table, option_table, address_table}
-use Rattle.archive_tables.specs.Tables.{IsHeldAs, Since, Numbered, row_of, Holds, AreApart, ArePositive, AreTablesWith, newest_number, form_of, archive_by, version_rows}
-use Rattle.archive_tables.specs.Tables.{list_cells, list_read, person_cells, person_read, grant_cells, grant_read, message_read, filed_cells, filing_read, filed_read}
-use Rattle.archive_tables.specs.Tables.{option_cells, option_read, address_cells, address_read, same_grant, same_message, same_option, same_address}
-use Rattle.archive_tables.specs.Making.{IsWithin, IsMoving, IsMade}
+use Rattle.archive_model.specs.Records.{ListOption, Archive}
+use Rattle.archive_model.specs.Machine.{default_list_option}
+use Rattle.archive_tables.specs.Schema.{schema_1, schema_2, archive_schema, schema_of_version, create_option, create_address, version_table, option_table, address_table}
+use Rattle.archive_tables.specs.Tables.{IsOpenArchiveInFormat, HoldsSinceVersion, NumberedRecord, numbered_row, HoldsRecords, HaveDistinctKeys}
+use Rattle.archive_tables.specs.Tables.{HavePositiveRowids, AreTablesWithVersionRow, newest_version, format_of_version, archive_of_version, version_rows}
+use Rattle.archive_tables.specs.Tables.{list_cells, list_from_row, person_cells, person_from_row, grant_cells}
+use Rattle.archive_tables.specs.Tables.{grant_from_row, message_from_row, indexed_message_cells, index_columns_from_row, indexed_message_from_row}
+use Rattle.archive_tables.specs.Tables.{option_cells, option_from_row, address_cells, address_from_row, same_grant_key, same_message_key, same_option_key, same_address_key}
+use Rattle.archive_tables.specs.Making.{IsInTransactionWithSchema, IsMigratingTables, IsReadyToCommit}
 use Rattle.archive_tables.specs.declared.texts.schema.TheConstants.{VERSION}
 use Rattle.archive_tables.proofs.SchemaLemmas.{unplaced, option_is, address_is}
 use Rattle.archive_tables.proofs.RunLemmas.{passed, value_is, no_action, cast_null, cast_int}
@@ -62,35 +64,38 @@ record SameRows (old new : Trees) : Type 0 where
   grants : new 6 ≡ old 6
   messages : new 8 ≡ old 8
 
-module _ (said now_says : ℤ) (number next : ℕ) (old new : Trees) (k : AreTablesWith said number old) (same : SameRows old new) where
-  tables_after : new 0 ≡ version_rows now_says → Since 2 next (Holds option_cells option_read (new 13)) → Since 2 next (AreApart same_option (map option_read (new 13)))
-      → Since 3 next (Holds address_cells address_read (new 15)) → Since 3 next (AreApart same_address (map address_read (new 15))) → AreTablesWith now_says next new
-  tables_after version options options_apart addresses addresses_apart = record {
+module _ (said now_says : ℤ) (number next : ℕ) (old new : Trees) (k : AreTablesWithVersionRow said number old) (same : SameRows old new) where
+  tables_after : new 0 ≡ version_rows now_says → HoldsSinceVersion 2 next (HoldsRecords option_cells option_from_row (new 13))
+      → HoldsSinceVersion 2 next (HaveDistinctKeys same_option_key (map option_from_row (new 13)))
+      → HoldsSinceVersion 3 next (HoldsRecords address_cells address_from_row (new 15)) → HoldsSinceVersion 3 next (HaveDistinctKeys same_address_key (map address_from_row (new 15)))
+      → AreTablesWithVersionRow now_says next new
+  tables_after version options options_distinct addresses addresses_distinct = record {
     version = version;
-    lists = subst (Holds list_cells list_read) (sym same.lists) k.lists;
-    persons = subst (Holds person_cells person_read) (sym same.persons) k.persons;
-    grants = subst (Holds grant_cells grant_read) (sym same.grants) k.grants;
-    messages = subst (Holds filed_cells filed_read) (sym same.messages) k.messages;
-    grants_apart = subst (λ l. AreApart same_grant (map grant_read l)) (sym same.grants) k.grants_apart;
-    messages_apart = subst (λ l. AreApart same_message (map message_read l)) (sym same.messages) k.messages_apart;
-    positive = subst ArePositive (sym same.messages) k.positive;
+    lists = subst (HoldsRecords list_cells list_from_row) (sym same.lists) k.lists;
+    persons = subst (HoldsRecords person_cells person_from_row) (sym same.persons) k.persons;
+    grants = subst (HoldsRecords grant_cells grant_from_row) (sym same.grants) k.grants;
+    messages = subst (HoldsRecords indexed_message_cells indexed_message_from_row) (sym same.messages) k.messages;
+    grants_distinct = subst (λ l. HaveDistinctKeys same_grant_key (map grant_from_row l)) (sym same.grants) k.grants_distinct;
+    messages_distinct = subst (λ l. HaveDistinctKeys same_message_key (map message_from_row l)) (sym same.messages) k.messages_distinct;
+    positive = subst HavePositiveRowids (sym same.messages) k.positive;
     options = options;
-    options_apart = options_apart;
+    options_distinct = options_distinct;
     addresses = addresses;
-    addresses_apart = addresses_apart;
+    addresses_distinct = addresses_distinct;
   }
 
-  archive_after : (archive_by next new).options ≡ (archive_by number old).options → (archive_by next new).addresses ≡ (archive_by number old).addresses
-      → archive_by next new ≡ archive_by number old
-  archive_after options addresses = archive_same (archive_by next new) (archive_by number old) (ap (map list_read) same.lists) (ap (map person_read) same.persons) (ap (map grant_read) same.grants)
-      (ap (map message_read) same.messages) (ap (map filing_read) same.messages) options addresses
+  archive_after : (archive_of_version next new).options ≡ (archive_of_version number old).options → (archive_of_version next new).addresses ≡ (archive_of_version number old).addresses
+      → archive_of_version next new ≡ archive_of_version number old
+  archive_after options addresses = archive_same (archive_of_version next new) (archive_of_version number old) (ap (map list_from_row) same.lists) (ap (map person_from_row) same.persons)
+      (ap (map grant_from_row) same.grants)
+      (ap (map message_from_row) same.messages) (ap (map index_columns_from_row) same.messages) options addresses
 
 -- ---- a write within the transaction
 
-module _ {schema : Schema} {said : ℤ} {number : ℕ} {archive : Archive} {before : Database} (old new : State) (k : IsMoving old before schema said number archive)
+module _ {schema : Schema} {said : ℤ} {number : ℕ} {archive : Archive} {before : Database} (old new : State) (k : IsMigratingTables old before schema said number archive)
     (shown : Shows old new new.now (if old.in_transaction then old.committed else new.now) old.in_transaction) where
-  goes_on : (next_schema : Schema) (now_says : ℤ) (next : ℕ) → new.now.schema ≡ next_schema → AreTablesWith now_says next new.now.trees
-      → archive_by next new.now.trees ≡ archive_by number old.now.trees → IsMoving new before next_schema now_says next archive
+  goes_on : (next_schema : Schema) (now_says : ℤ) (next : ℕ) → new.now.schema ≡ next_schema → AreTablesWithVersionRow now_says next new.now.trees
+      → archive_of_version next new.now.trees ≡ archive_of_version number old.now.trees → IsMigratingTables new before next_schema now_says next archive
   goes_on next_schema now_says next schema_is tables same = record {
     is_open = shown.is_open;
     within = shown.mode ∙ k.within;
@@ -101,8 +106,8 @@ module _ {schema : Schema} {said : ℤ} {number : ℕ} {archive : Archive} {befo
   }
 
 -- the same, whatever the rows are
-stays_within : (old new : State) (before : Database) (schema next : Schema) → IsWithin old before schema
-    → Shows old new new.now (if old.in_transaction then old.committed else new.now) old.in_transaction → new.now.schema ≡ next → IsWithin new before next
+stays_within : (old new : State) (before : Database) (schema next : Schema) → IsInTransactionWithSchema old before schema
+    → Shows old new new.now (if old.in_transaction then old.committed else new.now) old.in_transaction → new.now.schema ≡ next → IsInTransactionWithSchema new before next
 stays_within old new before schema next k shown is = record {
   is_open = shown.is_open;
   within = shown.mode ∙ k.within;
@@ -120,8 +125,8 @@ pub begin_plain : (s : Schema) → IsPlain (understood s begin_text)
 unfolding understood everything
 begin_plain s = (refl, refl)
 
-pub begins_moving : (old new : State) (number count : ℕ) → IsHeldAs (form_of number) None old → Executes begin_text [] old new (Ok count)
-    → IsMoving new old.now (schema_of number) (pos number) number (archive_by number old.now.trees)
+pub begins_moving : (old new : State) (number count : ℕ) → IsOpenArchiveInFormat (format_of_version number) None old → Executes begin_text [] old new (Ok count)
+    → IsMigratingTables new old.now (schema_of_version number) (pos number) number (archive_of_version number old.now.trees)
 begins_moving old new number count k h =
     let ran = runs_as begin_text [] old new old.now.schema refl Begin (begin_is old.now.schema) (begin_plain old.now.schema) count h in
     record {
@@ -129,11 +134,11 @@ begins_moving old new number count k h =
       within = ran.1.mode;
       behind = ran.1.committed_is ∙ k.settled;
       schema_is = ap (λ (d : Database). d.schema) ran.1.now_is ∙ k.schema;
-      tables = subst (λ (d : Database). AreTablesWith (pos number) number d.trees) (sym ran.1.now_is) k.tables;
-      remembers = ap (λ (d : Database). archive_by number d.trees) ran.1.now_is;
+      tables = subst (λ (d : Database). AreTablesWithVersionRow (pos number) number d.trees) (sym ran.1.now_is) k.tables;
+      remembers = ap (λ (d : Database). archive_of_version number d.trees) ran.1.now_is;
     }
 
-pub begins_within : (old new : State) (count : ℕ) → Executes begin_text [] old new (Ok count) → IsWithin new old.committed old.now.schema
+pub begins_within : (old new : State) (count : ℕ) → Executes begin_text [] old new (Ok count) → IsInTransactionWithSchema new old.committed old.now.schema
 begins_within old new count h =
     let ran = runs_as begin_text [] old new old.now.schema refl Begin (begin_is old.now.schema) (begin_plain old.now.schema) count h in
     record {
@@ -146,18 +151,18 @@ begins_within old new count h =
 -- ---- CREATE over tables that hold rows
 
 module _ (old new : State) (before : Database) (said : ℤ) (archive : Archive) (count : ℕ) where
-  pub moves_option : IsMoving old before schema_1 said 1 archive → Executes create_option [] old new (Ok count)
-      → IsMoving new before schema_2 said 1 archive × (new.now.trees 13 ≡ [])
+  pub moves_option : IsMigratingTables old before schema_1 said 1 archive → Executes create_option [] old new (Ok count)
+      → IsMigratingTables new before schema_2 said 1 archive × (new.now.trees 13 ≡ [])
   moves_option k h =
       let w = ran schema_1 create_option (unplaced option_table) option_text_is.0 option_text_is.1 option_plain option_is old new k.schema_is count h in
       let made = table_made schema_1 create_option (unplaced option_table) option_text_is.0 option_text_is.1 option_plain option_is old new k.schema_is count h option_alone.0 in
       let rows = made.others in
       let same : SameRows old.now.trees new.now.trees = record { lists = rows.1.0; persons = rows.1.1.0; grants = rows.1.1.1.0; messages = rows.1.1.1.1.0 } in
       let tables = tables_after said said 1 1 old.now.trees new.now.trees k.tables same (rows.0 ∙ k.tables.version) tt tt tt tt in
-      let archives = archive_after said said 1 1 old.now.trees new.now.trees k.tables same (ap (λ l. map merging (map list_read l)) same.lists) refl in
+      let archives = archive_after said said 1 1 old.now.trees new.now.trees k.tables same (ap (λ l. map default_list_option (map list_from_row l)) same.lists) refl in
       (goes_on old new k w.shown schema_2 said 1 (made.schema ∙ option_alone.1) tables archives, made.empty)
 
-  pub moves_address : IsMoving old before schema_2 said 2 archive → Executes create_address [] old new (Ok count) → IsMoving new before archive_schema said newest_number archive
+  pub moves_address : IsMigratingTables old before schema_2 said 2 archive → Executes create_address [] old new (Ok count) → IsMigratingTables new before archive_schema said newest_version archive
   moves_address k h =
       let w = ran schema_2 create_address (unplaced address_table) address_text_is.0 address_text_is.1 address_plain address_is old new k.schema_is count h in
       let made = table_made schema_2 create_address (unplaced address_table) address_text_is.0 address_text_is.1 address_plain address_is old new k.schema_is count h address_alone.0 in
@@ -166,19 +171,20 @@ module _ (old new : State) (before : Database) (said : ℤ) (archive : Archive) 
       let options = rows.1.1.1.1.1.1.0 in
       let empty : new.now.trees 15 ≡ [] = made.empty in
       let tables = tables_after said said 2 3 old.now.trees new.now.trees k.tables same (rows.0 ∙ k.tables.version)
-      (subst (Holds option_cells option_read) (sym options) k.tables.options) (subst (λ l. AreApart same_option (map option_read l)) (sym options) k.tables.options_apart)
-      (subst (Holds address_cells address_read) (sym empty) (record { coded = refl; rise = tt })) (subst (λ l. AreApart same_address (map address_read l)) (sym empty) tt) in
-      let archives = archive_after said said 2 3 old.now.trees new.now.trees k.tables same (ap (map option_read) options) (ap (map address_read) empty) in
-      goes_on old new k w.shown archive_schema said newest_number (made.schema ∙ address_alone.1) tables archives
+      (subst (HoldsRecords option_cells option_from_row) (sym options) k.tables.options) (subst (λ l. HaveDistinctKeys same_option_key (map option_from_row l)) (sym options) k.tables.options_distinct)
+      (subst (HoldsRecords address_cells address_from_row) (sym empty) (record { round_trips = refl; rise = tt }))
+      (subst (λ l. HaveDistinctKeys same_address_key (map address_from_row l)) (sym empty) tt) in
+      let archives = archive_after said said 2 3 old.now.trees new.now.trees k.tables same (ap (map option_from_row) options) (ap (map address_from_row) empty) in
+      goes_on old new k w.shown archive_schema said newest_version (made.schema ∙ address_alone.1) tables archives
 
 module _ (old new : State) (before : Database) (count : ℕ) where
-  pub option_within : IsWithin old before schema_1 → Executes create_option [] old new (Ok count) → IsWithin new before schema_2
+  pub option_within : IsInTransactionWithSchema old before schema_1 → Executes create_option [] old new (Ok count) → IsInTransactionWithSchema new before schema_2
   option_within k h =
       let w = ran schema_1 create_option (unplaced option_table) option_text_is.0 option_text_is.1 option_plain option_is old new k.schema_is count h in
       let made = table_made schema_1 create_option (unplaced option_table) option_text_is.0 option_text_is.1 option_plain option_is old new k.schema_is count h option_alone.0 in
       stays_within old new before schema_1 schema_2 k w.shown (made.schema ∙ option_alone.1)
 
-  pub address_within : IsWithin old before schema_2 → Executes create_address [] old new (Ok count) → IsWithin new before archive_schema
+  pub address_within : IsInTransactionWithSchema old before schema_2 → Executes create_address [] old new (Ok count) → IsInTransactionWithSchema new before archive_schema
   address_within k h =
       let w = ran schema_2 create_address (unplaced address_table) address_text_is.0 address_text_is.1 address_plain address_is old new k.schema_is count h in
       let made = table_made schema_2 create_address (unplaced address_table) address_text_is.0 address_text_is.1 address_plain address_is old new k.schema_is count h address_alone.0 in
@@ -194,12 +200,12 @@ abbrev put : {R : Type 0} → (R → Row) → List Row → List R → List Row
 put cells rows rs = put_all rows (numbered Chosen rows (unnumbered cells rs))
 
 module _ {R : Type 0} (cells : R → Row) (read : Row → R) (back : (n : ℤ) (r : R) → read (Int n ∷ cells r) ≡ r) where
-  all_put : (rows : List Row) (rs : List R) → Holds cells read rows → Holds cells read (put cells rows rs) × (map read (put cells rows rs) ≡ map read rows ++ rs)
+  all_put : (rows : List Row) (rs : List R) → HoldsRecords cells read rows → HoldsRecords cells read (put cells rows rs) × (map read (put cells rows rs) ≡ map read rows ++ rs)
   all_put rows [] k = (k, sym (append-nil (map read rows)))
   all_put rows (r ∷ rs) k =
-      let new : Numbered R = record { number = next_rowid rows; it = r } in
+      let new : NumberedRecord R = record { number = next_rowid rows; it = r } in
       let one = put_past cells read back rows new (inl refl) k in
-      let rest = all_put (put_row (row_of cells new) rows) rs one.0 in
+      let rest = all_put (put_row (numbered_row cells new) rows) rs one.0 in
       (rest.0, rest.1 ∙ ap (λ (l : List R). l ++ rs) one.1 ∙ append_assoc (map read rows) (r ∷ []) rs)
 
 abbrev pub copy_text : List ℕ
@@ -236,27 +242,27 @@ copy_picks trees rows a =
 abbrev copied : List (List ℕ) → List Row
 copied names = map (λ name. Null ∷ Text name ∷ Int (pos 1) ∷ []) names
 
-cast_copied : (names : List (List ℕ)) → map (λ s. cast_row option_table s) (copied names) ≡ unnumbered option_cells (map merging names)
+cast_copied : (names : List (List ℕ)) → map (λ s. cast_row option_table s) (copied names) ≡ unnumbered option_cells (map default_list_option names)
 cast_copied [] = refl
 cast_copied (name ∷ names) =
     ap₂ (λ (v : Value) (l : List Row). (cast Integer Null ∷ Text name ∷ v ∷ []) ∷ l) (cast_int (pos 1)) (cast_copied names)
-    ∙ ap (λ (v : Value). (v ∷ Text name ∷ Int (pos 1) ∷ []) ∷ unnumbered option_cells (map merging names)) cast_null
+    ∙ ap (λ (v : Value). (v ∷ Text name ∷ Int (pos 1) ∷ []) ∷ unnumbered option_cells (map default_list_option names)) cast_null
 
-puts : (db : Trees) (names : List (List ℕ)) → edited db (edit_of db option_table [] Chosen 0 (copied names)) ≡ put option_cells (db 13) (map merging names)
+puts : (db : Trees) (names : List (List ℕ)) → edited db (edit_of db option_table [] Chosen 0 (copied names)) ≡ put option_cells (db 13) (map default_list_option names)
 puts db names = ap (λ (news : List Row). put_all (db 13) (numbered Chosen (db 13) news)) (cast_copied names)
 
 -- the rows of the lists, each with merge on
-copied_of : (rows picked : List Row) → Holds list_cells list_read rows → Picks (plain_query 1 [] copied_cells by_number) [] rows picked → picked ≡ copied (map list_read rows)
+copied_of : (rows picked : List Row) → HoldsRecords list_cells list_from_row rows → Picks (plain_query 1 [] copied_cells by_number) [] rows picked → picked ≡ copied (map list_from_row rows)
 copied_of rows picked k it =
-    shows 1 [] copied_cells [] list_cells list_read (λ n r. refl) (λ _. true) (λ n r. refl) (λ name. Null ∷ Text name ∷ Int (pos 1) ∷ []) (λ n r. refl) rows picked k it
-    ∙ ap copied (each_kept (map list_read rows))
+    shows 1 [] copied_cells [] list_cells list_from_row (λ n r. refl) (λ _. true) (λ n r. refl) (λ name. Null ∷ Text name ∷ Int (pos 1) ∷ []) (λ n r. refl) rows picked k it
+    ∙ ap copied (each_kept (map list_from_row rows))
   where
     each_kept : (names : List (List ℕ)) → filter (λ _. true) names ≡ names
     each_kept [] = refl
     each_kept (name ∷ names) = ap (λ l. name ∷ l) (each_kept names)
 
 module _ (old new : State) (before : Database) (said : ℤ) (archive : Archive) (count : ℕ) where
-  pub copies : IsMoving old before schema_2 said 1 archive → old.now.trees 13 ≡ [] → Executes copy_text [] old new (Ok count) → IsMoving new before schema_2 said 2 archive
+  pub copies : IsMigratingTables old before schema_2 said 1 archive → old.now.trees 13 ≡ [] → Executes copy_text [] old new (Ok count) → IsMigratingTables new before schema_2 said 2 archive
   copies k empty h =
       let db = old.now.trees in
       let command = Insert 6 (Queried (record { lets = []; body = copy_query })) in
@@ -271,15 +277,15 @@ module _ (old new : State) (before : Database) (said : ℤ) (archive : Archive) 
       let applied = one_step schema_2 _ db written.0 edit (no_action_2 13 (taken_by db edit) edit.news) written.1 in
       let trees : new.now.trees ≡ written.0 =
       ap (λ (d : Database). d.trees) now ∙ ap (λ (it : Written). it.trees) (value_is counted.2) ∙ value_is counted.1 in
-      let names = map list_read (db 1) in
+      let names = map list_from_row (db 1) in
       let from : given.0 ≡ copied names = copied_of (db 1) given.0 k.tables.lists (copy_picks (overlay db []) given.0 (given.1.answer Null)) in
-      let made : edited db edit ≡ put option_cells [] (map merging names) =
-      ap (λ rows. edited db (edit_of db option_table [] Chosen 0 rows)) from ∙ puts db names ∙ ap (λ rows. put option_cells rows (map merging names)) empty in
-      let here : written.0 13 ≡ put option_cells [] (map merging names) = applied.rows ∙ made in
-      let rows : new.now.trees 13 ≡ put option_cells [] (map merging names) = ap (λ (t : Trees). t 13) trees ∙ here in
-      let all = all_put option_cells option_read option_back [] (map merging names) (record { coded = refl; rise = tt }) in
+      let made : edited db edit ≡ put option_cells [] (map default_list_option names) =
+      ap (λ rows. edited db (edit_of db option_table [] Chosen 0 rows)) from ∙ puts db names ∙ ap (λ rows. put option_cells rows (map default_list_option names)) empty in
+      let here : written.0 13 ≡ put option_cells [] (map default_list_option names) = applied.rows ∙ made in
+      let rows : new.now.trees 13 ≡ put option_cells [] (map default_list_option names) = ap (λ (t : Trees). t 13) trees ∙ here in
+      let all = all_put option_cells option_from_row option_back [] (map default_list_option names) (record { round_trips = refl; rise = tt }) in
       let keyed = one_option_a_list_2 written.0 (applied.fits.rules Unique is_no_foreign_key) in
-      let apart = apart_by_key option_cells (λ (x : ListOption). x.list) list_of_option option_read option_back _ all.0
+      let apart = apart_by_key option_cells (λ (x : ListOption). x.list) list_of_option option_from_row option_back _ all.0
       (subst (λ l. AllByRecursion (λ row. clashes plain (1 ∷ []) l row ≡ false) l) here keyed) in
       let stay = applied.tables in
       let same : SameRows db written.0 = record {
@@ -289,12 +295,13 @@ module _ (old new : State) (before : Database) (said : ℤ) (archive : Archive) 
         messages = stay.1.1.1.1.0 (λ e. omega (arith, e));
       } in
       let tables = tables_after said said 1 2 db written.0 k.tables same (stay.0 (λ e. omega (arith, e)) ∙ k.tables.version)
-      (subst (Holds option_cells option_read) (sym here) all.0) (subst (λ l. AreApart same_option (map option_read l)) (sym here) apart) tt tt in
-      let archives = archive_after said said 1 2 db written.0 k.tables same (ap (map option_read) here ∙ all.1) refl in
-      goes_on old new k w.shown schema_2 said 2 (ap (λ (d : Database). d.schema) now ∙ refl) (subst (AreTablesWith said 2) (sym trees) tables)
-      (subst (λ t. archive_by 2 t ≡ archive_by 1 db) (sym trees) archives)
+      (subst (HoldsRecords option_cells option_from_row) (sym here) all.0) (subst (λ l. HaveDistinctKeys same_option_key (map option_from_row l)) (sym here) apart) tt tt in
+      let archives = archive_after said said 1 2 db written.0 k.tables same (ap (map option_from_row) here ∙ all.1) refl in
+      goes_on old new k w.shown schema_2 said 2 (ap (λ (d : Database). d.schema) now ∙ refl) (subst (AreTablesWithVersionRow said 2) (sym trees) tables)
+      (subst (λ t. archive_of_version 2 t ≡ archive_of_version 1 db) (sym trees) archives)
 
-pub copy_within : (old new : State) (before : Database) (count : ℕ) → IsWithin old before schema_2 → Executes copy_text [] old new (Ok count) → IsWithin new before schema_2
+pub copy_within : (old new : State) (before : Database) (count : ℕ) → IsInTransactionWithSchema old before schema_2 → Executes copy_text [] old new (Ok count)
+    → IsInTransactionWithSchema new before schema_2
 copy_within old new before count k h =
     let command = Insert 6 (Queried (record { lets = []; body = copy_query })) in
     let w = runs_as copy_text [] old new schema_2 k.schema_is command copy_is copy_plain count h in
@@ -324,7 +331,7 @@ says : (db : Trees) (said : ℤ) (given : List Row) → db 0 ≡ version_rows sa
 says db said given was from = rw (from, was, cast_int (pos 1), cast_int VERSION, tied_itself value_cmp_total (Int (pos 1)))
 
 module _ (old new : State) (before : Database) (said : ℤ) (archive : Archive) (count : ℕ) where
-  pub moves_version : IsMoving old before archive_schema said newest_number archive → Executes number_text (Int VERSION ∷ []) old new (Ok count) → IsMade new before archive
+  pub moves_version : IsMigratingTables old before archive_schema said newest_version archive → Executes number_text (Int VERSION ∷ []) old new (Ok count) → IsReadyToCommit new before archive
   moves_version k h =
       let params = Int VERSION ∷ [] in
       let query = plain_query 0 [] changed_cells [] in
@@ -352,14 +359,15 @@ module _ (old new : State) (before : Database) (said : ℤ) (archive : Archive) 
       let options = same_rows.options (λ e. omega (arith, e)) in
       let addresses = same_rows.addresses (λ e. omega (arith, e)) in
       let tables = tables_after said VERSION 3 3 db written.0 k.tables same (applied.rows ∙ says db said queried.0 k.tables.version given)
-      (subst (Holds option_cells option_read) (sym options) k.tables.options) (subst (λ l. AreApart same_option (map option_read l)) (sym options) k.tables.options_apart)
-      (subst (Holds address_cells address_read) (sym addresses) k.tables.addresses) (subst (λ l. AreApart same_address (map address_read l)) (sym addresses) k.tables.addresses_apart) in
-      let archives = archive_after said VERSION 3 3 db written.0 k.tables same (ap (map option_read) options) (ap (map address_read) addresses) in
-      goes_on old new k w.shown archive_schema VERSION newest_number (ap (λ (d : Database). d.schema) now ∙ refl) (subst (AreTablesWith VERSION 3) (sym trees) tables)
-      (subst (λ t. archive_by 3 t ≡ archive_by 3 db) (sym trees) archives)
+      (subst (HoldsRecords option_cells option_from_row) (sym options) k.tables.options) (subst (λ l. HaveDistinctKeys same_option_key (map option_from_row l)) (sym options) k.tables.options_distinct)
+      (subst (HoldsRecords address_cells address_from_row) (sym addresses) k.tables.addresses)
+      (subst (λ l. HaveDistinctKeys same_address_key (map address_from_row l)) (sym addresses) k.tables.addresses_distinct) in
+      let archives = archive_after said VERSION 3 3 db written.0 k.tables same (ap (map option_from_row) options) (ap (map address_from_row) addresses) in
+      goes_on old new k w.shown archive_schema VERSION newest_version (ap (λ (d : Database). d.schema) now ∙ refl) (subst (AreTablesWithVersionRow VERSION 3) (sym trees) tables)
+      (subst (λ t. archive_of_version 3 t ≡ archive_of_version 3 db) (sym trees) archives)
 
-pub number_within : (old new : State) (before : Database) (count : ℕ) → IsWithin old before archive_schema → Executes number_text (Int VERSION ∷ []) old new (Ok count)
-    → IsWithin new before archive_schema
+pub number_within : (old new : State) (before : Database) (count : ℕ) → IsInTransactionWithSchema old before archive_schema → Executes number_text (Int VERSION ∷ []) old new (Ok count)
+    → IsInTransactionWithSchema new before archive_schema
 number_within old new before count k h =
     let params = Int VERSION ∷ [] in
     let command = Update 0 (record { lets = []; body = plain_query 0 [] changed_cells [] }) in

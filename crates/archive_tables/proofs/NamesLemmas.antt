@@ -25,9 +25,9 @@ use Rattle.sqlite_value.specs.Keys.{ascending}
 use Rattle.sqlite_value.proofs.OrderLemmas.{value_cmp-Text}
 use Rattle.sqlite_trees.proofs.ListLemmas.{all-permutation}
 use Rattle.archive_tables.specs.Schema.{archive_schema}
-use Rattle.archive_tables.specs.Tables.{IsHeld, Numbered, row_of, read_of, list_cells, list_read, archive_of}
-use Rattle.archive_tables.specs.Rows.{name_shown}
-use Rattle.archive_tables.specs.Calls.{StaysOver, RestsOver, IsCaused}
+use Rattle.archive_tables.specs.Tables.{IsOpenArchive, NumberedRecord, numbered_row, numbered_from_row, list_cells, list_from_row, archive_of}
+use Rattle.archive_tables.specs.Rows.{name_result_row}
+use Rattle.archive_tables.specs.Calls.{LeavesRowsUnchanged, FaultKeepsRowsOrRollsBack, IsMemoryOrDiskError}
 use Rattle.archive_tables.proofs.RowLemmas.{records_are}
 use Rattle.archive_tables.proofs.SelectLemmas.{plain_query, env_of, passes, all_pass, asked, asked_stays, refused_rests}
 use Rattle.archive_tables.proofs.CauseLemmas.{Fits, question_fails_by}
@@ -63,7 +63,7 @@ names_typed = refl
 
 -- a name, as it is sorted by and as it is shown
 abbrev both : List ℕ → Output
-both name = (Text name ∷ [], name_shown name)
+both name = (Text name ∷ [], name_result_row name)
 
 abbrev name_of : Output → List ℕ
 name_of o = bytes (column o.1 0)
@@ -71,7 +71,7 @@ name_of o = bytes (column o.1 0)
 abbrev IsBoth : Output → Type 0
 IsBoth o = o ≡ both (name_of o)
 
-shown_all : (all : List (Numbered (List ℕ))) → map (λ row. output query (env_of [] row)) (map (row_of list_cells) all) ≡ map both (map (λ (r : Numbered (List ℕ)). r.it) all)
+shown_all : (all : List (NumberedRecord (List ℕ))) → map (λ row. output query (env_of [] row)) (map (numbered_row list_cells) all) ≡ map both (map (λ (r : NumberedRecord (List ℕ)). r.it) all)
 shown_all [] = refl
 shown_all (r ∷ all) = ap (λ l. both r.it ∷ l) (shown_all all)
 
@@ -87,9 +87,9 @@ are_both : (outs : List Output) → AllByRecursion IsBoth outs → outs ≡ map 
 are_both [] all = refl
 are_both (o ∷ outs) all = ap₂ ◌∷◌ all.0 (are_both outs all.1)
 
-shown_both : (names : List (List ℕ)) → map (λ (o : Output). o.1) (map both names) ≡ map name_shown names
+shown_both : (names : List (List ℕ)) → map (λ (o : Output). o.1) (map both names) ≡ map name_result_row names
 shown_both [] = refl
-shown_both (name ∷ names) = ap (λ l. name_shown name ∷ l) (shown_both names)
+shown_both (name ∷ names) = ap (λ l. name_result_row name ∷ l) (shown_both names)
 
 -- ---- the order
 
@@ -109,16 +109,16 @@ sorted_names names sorted at d from within =
     let second = get_or-map both names at d (both d) (omega (arith, within)) in
     ap is_lt (sym (by_bytes (get_or names (at + 1) d) (get_or names at d)) ∙ ap₂ (output_cmp query) (sym first) (sym second)) ∙ less
 
-module _ (old new : State) {behind : Option Database} (k : IsHeld behind old) where
+module _ (old new : State) {behind : Option Database} (k : IsOpenArchive behind old) where
   pub names_found : (rows : List Row) → Shown names_text [] old new rows
-      → ((names : List (List ℕ)) × (rows ≡ map name_shown names) × IsPermutation (archive_of old).lists names × IsSorted (slice_cmp nat_cmp) names) × StaysOver behind old new
+      → ((names : List (List ℕ)) × (rows ≡ map name_result_row names) × IsPermutation (archive_of old).lists names × IsSorted (slice_cmp nat_cmp) names) × LeavesRowsUnchanged behind old new
   names_found rows h =
       let picks = asked names_text 1 [] the_name by_name _ names_is.0 names_plain names_is.1 (λ t. refl) [] old new k rows h in
       let table = old.now.trees 1 in
-      let all = map (read_of list_read) table in
-      let its = records_are list_cells list_read (λ n r. refl) table k.tables.lists in
+      let all = map (numbered_from_row list_from_row) table in
+      let its = records_are list_cells list_from_row (λ n r. refl) table k.tables.lists in
       let start : map (λ row. output query (env_of [] row)) (filter (passes [] []) table) ≡ map both (archive_of old).lists =
-      ap (map (λ row. output query (env_of [] row))) (all_pass [] table ∙ k.tables.lists.coded) ∙ shown_all all ∙ ap (map both) (sym its) in
+      ap (map (λ row. output query (env_of [] row))) (all_pass [] table ∙ k.tables.lists.round_trips) ∙ shown_all all ∙ ap (map both) (sym its) in
       let same = subst (λ l. IsPermutation l picks.ordered) start picks.same in
       let names = map name_of picks.ordered in
       let ordered = are_both picks.ordered (all-permutation IsBoth (map both (archive_of old).lists) picks.ordered same (all_both (archive_of old).lists)) in (
@@ -131,8 +131,8 @@ module _ (old new : State) {behind : Option Database} (k : IsHeld behind old) wh
         asked_stays names_text 1 [] the_name by_name _ names_is.0 names_plain names_is.1 (λ t. refl) [] old new k rows h,
       )
 
-  pub names_not_found : (e : Error) → FailsToQuery names_text [] old new e → RestsOver behind old new
+  pub names_not_found : (e : Error) → FailsToQuery names_text [] old new e → FaultKeepsRowsOrRollsBack behind old new
   names_not_found e h = refused_rests names_text 1 [] the_name by_name _ names_is.0 names_plain names_is.1 (λ t. refl) [] old new k e h
 
-  pub names_not_found_caused : (e : Error) → FailsToQuery names_text [] old new e → old.step_limit ≡ None → IsCaused old new e
+  pub names_not_found_caused : (e : Error) → FailsToQuery names_text [] old new e → old.step_limit ≡ None → IsMemoryOrDiskError old new e
   names_not_found_caused e h free = question_fails_by names_text 1 [] the_name by_name _ names_is.0 names_plain names_is.1 [] names_fit names_typed old new k free e h

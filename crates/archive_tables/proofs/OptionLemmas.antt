@@ -27,13 +27,13 @@ use Rattle.sqlite_schema.specs.Rules.{clashes}
 use Rattle.sqlite_value.specs.Keys.{plain}
 use Rattle.sqlite_sql.specs.declared.ops.BinaryOp.TheVariants.{Compare}
 use Rattle.sqlite_sql.specs.declared.ops.CompareOp.TheVariants.{Eq}
-use Rattle.archive_machine.specs.Records.{ListOption}
-use Rattle.archive_machine.specs.Questions.{is_option_of}
-use Rattle.archive_machine.specs.Machine.{with_merge}
+use Rattle.archive_model.specs.Records.{ListOption}
+use Rattle.archive_model.specs.Questions.{is_option_of}
+use Rattle.archive_model.specs.Machine.{with_merge_setting}
 use Rattle.archive_tables.specs.Schema.{archive_schema, option_table}
-use Rattle.archive_tables.specs.Tables.{IsHeld, Numbered, row_of, option_cells, option_read, merge_number, archive_of, same_option, AreApart}
-use Rattle.archive_tables.specs.Rows.{merge_shown}
-use Rattle.archive_tables.specs.Calls.{ChangesOver, StaysOver, RestsOver, IsCaused}
+use Rattle.archive_tables.specs.Tables.{IsOpenArchive, NumberedRecord, numbered_row, option_cells, option_from_row, merge_flag, archive_of, same_option_key, HaveDistinctKeys}
+use Rattle.archive_tables.specs.Rows.{merge_result_row}
+use Rattle.archive_tables.specs.Calls.{ChangesArchive, LeavesRowsUnchanged, FaultKeepsRowsOrRollsBack, IsMemoryOrDiskError}
 use Rattle.archive_tables.proofs.RunLemmas.{passed, value_is, no_action, cast_null, cast_int, kept_by, rests, execute_fails}
 use Rattle.archive_tables.proofs.RowLemmas.{put_past}
 use Rattle.archive_tables.proofs.TableLemmas.{SameBut, same_but, options_change}
@@ -43,18 +43,18 @@ use Rattle.archive_tables.proofs.SelectLemmas.{plain_query, by_number, passes, p
 use Rattle.archive_tables.proofs.CauseLemmas.{Fits, question_fails_by}
 use Rattle.sqlite_typing.specs.Types.{accepts_program}
 
-pub option_back : (n : ℤ) (o : ListOption) → option_read (Int n ∷ option_cells o) ≡ o
-option_back n o = elim o.merge as (λ b. option_read (Int n ∷ option_cells (record { list = o.list; merge = b })) ≡ record { list = o.list; merge = b }) [ true ↦ refl | false ↦ refl ]
+pub option_back : (n : ℤ) (o : ListOption) → option_from_row (Int n ∷ option_cells o) ≡ o
+option_back n o = elim o.merge as (λ b. option_from_row (Int n ∷ option_cells (record { list = o.list; merge = b })) ≡ record { list = o.list; merge = b }) [ true ↦ refl | false ↦ refl ]
 
 -- the number as a parameter holds it
-pub number_is : (merge : Bool) → cast_signed w64 (cast_unsigned w64 (merge_number merge)) ≡ merge_number merge
+pub number_is : (merge : Bool) → cast_signed w64 (cast_unsigned w64 (merge_flag merge)) ≡ merge_flag merge
 number_is true = refl
 number_is false = refl
 
 pub list_of_option : (n : ℤ) (o : ListOption) → column (Int n ∷ option_cells o) 1 ≡ Text o.list
 list_of_option n o = refl
 
-alike : (list : List ℕ) (a b : ListOption) → is_option_of list a ≡ true → same_option a b ≡ is_option_of list b
+alike : (list : List ℕ) (a b : ListOption) → is_option_of list a ≡ true → same_option_key a b ≡ is_option_of list b
 alike list a b found = ap (bytes_eq b.list) (equal_words a.list list found)
 
 abbrev of_list : List Term
@@ -79,15 +79,15 @@ add_plain : IsPlain (understood archive_schema add_text)
 unfolding understood everything
 add_plain = (refl, refl)
 
-abbrev fresh : Trees → ListOption → Numbered ListOption
+abbrev fresh : Trees → ListOption → NumberedRecord ListOption
 fresh db o = record { number = next_rowid (db 13); it = o }
 
 adding : (db : Trees) (o : ListOption) (given : List Row) → given ≡ (Null ∷ option_cells o) ∷ []
-    → edited db (edit_of db option_table [] Chosen 0 given) ≡ put_row (row_of option_cells (fresh db o)) (db 13)
-adding db o given from = rw (from, cast_null, cast_int (merge_number o.merge))
+    → edited db (edit_of db option_table [] Chosen 0 given) ≡ put_row (numbered_row option_cells (fresh db o)) (db 13)
+adding db o given from = rw (from, cast_null, cast_int (merge_flag o.merge))
 
-adds : {behind : Option Database} (old new : State) (o : ListOption) (count : ℕ) → IsHeld behind old → Executes add_text (option_cells o) old new (Ok count)
-    → ChangesOver behind old new (λ a. record a { options = a.options ++ o ∷ [] })
+adds : {behind : Option Database} (old new : State) (o : ListOption) (count : ℕ) → IsOpenArchive behind old → Executes add_text (option_cells o) old new (Ok count)
+    → ChangesArchive behind old new (λ a. record a { options = a.options ++ o ∷ [] })
 adds old new o count k h =
     let params = option_cells o in
     let db = old.now.trees in
@@ -103,18 +103,18 @@ adds old new o count k h =
     let applied = one_step archive_schema _ db written.0 edit (no_action 13 (taken_by db edit) edit.news) written.1 in
     let trees : new.now.trees ≡ written.0 =
     ap (λ (d : Database). d.trees) now ∙ ap (λ (it : Written). it.trees) (value_is counted.2) ∙ value_is counted.1 in
-    let put = put_past option_cells option_read option_back (db 13) (fresh db o) (inl refl) k.tables.options in
-    let rows : new.now.trees 13 ≡ put_row (row_of option_cells (fresh db o)) (db 13) = ap (λ (t : Trees). t 13) trees ∙ applied.rows ∙ adding db o given.0 given.1.1 in
+    let put = put_past option_cells option_from_row option_back (db 13) (fresh db o) (inl refl) k.tables.options in
+    let rows : new.now.trees 13 ≡ put_row (numbered_row option_cells (fresh db o)) (db 13) = ap (λ (t : Trees). t 13) trees ∙ applied.rows ∙ adding db o given.0 given.1.1 in
     let same = subst (SameBut 13 db) (sym trees) (same_but 13 db written.0 applied.tables) in
-    let here : written.0 13 ≡ put_row (row_of option_cells (fresh db o)) (db 13) = ap (λ (t : Trees). t 13) (sym trees) ∙ rows in
+    let here : written.0 13 ≡ put_row (numbered_row option_cells (fresh db o)) (db 13) = ap (λ (t : Trees). t 13) (sym trees) ∙ rows in
     let keyed = one_option_a_list written.0 (applied.fits.rules Unique is_no_foreign_key) in
-    let apart = apart_by_key option_cells (λ (x : ListOption). x.list) list_of_option option_read option_back _ put.0
+    let apart = apart_by_key option_cells (λ (x : ListOption). x.list) list_of_option option_from_row option_back _ put.0
     (subst (λ l. AllByRecursion (λ row. clashes plain (1 ∷ []) l row ≡ false) l) here keyed) in
     let it = options_change db new.now.trees k.tables same _ rows put.0 apart in
     (kept_by old new k w.shown (ap (λ (d : Database). d.schema) now) it.0, it.1 ∙ ap (λ l. record (archive_of old) { options = l }) put.1)
 
-pub tries_to_add : (behind : Option Database) (old new : State) (o : ListOption) (r : Result ℕ Error) → IsHeld behind old → Executes add_text (option_cells o) old new r
-    → MatchResult r (λ _. ChangesOver behind old new (λ a. record a { options = a.options ++ o ∷ [] })) (λ _. RestsOver behind old new)
+pub tries_to_add : (behind : Option Database) (old new : State) (o : ListOption) (r : Result ℕ Error) → IsOpenArchive behind old → Executes add_text (option_cells o) old new r
+    → MatchResult r (λ _. ChangesArchive behind old new (λ a. record a { options = a.options ++ o ∷ [] })) (λ _. FaultKeepsRowsOrRollsBack behind old new)
 tries_to_add behind old new o (Ok count) k h = adds old new o count k h
 tries_to_add behind old new o (Err e) k h = rests old new k (execute_fails old new add_text (option_cells o) e h)
 
@@ -166,23 +166,23 @@ module _ (list : List ℕ) where
     said o = record o { merge = merge }
 
     abbrev change : ListOption → ListOption
-    change = with_merge list merge
+    change = with_merge_setting list merge
 
     abbrev change_params : Row
-    change_params = Text list ∷ Int (merge_number merge) ∷ []
+    change_params = Text list ∷ Int (merge_flag merge) ∷ []
 
-    keeps : (a b : ListOption) → same_option (change a) (change b) ≡ same_option a b
+    keeps : (a b : ListOption) → same_option_key (change a) (change b) ≡ same_option_key a b
     keeps a b = ap₂ bytes_eq (same_list b) (same_list a)
       where
         same_list : (o : ListOption) → (change o).list ≡ o.list
         same_list o = elim (is_option_of list o) as (λ c. (cond c (said o) o).list ≡ o.list) [ true ↦ refl | false ↦ refl ]
 
-    puts : (db : Trees) (r : Numbered ListOption) (given : List Row) → given ≡ (Int r.number ∷ Int r.number ∷ Text r.it.list ∷ Int (merge_number merge) ∷ []) ∷ []
-        → edited db (edit_of db option_table (ids_of given) Given 1 given) ≡ put_row (row_of option_cells (record r { it = said r.it })) (without_rowid r.number (db 13))
-    puts db r given from = rw (from, cast_int r.number, cast_int (merge_number merge))
+    puts : (db : Trees) (r : NumberedRecord ListOption) (given : List Row) → given ≡ (Int r.number ∷ Int r.number ∷ Text r.it.list ∷ Int (merge_flag merge) ∷ []) ∷ []
+        → edited db (edit_of db option_table (ids_of given) Given 1 given) ≡ put_row (numbered_row option_cells (record r { it = said r.it })) (without_rowid r.number (db 13))
+    puts db r given from = rw (from, cast_int r.number, cast_int (merge_flag merge))
 
-    changes : {behind : Option Database} (old new : State) (count : ℕ) → IsHeld behind old → Executes change_text change_params old new (Ok count)
-        → ChangesOver behind old new (λ a. record a { options = map change a.options })
+    changes : {behind : Option Database} (old new : State) (count : ℕ) → IsOpenArchive behind old → Executes change_text change_params old new (Ok count)
+        → ChangesArchive behind old new (λ a. record a { options = map change a.options })
     changes old new count k h =
         let params = change_params in
         let query = plain_query 13 of_list changed_cells [] in
@@ -199,32 +199,33 @@ module _ (list : List ℕ) where
         let applied = one_step archive_schema _ db written.0 edit (no_action 13 (taken_by db edit) edit.news) written.1 in
         let trees : new.now.trees ≡ written.0 = ap (λ (d : Database). d.trees) now ∙ ap (λ (x : Written). x.trees) (value_is written.2) in
         let rows : new.now.trees 13 ≡ edited db edit = ap (λ (t : Trees). t 13) trees ∙ applied.rows in
-        let found = hits option_cells option_read option_back query params (is_option_of list) (is_of_list list (Int (merge_number merge) ∷ [])) (db 13) k.tables.options in
-        let it = updated option_cells option_read option_back (is_option_of list) said same_option (alike list) (db 13) (edited db edit) k.tables.options k.tables.options_apart
-        (λ r one. puts db r queried.0 (one_row query params (db 13) queried.0 (row_of option_cells r) picks (found.0 ∙ ap (map (row_of option_cells)) one)))
-        (λ none. ap (λ l. edited db (edit_of db option_table (ids_of l) Given 1 l)) (no_row query params (db 13) queried.0 picks (found.0 ∙ ap (map (row_of option_cells)) none))) in
+        let found = hits option_cells option_from_row option_back query params (is_option_of list) (is_of_list list (Int (merge_flag merge) ∷ [])) (db 13) k.tables.options in
+        let it = updated option_cells option_from_row option_back (is_option_of list) said same_option_key (alike list) (db 13) (edited db edit) k.tables.options k.tables.options_distinct
+        (λ r one. puts db r queried.0 (one_row query params (db 13) queried.0 (numbered_row option_cells r) picks (found.0 ∙ ap (map (numbered_row option_cells)) one)))
+        (λ none. ap (λ l. edited db (edit_of db option_table (ids_of l) Given 1 l)) (no_row query params (db 13) queried.0 picks (found.0 ∙ ap (map (numbered_row option_cells)) none))) in
         let same = subst (SameBut 13 db) (sym trees) (same_but 13 db written.0 applied.tables) in
-        let apart = subst (AreApart same_option) (sym it.1) (apart_mapped same_option change keeps (archive_of old).options k.tables.options_apart) in
+        let apart = subst (HaveDistinctKeys same_option_key) (sym it.1) (apart_mapped same_option_key change keeps (archive_of old).options k.tables.options_distinct) in
         let all = options_change db new.now.trees k.tables same _ rows it.0 apart in
         (kept_by old new k w.shown (ap (λ (d : Database). d.schema) now) all.0, all.1 ∙ ap (λ l. record (archive_of old) { options = l }) it.1)
 
-    pub tries_to_change : (behind : Option Database) (old new : State) (r : Result ℕ Error) → IsHeld behind old → Executes change_text change_params old new r
-        → MatchResult r (λ _. ChangesOver behind old new (λ a. record a { options = map change a.options })) (λ _. RestsOver behind old new)
+    pub tries_to_change : (behind : Option Database) (old new : State) (r : Result ℕ Error) → IsOpenArchive behind old → Executes change_text change_params old new r
+        → MatchResult r (λ _. ChangesArchive behind old new (λ a. record a { options = map change a.options })) (λ _. FaultKeepsRowsOrRollsBack behind old new)
     tries_to_change behind old new (Ok count) k h = changes old new count k h
     tries_to_change behind old new (Err e) k h = rests old new k (execute_fails old new change_text change_params e h)
 
-  module _ (old new : State) {behind : Option Database} (k : IsHeld behind old) where
+  module _ (old new : State) {behind : Option Database} (k : IsOpenArchive behind old) where
     pub found : (rows : List Row) → Shown find_text (Text list ∷ []) old new rows
-        → (rows ≡ map merge_shown (filter (is_option_of list) (archive_of old).options)) × StaysOver behind old new
+        → (rows ≡ map merge_result_row (filter (is_option_of list) (archive_of old).options)) × LeavesRowsUnchanged behind old new
     found rows h =
         let params = Text list ∷ [] in
         let picks = asked find_text 13 of_list the_merge by_number _ find_is.0 find_plain find_is.1 (λ t. refl) params old new k rows h in (
-          shows 13 of_list the_merge params option_cells option_read option_back (is_option_of list) (is_of_list list []) merge_shown (λ n o. refl) (old.now.trees 13) rows k.tables.options picks,
+          shows 13 of_list the_merge params option_cells option_from_row option_back (is_option_of list) (is_of_list list []) merge_result_row (λ n o. refl) (old.now.trees 13) rows
+              k.tables.options picks,
           asked_stays find_text 13 of_list the_merge by_number _ find_is.0 find_plain find_is.1 (λ t. refl) params old new k rows h,
         )
 
-    pub not_found : (e : Error) → FailsToQuery find_text (Text list ∷ []) old new e → RestsOver behind old new
+    pub not_found : (e : Error) → FailsToQuery find_text (Text list ∷ []) old new e → FaultKeepsRowsOrRollsBack behind old new
     not_found e h = refused_rests find_text 13 of_list the_merge by_number _ find_is.0 find_plain find_is.1 (λ t. refl) (Text list ∷ []) old new k e h
 
-    pub not_found_caused : (e : Error) → FailsToQuery find_text (Text list ∷ []) old new e → old.step_limit ≡ None → IsCaused old new e
+    pub not_found_caused : (e : Error) → FailsToQuery find_text (Text list ∷ []) old new e → old.step_limit ≡ None → IsMemoryOrDiskError old new e
     not_found_caused e h free = question_fails_by find_text 13 of_list the_merge by_number _ find_is.0 find_plain find_is.1 (Text list ∷ []) find_fit (find_typed list) old new k free e h

@@ -21,11 +21,11 @@ use Rattle.sqlite.proofs.Callers.{IsPlain, command_of, statement_of, runs_as, on
 use Rattle.sqlite_tied.specs.Compute.{everything}
 use Rattle.sqlite_sql.specs.declared.ops.BinaryOp.TheVariants.{Compare}
 use Rattle.sqlite_sql.specs.declared.ops.CompareOp.TheVariants.{Eq}
-use Rattle.archive_machine.specs.Records.{Person}
+use Rattle.archive_model.specs.Records.{Person}
 use Rattle.archive_tables.specs.Schema.{archive_schema, person_table}
-use Rattle.archive_tables.specs.Tables.{IsHeld, Numbered, row_of, person_cells, person_read, archive_of}
-use Rattle.archive_tables.specs.Rows.{name_shown}
-use Rattle.archive_tables.specs.Calls.{ChangesOver, StaysOver, RestsOver, IsCaused}
+use Rattle.archive_tables.specs.Tables.{IsOpenArchive, NumberedRecord, numbered_row, person_cells, person_from_row, archive_of}
+use Rattle.archive_tables.specs.Rows.{name_result_row}
+use Rattle.archive_tables.specs.Calls.{ChangesArchive, LeavesRowsUnchanged, FaultKeepsRowsOrRollsBack, IsMemoryOrDiskError}
 use Rattle.archive_tables.proofs.RunLemmas.{passed, value_is, no_action, cast_null, kept_by, rests, execute_fails}
 use Rattle.archive_tables.proofs.RowLemmas.{put_past}
 use Rattle.archive_tables.proofs.TableLemmas.{SameBut, same_but, persons_change}
@@ -52,15 +52,15 @@ add_plain = (refl, refl)
 abbrev params_of : Person → Row
 params_of p = Text p.name ∷ Text p.token ∷ []
 
-abbrev fresh : Trees → Person → Numbered Person
+abbrev fresh : Trees → Person → NumberedRecord Person
 fresh db p = record { number = next_rowid (db 3); it = p }
 
 puts : (db : Trees) (p : Person) (given : List Row) → given ≡ (Null ∷ Text p.name ∷ Text p.token ∷ []) ∷ []
-    → edited db (edit_of db person_table [] Chosen 0 given) ≡ put_row (row_of person_cells (fresh db p)) (db 3)
+    → edited db (edit_of db person_table [] Chosen 0 given) ≡ put_row (numbered_row person_cells (fresh db p)) (db 3)
 puts db p given from = rw (from, cast_null)
 
-adds : {behind : Option Database} (old new : State) (p : Person) (count : ℕ) → IsHeld behind old → Executes add_text (params_of p) old new (Ok count)
-    → ChangesOver behind old new (λ a. record a { persons = a.persons ++ p ∷ [] })
+adds : {behind : Option Database} (old new : State) (p : Person) (count : ℕ) → IsOpenArchive behind old → Executes add_text (params_of p) old new (Ok count)
+    → ChangesArchive behind old new (λ a. record a { persons = a.persons ++ p ∷ [] })
 adds old new p count k h =
     let params = params_of p in
     let db = old.now.trees in
@@ -76,14 +76,14 @@ adds old new p count k h =
     let applied = one_step archive_schema _ db written.0 edit (no_action 3 (taken_by db edit) edit.news) written.1 in
     let trees : new.now.trees ≡ written.0 =
     ap (λ (d : Database). d.trees) now ∙ ap (λ (it : Written). it.trees) (value_is counted.2) ∙ value_is counted.1 in
-    let put = put_past person_cells person_read (λ n r. refl) (db 3) (fresh db p) (inl refl) k.tables.persons in
-    let rows : new.now.trees 3 ≡ put_row (row_of person_cells (fresh db p)) (db 3) = ap (λ (t : Trees). t 3) trees ∙ applied.rows ∙ puts db p given.0 given.1.1 in
+    let put = put_past person_cells person_from_row (λ n r. refl) (db 3) (fresh db p) (inl refl) k.tables.persons in
+    let rows : new.now.trees 3 ≡ put_row (numbered_row person_cells (fresh db p)) (db 3) = ap (λ (t : Trees). t 3) trees ∙ applied.rows ∙ puts db p given.0 given.1.1 in
     let same = subst (SameBut 3 db) (sym trees) (same_but 3 db written.0 applied.tables) in
     let it = persons_change db new.now.trees k.tables same _ rows put.0 in
     (kept_by old new k w.shown (ap (λ (d : Database). d.schema) now) it.0, it.1 ∙ ap (λ l. record (archive_of old) { persons = l }) put.1)
 
-pub tries_to_add : (behind : Option Database) (old new : State) (p : Person) (r : Result ℕ Error) → IsHeld behind old → Executes add_text (params_of p) old new r
-    → MatchResult r (λ _. ChangesOver behind old new (λ a. record a { persons = a.persons ++ p ∷ [] })) (λ _. RestsOver behind old new)
+pub tries_to_add : (behind : Option Database) (old new : State) (p : Person) (r : Result ℕ Error) → IsOpenArchive behind old → Executes add_text (params_of p) old new r
+    → MatchResult r (λ _. ChangesArchive behind old new (λ a. record a { persons = a.persons ++ p ∷ [] })) (λ _. FaultKeepsRowsOrRollsBack behind old new)
 tries_to_add behind old new p (Ok count) k h = adds old new p count k h
 tries_to_add behind old new p (Err e) k h = rests old new k (execute_fails old new add_text (params_of p) e h)
 
@@ -163,51 +163,51 @@ holder_typed : (word : List ℕ) → accepts_program archive_schema [] (plain_qu
 unfolding everything
 holder_typed word = refl
 
-module _ (old new : State) (word : List ℕ) {behind : Option Database} (k : IsHeld behind old) where
+module _ (old new : State) (word : List ℕ) {behind : Option Database} (k : IsOpenArchive behind old) where
   pub has_name : (rows : List Row) → Shown named_text (Text word ∷ []) old new rows
-      → (not (length rows == 0) ≡ list_any (λ p. bytes_eq p.name word) (archive_of old).persons) × StaysOver behind old new
+      → (not (length rows == 0) ≡ list_any (λ p. bytes_eq p.name word) (archive_of old).persons) × LeavesRowsUnchanged behind old new
   has_name rows h =
       let params = Text word ∷ [] in
       let picks = asked named_text 3 named the_name [] _ named_is.0 named_plain named_is.1 (λ t. refl) params old new k rows h in (
-        any_wanted person_cells person_read (λ n r. refl) (plain_query 3 named the_name []) params (λ p. bytes_eq p.name word)
+        any_wanted person_cells person_from_row (λ n r. refl) (plain_query 3 named the_name []) params (λ p. bytes_eq p.name word)
             (λ n p. alone _ ∙ text_is p.name word) (old.now.trees 3) rows k.tables.persons picks,
         asked_stays named_text 3 named the_name [] _ named_is.0 named_plain named_is.1 (λ t. refl) params old new k rows h,
       )
 
-  pub has_no_name : (e : Error) → FailsToQuery named_text (Text word ∷ []) old new e → RestsOver behind old new
+  pub has_no_name : (e : Error) → FailsToQuery named_text (Text word ∷ []) old new e → FaultKeepsRowsOrRollsBack behind old new
   has_no_name e h = refused_rests named_text 3 named the_name [] _ named_is.0 named_plain named_is.1 (λ t. refl) (Text word ∷ []) old new k e h
 
-  pub has_no_name_caused : (e : Error) → FailsToQuery named_text (Text word ∷ []) old new e → old.step_limit ≡ None → IsCaused old new e
+  pub has_no_name_caused : (e : Error) → FailsToQuery named_text (Text word ∷ []) old new e → old.step_limit ≡ None → IsMemoryOrDiskError old new e
   has_no_name_caused e h free = question_fails_by named_text 3 named the_name [] _ named_is.0 named_plain named_is.1 (Text word ∷ []) named_fit (named_typed word) old new k free e h
 
   pub has_token : (rows : List Row) → Shown token_text (Text word ∷ []) old new rows
-      → (not (length rows == 0) ≡ list_any (λ p. bytes_eq p.token word) (archive_of old).persons) × StaysOver behind old new
+      → (not (length rows == 0) ≡ list_any (λ p. bytes_eq p.token word) (archive_of old).persons) × LeavesRowsUnchanged behind old new
   has_token rows h =
       let params = Text word ∷ [] in
       let picks = asked token_text 3 with_token the_token [] _ token_is.0 token_plain token_is.1 (λ t. refl) params old new k rows h in (
-        any_wanted person_cells person_read (λ n r. refl) (plain_query 3 with_token the_token []) params (λ p. bytes_eq p.token word)
+        any_wanted person_cells person_from_row (λ n r. refl) (plain_query 3 with_token the_token []) params (λ p. bytes_eq p.token word)
             (λ n p. alone _ ∙ text_is p.token word) (old.now.trees 3) rows k.tables.persons picks,
         asked_stays token_text 3 with_token the_token [] _ token_is.0 token_plain token_is.1 (λ t. refl) params old new k rows h,
       )
 
-  pub has_no_token : (e : Error) → FailsToQuery token_text (Text word ∷ []) old new e → RestsOver behind old new
+  pub has_no_token : (e : Error) → FailsToQuery token_text (Text word ∷ []) old new e → FaultKeepsRowsOrRollsBack behind old new
   has_no_token e h = refused_rests token_text 3 with_token the_token [] _ token_is.0 token_plain token_is.1 (λ t. refl) (Text word ∷ []) old new k e h
 
-  pub has_no_token_caused : (e : Error) → FailsToQuery token_text (Text word ∷ []) old new e → old.step_limit ≡ None → IsCaused old new e
+  pub has_no_token_caused : (e : Error) → FailsToQuery token_text (Text word ∷ []) old new e → old.step_limit ≡ None → IsMemoryOrDiskError old new e
   has_no_token_caused e h free = question_fails_by token_text 3 with_token the_token [] _ token_is.0 token_plain token_is.1 (Text word ∷ []) token_fit (token_typed word) old new k free e h
 
   pub holders : (rows : List Row) → Shown holder_text (Text word ∷ []) old new rows
-      → (rows ≡ map (λ (p : Person). name_shown p.name) (filter (λ p. bytes_eq p.token word) (archive_of old).persons)) × StaysOver behind old new
+      → (rows ≡ map (λ (p : Person). name_result_row p.name) (filter (λ p. bytes_eq p.token word) (archive_of old).persons)) × LeavesRowsUnchanged behind old new
   holders rows h =
       let params = Text word ∷ [] in
       let picks = asked holder_text 3 with_token the_name by_number _ holder_is.0 holder_plain holder_is.1 (λ t. refl) params old new k rows h in (
-        shows 3 with_token the_name params person_cells person_read (λ n r. refl) (λ p. bytes_eq p.token word) (λ n p. alone _ ∙ text_is p.token word)
-            (λ p. name_shown p.name) (λ n p. refl) (old.now.trees 3) rows k.tables.persons picks,
+        shows 3 with_token the_name params person_cells person_from_row (λ n r. refl) (λ p. bytes_eq p.token word) (λ n p. alone _ ∙ text_is p.token word)
+            (λ p. name_result_row p.name) (λ n p. refl) (old.now.trees 3) rows k.tables.persons picks,
         asked_stays holder_text 3 with_token the_name by_number _ holder_is.0 holder_plain holder_is.1 (λ t. refl) params old new k rows h,
       )
 
-  pub no_holders : (e : Error) → FailsToQuery holder_text (Text word ∷ []) old new e → RestsOver behind old new
+  pub no_holders : (e : Error) → FailsToQuery holder_text (Text word ∷ []) old new e → FaultKeepsRowsOrRollsBack behind old new
   no_holders e h = refused_rests holder_text 3 with_token the_name by_number _ holder_is.0 holder_plain holder_is.1 (λ t. refl) (Text word ∷ []) old new k e h
 
-  pub no_holders_caused : (e : Error) → FailsToQuery holder_text (Text word ∷ []) old new e → old.step_limit ≡ None → IsCaused old new e
+  pub no_holders_caused : (e : Error) → FailsToQuery holder_text (Text word ∷ []) old new e → old.step_limit ≡ None → IsMemoryOrDiskError old new e
   no_holders_caused e h free = question_fails_by holder_text 3 with_token the_name by_number _ holder_is.0 holder_plain holder_is.1 (Text word ∷ []) holder_fit (holder_typed word) old new k free e h

@@ -30,10 +30,11 @@ use Rattle.sqlite_sql.specs.declared.ops.BinaryOp.TheVariants.{Compare}
 use Rattle.sqlite_sql.specs.declared.ops.CompareOp.TheVariants.{Ge}
 use Rattle.sqlite_trees.proofs.ListLemmas.{map-map}
 use Rattle.sqlite_value.proofs.OrderLemmas.{value_cmp-Int}
-use Rattle.archive_machine.specs.Filing.{Filed}
+use Rattle.archive_model.specs.Filing.{IndexedMessage}
 use Rattle.archive_tables.specs.Schema.{archive_schema}
-use Rattle.archive_tables.specs.Tables.{IsHeld, Numbered, row_of, read_of, Holds, message_read, filed_cells, filed_read, archive_of, reaches_number}
-use Rattle.archive_tables.specs.Calls.{StaysOver, RestsOver, IsCaused}
+use Rattle.archive_tables.specs.Tables.{IsOpenArchive, NumberedRecord, numbered_row, numbered_from_row, HoldsRecords}
+use Rattle.archive_tables.specs.Tables.{message_from_row, indexed_message_cells, indexed_message_from_row, archive_of, has_rowid_at_least}
+use Rattle.archive_tables.specs.Calls.{LeavesRowsUnchanged, FaultKeepsRowsOrRollsBack, IsMemoryOrDiskError}
 use Rattle.archive_tables.proofs.RunLemmas.{query_fails, query_leaves, rests, stays}
 use Rattle.archive_tables.proofs.RowLemmas.{int_less}
 use Rattle.archive_tables.proofs.CauseLemmas.{Fits, any_question_fails_by}
@@ -107,7 +108,7 @@ some_high trees params rows a =
 
 -- ---- counting
 
-is_high : (limit : ℕ) (r : Numbered Filed) → passes high (Int (pos limit) ∷ []) (row_of filed_cells r) ≡ is_ge (int_cmp r.number (pos limit))
+is_high : (limit : ℕ) (r : NumberedRecord IndexedMessage) → passes high (Int (pos limit) ∷ []) (numbered_row indexed_message_cells r) ≡ is_ge (int_cmp r.number (pos limit))
 unfolding binary
 is_high limit r = alone _ ∙ truth_back _ ∙ ap is_ge (value_cmp-Int r.number (pos limit))
 
@@ -115,49 +116,52 @@ from_limit : (limit : ℕ) (n : ℤ) → is_ge (int_cmp n (pos limit)) ≡ int_l
 from_limit limit n = grind (arith, ints, nat_tests)
 
 -- the rows that pass are those of a number of at least the limit
-any_high : (limit : ℕ) (all : List (Numbered Filed))
-    → list_any (passes high (Int (pos limit) ∷ [])) (map (row_of filed_cells) all) ≡ list_any (λ row. int_le (pos limit) (id_in (rowid row))) (map (row_of filed_cells) all)
+any_high : (limit : ℕ) (all : List (NumberedRecord IndexedMessage))
+    → list_any (passes high (Int (pos limit) ∷ [])) (map (numbered_row indexed_message_cells) all) ≡ list_any (λ row. int_le (pos limit) (id_in (rowid row)))
+    (map (numbered_row indexed_message_cells) all)
 any_high limit [] = refl
 any_high limit (r ∷ all) = ap₂ ◌||◌ (is_high limit r ∙ from_limit limit r.number) (any_high limit all)
 
-reaches_in : (limit : ℕ) (rows : List Row) → Holds filed_cells filed_read rows
+reaches_in : (limit : ℕ) (rows : List Row) → HoldsRecords indexed_message_cells indexed_message_from_row rows
     → list_any (passes high (Int (pos limit) ∷ [])) rows ≡ list_any (λ row. int_le (pos limit) (id_in (rowid row))) rows
 reaches_in limit rows k =
-    let all = map (read_of filed_read) rows in
-    subst (λ l. list_any (passes high (Int (pos limit) ∷ [])) l ≡ list_any (λ row. int_le (pos limit) (id_in (rowid row))) l) (sym k.coded) (any_high limit all)
+    let all = map (numbered_from_row indexed_message_from_row) rows in
+    subst (λ l. list_any (passes high (Int (pos limit) ∷ [])) l ≡ list_any (λ row. int_le (pos limit) (id_in (rowid row))) l) (sym k.round_trips) (any_high limit all)
 
-abbrev AreLow : ℕ → List (Numbered Filed) → Type 0
+abbrev AreLow : ℕ → List (NumberedRecord IndexedMessage) → Type 0
 AreLow limit = AllByRecursion (λ r. r.number <ℤ pos limit)
 
 low : (limit : ℕ) (n : ℤ) → is_ge (int_cmp n (pos limit)) ≡ false → n <ℤ pos limit
 low limit n h = grind (arith, ints, nat_tests)
 
-all_low : (limit : ℕ) (all : List (Numbered Filed)) → length (filter (passes high (Int (pos limit) ∷ [])) (map (row_of filed_cells) all)) ≡ 0 → AreLow limit all
+all_low : (limit : ℕ) (all : List (NumberedRecord IndexedMessage)) → length (filter (passes high (Int (pos limit) ∷ [])) (map (numbered_row indexed_message_cells) all)) ≡ 0 → AreLow limit all
 all_low limit [] none = tt
-all_low limit (r ∷ all) none = elim (cases_Bool (passes high (Int (pos limit) ∷ []) (row_of filed_cells r))) [
+all_low limit (r ∷ all) none = elim (cases_Bool (passes high (Int (pos limit) ∷ []) (numbered_row indexed_message_cells r))) [
   | inl reaches ↦ absurd (let some = rw reaches at none in omega (arith, some))
   | inr below ↦ (low limit r.number (sym (is_high limit r) ∙ below), all_low limit all (rw below at none))
 ]
 
 -- rising numbers between two bounds are fewer than what lies between
-fewer : (limit : ℕ) (from : ℤ) (all : List (Numbered Filed)) → from <ℤ pos limit → AllByRecursion (λ row. value_cmp (Int from) (rowid row) ≡ Less) (map (row_of filed_cells) all)
-    → IsTable (map (row_of filed_cells) all) → AreLow limit all → (pos (length all) +ℤ from) <ℤ pos limit
+fewer : (limit : ℕ) (from : ℤ) (all : List (NumberedRecord IndexedMessage)) → from <ℤ pos limit
+    → AllByRecursion (λ row. value_cmp (Int from) (rowid row) ≡ Less) (map (numbered_row indexed_message_cells) all)
+    → IsTable (map (numbered_row indexed_message_cells) all) → AreLow limit all → (pos (length all) +ℤ from) <ℤ pos limit
 fewer limit from [] below above up lows = omega (arith, ints, below)
 fewer limit from (r ∷ all) below above up lows =
     let more = fewer limit r.number all lows.0 up.0 up.1 lows.1 in
     let first : from <ℤ r.number = int_less (sym (value_cmp-Int from r.number) ∙ above.0) in
     omega (arith, ints, more, first)
 
-fewer_messages : (limit : ℕ) (rows : List Row) → 0 < limit → Holds filed_cells filed_read rows → AllByRecursion (λ row. value_cmp (Int (pos 0)) (rowid row) ≡ Less) rows
-    → length (filter (passes high (Int (pos limit) ∷ [])) rows) ≡ 0 → length (map message_read rows) < limit
+fewer_messages : (limit : ℕ) (rows : List Row) → 0 < limit → HoldsRecords indexed_message_cells indexed_message_from_row rows → AllByRecursion (λ row. value_cmp (Int (pos 0)) (rowid row) ≡ Less) rows
+    → length (filter (passes high (Int (pos limit) ∷ [])) rows) ≡ 0 → length (map message_from_row rows) < limit
 fewer_messages limit rows some k positive none =
-    let all = map (read_of filed_read) rows in
-    let lows = all_low limit all (ap (λ l. length (filter (passes high (Int (pos limit) ∷ [])) l)) (sym k.coded) ∙ none) in
-    let count = fewer limit (pos 0) all (omega (arith, ints, some)) (subst (AllByRecursion (λ row. value_cmp (Int (pos 0)) (rowid row) ≡ Less)) k.coded positive) (subst IsTable k.coded k.rise) lows in
-    let same : length all ≡ length (map message_read rows) = length-map rows (read_of filed_read) ∙ sym (length-map rows message_read) in
+    let all = map (numbered_from_row indexed_message_from_row) rows in
+    let lows = all_low limit all (ap (λ l. length (filter (passes high (Int (pos limit) ∷ [])) l)) (sym k.round_trips) ∙ none) in
+    let count = fewer limit (pos 0) all (omega (arith, ints, some)) (subst (AllByRecursion (λ row. value_cmp (Int (pos 0)) (rowid row) ≡ Less)) k.round_trips positive)
+    (subst IsTable k.round_trips k.rise) lows in
+    let same : length all ≡ length (map message_from_row rows) = length-map rows (numbered_from_row indexed_message_from_row) ∙ sym (length-map rows message_from_row) in
     omega (arith, ints, count, same)
 
-module _ (old new : State) (limit : ℕ) {behind : Option Database} (k : IsHeld behind old) where
+module _ (old new : State) (limit : ℕ) {behind : Option Database} (k : IsOpenArchive behind old) where
   abbrev params : Row
   params = Int (pos limit) ∷ []
 
@@ -165,7 +169,7 @@ module _ (old new : State) (limit : ℕ) {behind : Option Database} (k : IsHeld 
   plain_here = subst (λ s. IsPlain (understood s reach_text)) (sym k.schema) reach_plain
 
   pub reached : (rows : List Row) → Shown reach_text params old new rows
-      → (0 < limit → length rows ≡ 0 → length (archive_of old).messages < limit) × StaysOver behind old new
+      → (0 < limit → length rows ≡ 0 → length (archive_of old).messages < limit) × LeavesRowsUnchanged behind old new
   reached rows h =
       let read = reads_as reach_text params old new archive_schema k.schema _ reach_is.0 reach_plain reach_is.1 rows h in
       let same = query_leaves old new reach_text params rows plain_here h in (
@@ -173,13 +177,13 @@ module _ (old new : State) (limit : ℕ) {behind : Option Database} (k : IsHeld 
         stays old new k same,
       )
 
-  pub reached_number : (rows : List Row) → Shown reach_text params old new rows → not (length rows == 0) ≡ reaches_number old.now.trees limit
+  pub reached_number : (rows : List Row) → Shown reach_text params old new rows → not (length rows == 0) ≡ has_rowid_at_least old.now.trees limit
   reached_number rows h =
       let read = reads_as reach_text params old new archive_schema k.schema _ reach_is.0 reach_plain reach_is.1 rows h in
       some_high (overlay old.now.trees []) params rows (read.answer Null) ∙ reaches_in limit (old.now.trees 8) k.tables.messages
 
-  pub not_reached : (e : Error) → FailsToQuery reach_text params old new e → RestsOver behind old new
+  pub not_reached : (e : Error) → FailsToQuery reach_text params old new e → FaultKeepsRowsOrRollsBack behind old new
   not_reached e h = rests old new k (query_fails old new reach_text params e plain_here h)
 
-  pub not_reached_caused : (e : Error) → FailsToQuery reach_text params old new e → old.step_limit ≡ None → IsCaused old new e
+  pub not_reached_caused : (e : Error) → FailsToQuery reach_text params old new e → old.step_limit ≡ None → IsMemoryOrDiskError old new e
   not_reached_caused e h free = any_question_fails_by reach_text query _ reach_is.0 reach_plain reach_is.1 params reach_fit (reach_typed limit) (calm params) old new k free e h

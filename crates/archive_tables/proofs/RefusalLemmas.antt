@@ -19,9 +19,9 @@ use Rattle.sqlite.specs.Listing.{understood}
 use Rattle.sqlite.specs.State.{State, Fails, IsMisplaced, Runs, Writes, IsNotRun, ExecutesIn, Executes, shows_rows, is_pragma, mode_of, text_of}
 use Rattle.sqlite.proofs.Callers.{IsPlain, command_of}
 use Rattle.archive_tables.specs.Schema.{archive_schema}
-use Rattle.archive_tables.specs.Tables.{IsHeld}
-use Rattle.archive_tables.specs.Statements.{Statement, MayEnd, IsRefused, IsCarriedOut}
-use Rattle.archive_tables.specs.Calls.{IsCaused}
+use Rattle.archive_tables.specs.Tables.{IsOpenArchive}
+use Rattle.archive_tables.specs.Statements.{Statement, StatementMayEndIn, IsStatementRefused, StatementExecutesTo}
+use Rattle.archive_tables.specs.Calls.{IsMemoryOrDiskError}
 use Rattle.archive_tables.proofs.CauseLemmas.{Fits, no_statement, fails_by}
 
 -- ---- what a command is
@@ -107,7 +107,7 @@ shows_nothing _ how ours none = absurd ours
 
 -- ---- a write on tables that are held
 
-fails_or_big : (old new : State) (big : Type 0) (e : Error) → IsTrue old.is_open → Fails old new big e → IsCaused old new e ⊎ big
+fails_or_big : (old new : State) (big : Type 0) (e : Error) → IsTrue old.is_open → Fails old new big e → IsMemoryOrDiskError old new e ⊎ big
 fails_or_big old new big e up (OutOfMemory, is, why, back, tells) = inl (inl is)
 fails_or_big old new big e up (Io, is, why, back, tells) = inl (inr why)
 fails_or_big old new big e up (Corrupt, is, why, back, tells) = inl (inr why)
@@ -121,10 +121,10 @@ module _ (s : Schema) (st : Statement) (knows : KnowsIn s st) (old new : State) 
 
   -- what is said of the compiled text is said of the statement
   said : (c : Compiled) (full : Row) (out : Result (Tally × Database) (Option Error)) → understood old.now.schema st.sql ≡ Ok c → full ≡ st.given
-      → Does old.step_limit (mode_of old) full old.now (text_of st.sql c) c.returning c.command out → MayEnd st old.now out
+      → Does old.step_limit (mode_of old) full old.now (text_of st.sql c) c.returning c.command out → StatementMayEndIn st old.now out
   said c full out is given it = rw is (rw (free, given) at it)
 
-  step_fails_by : (e : Error) → Executes st.sql st.given old new (Err e) → IsCaused old new e ⊎ IsRefused st old.now
+  step_fails_by : (e : Error) → Executes st.sql st.given old new (Err e) → IsMemoryOrDiskError old new e ⊎ IsStatementRefused st old.now
   unfolding ExecutesIn IsNotRun
   step_fails_by e (inl (inl refused)) = absurd (no_statement old st.sql st.given e (in_schema (Fits st.sql (length st.given)) knows.fits) (in_schema IsPlain knows.plain) refused.0)
   step_fails_by e (inl (inr failed)) = inl (fails_by old new e up failed)
@@ -142,7 +142,7 @@ module _ (s : Schema) (st : Statement) (knows : KnowsIn s st) (old new : State) 
         | inr failed ↦ elim (fails_or_big old new _ e up failed) [ inl why ↦ inl why | inr big ↦ inr (None, said c _ (Err None) ran.1.is full big) ]
       ]
 
-  step_makes : (count : ℕ) → Executes st.sql st.given old new (Ok count) → IsCarriedOut st old.now new.now
+  step_makes : (count : ℕ) → Executes st.sql st.given old new (Ok count) → StatementExecutesTo st old.now new.now
   unfolding ExecutesIn
   step_makes count ran =
       let c = ran.0 in
@@ -153,19 +153,19 @@ module _ (s : Schema) (st : Statement) (knows : KnowsIn s st) (old new : State) 
       let w = runs_its old new c.returning c.command _ _ count ours (rw silent at ran.2) in
       (w.tally, said c _ (Ok (w.tally, new.now)) ran.1.is full w.changed)
 
-  pub step_fails : (r : Result ℕ Error) → Executes st.sql st.given old new r → IfErr r (λ e. IsCaused old new e ⊎ IsRefused st old.now)
+  pub step_fails : (r : Result ℕ Error) → Executes st.sql st.given old new r → IfErr r (λ e. IsMemoryOrDiskError old new e ⊎ IsStatementRefused st old.now)
   step_fails (Ok count) h = tt
   step_fails (Err e) h = step_fails_by e h
 
-  pub step_carries_out : (r : Result ℕ Error) → Executes st.sql st.given old new r → OnOk r (IsCarriedOut st old.now new.now)
+  pub step_carries_out : (r : Result ℕ Error) → Executes st.sql st.given old new r → OnOk r (StatementExecutesTo st old.now new.now)
   step_carries_out (Ok count) h = step_makes count h
   step_carries_out (Err e) h = tt
 
-module _ (st : Statement) (knows : Knows st) (old new : State) {behind : Option Database} (k : IsHeld behind old) (free : old.step_limit ≡ None) where
-  pub write_fails : (r : Result ℕ Error) → Executes st.sql st.given old new r → IfErr r (λ e. IsCaused old new e ⊎ IsRefused st old.now)
+module _ (st : Statement) (knows : Knows st) (old new : State) {behind : Option Database} (k : IsOpenArchive behind old) (free : old.step_limit ≡ None) where
+  pub write_fails : (r : Result ℕ Error) → Executes st.sql st.given old new r → IfErr r (λ e. IsMemoryOrDiskError old new e ⊎ IsStatementRefused st old.now)
   write_fails = step_fails archive_schema st (knows_in st knows) old new k.is_open k.schema free
 
-  pub write_carries_out : (r : Result ℕ Error) → Executes st.sql st.given old new r → OnOk r (IsCarriedOut st old.now new.now)
+  pub write_carries_out : (r : Result ℕ Error) → Executes st.sql st.given old new r → OnOk r (StatementExecutesTo st old.now new.now)
   write_carries_out = step_carries_out archive_schema st (knows_in st knows) old new k.is_open k.schema free
 
 -- ---- BEGIN, COMMIT and ROLLBACK, whatever the schema is
@@ -190,7 +190,7 @@ silent_too _ how ours none = absurd ours
 
 module _ (sql : List ℕ) (k : Command) (is : (schema : Schema) → command_of (understood schema sql) ≡ k) (plain : (schema : Schema) → IsPlain (understood schema sql))
     (fits : (schema : Schema) → Fits sql 0 (understood schema sql)) (ours : WritesNothing k) (old new : State) (up : IsTrue old.is_open) (placed : (e : Error) → ¬ IsMisplaced old k e) where
-  transaction_fails_by : (e : Error) → Executes sql [] old new (Err e) → IsCaused old new e
+  transaction_fails_by : (e : Error) → Executes sql [] old new (Err e) → IsMemoryOrDiskError old new e
   unfolding ExecutesIn IsNotRun
   transaction_fails_by e (inl (inl refused)) = absurd (no_statement old sql [] e (fits old.now.schema) (plain old.now.schema) refused.0)
   transaction_fails_by e (inl (inr failed)) = fails_by old new e up failed
@@ -211,6 +211,6 @@ module _ (sql : List ℕ) (k : Command) (is : (schema : Schema) → command_of (
         ]
       ]
 
-  pub transaction_fails : (r : Result ℕ Error) → Executes sql [] old new r → IfErr r (IsCaused old new)
+  pub transaction_fails : (r : Result ℕ Error) → Executes sql [] old new r → IfErr r (IsMemoryOrDiskError old new)
   transaction_fails (Ok count) h = tt
   transaction_fails (Err e) h = transaction_fails_by e h

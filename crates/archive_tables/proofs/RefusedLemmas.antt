@@ -39,15 +39,18 @@ use Rattle.sqlite_tied.specs.Compute.{everything}
 use Rattle.sqlite_trees.specs.Sound as sound
 use Rattle.sqlite_trees.specs.View.{IsStorableRow}
 use Rattle.sqlite_value.specs.Order.{value_cmp}
-use Rattle.archive_tables.specs.Schema.{no_schema, with_version, with_list, with_person, with_grant, with_message, with_month_index, schema_1, schema_2, archive_schema}
+use Rattle.archive_tables.specs.Schema.{empty_schema, schema_with_version, schema_with_lists, schema_with_persons, schema_with_grants}
+use Rattle.archive_tables.specs.Schema.{schema_with_messages, schema_with_month_index, schema_1, schema_2, archive_schema}
 use Rattle.archive_tables.specs.Schema.{create_version, create_list, create_person, create_grant, create_message, create_month_index, create_author_index, create_option}
 use Rattle.archive_tables.specs.Schema.{create_address, version_table, list_table, person_table, grant_table, message_table, sequence_table, option_table, address_table, month_index}
 use Rattle.archive_tables.specs.Schema.{author_index}
-use Rattle.archive_tables.specs.Statements.{Statement, MayEnd, IsRefusedInTurn, making_version, making_lists, making_persons, making_grants, making_messages}
-use Rattle.archive_tables.specs.Statements.{indexing_months, indexing_authors, making_options, making_addresses, adding_version, making_statements}
+use Rattle.archive_tables.specs.Statements.{Statement, StatementMayEndIn, IsAnyStatementRefused, create_version_statement}
+use Rattle.archive_tables.specs.Statements.{create_list_statement, create_person_statement, create_grant_statement, create_message_statement}
+use Rattle.archive_tables.specs.Statements.{create_month_index_statement, create_author_index_statement, create_option_statement}
+use Rattle.archive_tables.specs.Statements.{create_address_statement, insert_version_statement, all_create_statements}
 use Rattle.archive_tables.specs.Tables.{version_rows}
 use Rattle.archive_tables.specs.declared.texts.schema.TheConstants.{VERSION}
-use Rattle.archive_tables.proofs.SchemaLemmas.{unplaced, version_is, list_is, person_is, grant_is, message_is, sequence_is, option_is, address_is, month_index_is, author_index_is}
+use Rattle.archive_tables.proofs.SchemaLemmas.{unplaced, version_is, list_matches, person_is, grant_is, message_is, sequence_is, option_is, address_is, month_index_is, author_index_is}
 use Rattle.archive_tables.proofs.MakeLemmas.{AreEmpty, version_alone, list_alone, person_alone, grant_alone, message_brings}
 use Rattle.archive_tables.proofs.MakeLemmas.{author_indexed, option_alone, address_alone, version_text, version_cells, puts}
 use Rattle.archive_tables.proofs.RunLemmas.{passed, value_is, no_action, cast_null, cast_int}
@@ -55,7 +58,7 @@ use Rattle.archive_tables.proofs.CreateLemmas.{Proceeds, CanCreate, CanIndex, Co
 
 -- ---- the nine texts, each over what the ones before it made
 
-can_version : CanCreate no_schema create_version (unplaced version_table)
+can_version : CanCreate empty_schema create_version (unplaced version_table)
 unfolding everything is_utf8 chars lib.Utf8.encode sound.fits_kind sound.begins sound.same_name sound.is_free_name value_cmp lib.Ieee.is_nan lib.Ieee.lt
 can_version = record {
   text = IsUtf8-from_is_utf8 create_version refl;
@@ -72,21 +75,21 @@ can_version = record {
   listed = refl;
 }
 
-version_may : (trees : Trees) (out : Result (Tally × Database) (Option Error)) → MayEnd making_version (over no_schema trees) out → Does None at_once []
-    (over no_schema trees) create_version None CreateTable out
+version_may : (trees : Trees) (out : Result (Tally × Database) (Option Error)) → StatementMayEndIn create_version_statement (over empty_schema trees) out → Does None at_once []
+    (over empty_schema trees) create_version None CreateTable out
 unfolding understood everything
 version_may trees out h = h
 
-version_next : (trees : Trees) → AreEmpty trees no_schema.tables → Proceeds making_version no_schema with_version trees
+version_next : (trees : Trees) → AreEmpty trees empty_schema.tables → Proceeds create_version_statement empty_schema schema_with_version trees
 version_next trees empty =
-    let whole = subst (Completes (created no_schema (unplaced version_table))) version_alone.1 (completes_alone (created no_schema (unplaced version_table)) version_alone.0) in
-    table_proceeds making_version no_schema with_version create_version (unplaced version_table) trees can_version whole empty (version_may trees)
+    let whole = subst (Completes (created empty_schema (unplaced version_table))) version_alone.1 (completes_alone (created empty_schema (unplaced version_table)) version_alone.0) in
+    table_proceeds create_version_statement empty_schema schema_with_version create_version (unplaced version_table) trees can_version whole empty (version_may trees)
 
-can_list : CanCreate with_version create_list (unplaced list_table)
+can_list : CanCreate schema_with_version create_list (unplaced list_table)
 unfolding everything is_utf8 chars lib.Utf8.encode sound.fits_kind sound.begins sound.same_name sound.is_free_name value_cmp lib.Ieee.is_nan lib.Ieee.lt
 can_list = record {
   text = IsUtf8-from_is_utf8 create_list refl;
-  defined = list_is;
+  defined = list_matches;
   short = lit< tt;
   free = refl;
   keys = (refl, tt);
@@ -99,17 +102,17 @@ can_list = record {
   listed = refl;
 }
 
-list_may : (trees : Trees) (out : Result (Tally × Database) (Option Error)) → MayEnd making_lists (over with_version trees) out → Does None at_once []
-    (over with_version trees) create_list None CreateTable out
+list_may : (trees : Trees) (out : Result (Tally × Database) (Option Error)) → StatementMayEndIn create_list_statement (over schema_with_version trees) out → Does None at_once []
+    (over schema_with_version trees) create_list None CreateTable out
 unfolding understood everything
 list_may trees out h = h
 
-list_next : (trees : Trees) → AreEmpty trees with_version.tables → Proceeds making_lists with_version with_list trees
+list_next : (trees : Trees) → AreEmpty trees schema_with_version.tables → Proceeds create_list_statement schema_with_version schema_with_lists trees
 list_next trees empty =
-    let whole = subst (Completes (created with_version (unplaced list_table))) list_alone.1 (completes_alone (created with_version (unplaced list_table)) list_alone.0) in
-    table_proceeds making_lists with_version with_list create_list (unplaced list_table) trees can_list whole empty (list_may trees)
+    let whole = subst (Completes (created schema_with_version (unplaced list_table))) list_alone.1 (completes_alone (created schema_with_version (unplaced list_table)) list_alone.0) in
+    table_proceeds create_list_statement schema_with_version schema_with_lists create_list (unplaced list_table) trees can_list whole empty (list_may trees)
 
-can_person : CanCreate with_list create_person (unplaced person_table)
+can_person : CanCreate schema_with_lists create_person (unplaced person_table)
 unfolding everything is_utf8 chars lib.Utf8.encode sound.fits_kind sound.begins sound.same_name sound.is_free_name value_cmp lib.Ieee.is_nan lib.Ieee.lt
 can_person = record {
   text = IsUtf8-from_is_utf8 create_person refl;
@@ -126,17 +129,17 @@ can_person = record {
   listed = refl;
 }
 
-person_may : (trees : Trees) (out : Result (Tally × Database) (Option Error)) → MayEnd making_persons (over with_list trees) out → Does None at_once []
-    (over with_list trees) create_person None CreateTable out
+person_may : (trees : Trees) (out : Result (Tally × Database) (Option Error)) → StatementMayEndIn create_person_statement (over schema_with_lists trees) out → Does None at_once []
+    (over schema_with_lists trees) create_person None CreateTable out
 unfolding understood everything
 person_may trees out h = h
 
-person_next : (trees : Trees) → AreEmpty trees with_list.tables → Proceeds making_persons with_list with_person trees
+person_next : (trees : Trees) → AreEmpty trees schema_with_lists.tables → Proceeds create_person_statement schema_with_lists schema_with_persons trees
 person_next trees empty =
-    let whole = subst (Completes (created with_list (unplaced person_table))) person_alone.1 (completes_alone (created with_list (unplaced person_table)) person_alone.0) in
-    table_proceeds making_persons with_list with_person create_person (unplaced person_table) trees can_person whole empty (person_may trees)
+    let whole = subst (Completes (created schema_with_lists (unplaced person_table))) person_alone.1 (completes_alone (created schema_with_lists (unplaced person_table)) person_alone.0) in
+    table_proceeds create_person_statement schema_with_lists schema_with_persons create_person (unplaced person_table) trees can_person whole empty (person_may trees)
 
-can_grant : CanCreate with_person create_grant (unplaced grant_table)
+can_grant : CanCreate schema_with_persons create_grant (unplaced grant_table)
 unfolding everything is_utf8 chars lib.Utf8.encode sound.fits_kind sound.begins sound.same_name sound.is_free_name value_cmp lib.Ieee.is_nan lib.Ieee.lt
 can_grant = record {
   text = IsUtf8-from_is_utf8 create_grant refl;
@@ -153,17 +156,17 @@ can_grant = record {
   listed = refl;
 }
 
-grant_may : (trees : Trees) (out : Result (Tally × Database) (Option Error)) → MayEnd making_grants (over with_person trees) out → Does None at_once []
-    (over with_person trees) create_grant None CreateTable out
+grant_may : (trees : Trees) (out : Result (Tally × Database) (Option Error)) → StatementMayEndIn create_grant_statement (over schema_with_persons trees) out → Does None at_once []
+    (over schema_with_persons trees) create_grant None CreateTable out
 unfolding understood everything
 grant_may trees out h = h
 
-grant_next : (trees : Trees) → AreEmpty trees with_person.tables → Proceeds making_grants with_person with_grant trees
+grant_next : (trees : Trees) → AreEmpty trees schema_with_persons.tables → Proceeds create_grant_statement schema_with_persons schema_with_grants trees
 grant_next trees empty =
-    let whole = subst (Completes (created with_person (unplaced grant_table))) grant_alone.1 (completes_alone (created with_person (unplaced grant_table)) grant_alone.0) in
-    table_proceeds making_grants with_person with_grant create_grant (unplaced grant_table) trees can_grant whole empty (grant_may trees)
+    let whole = subst (Completes (created schema_with_persons (unplaced grant_table))) grant_alone.1 (completes_alone (created schema_with_persons (unplaced grant_table)) grant_alone.0) in
+    table_proceeds create_grant_statement schema_with_persons schema_with_grants create_grant (unplaced grant_table) trees can_grant whole empty (grant_may trees)
 
-can_message : CanCreate with_grant create_message (unplaced message_table)
+can_message : CanCreate schema_with_grants create_message (unplaced message_table)
 unfolding everything is_utf8 chars lib.Utf8.encode sound.fits_kind sound.begins sound.same_name sound.is_free_name value_cmp lib.Ieee.is_nan lib.Ieee.lt
 can_message = record {
   text = IsUtf8-from_is_utf8 create_message refl;
@@ -180,7 +183,7 @@ can_message = record {
   listed = refl;
 }
 
-can_count : CanCreate (created with_grant (unplaced message_table)) sequence_text (unplaced sequence_table)
+can_count : CanCreate (created schema_with_grants (unplaced message_table)) sequence_text (unplaced sequence_table)
 unfolding everything is_utf8 chars lib.Utf8.encode sound.fits_kind sound.begins sound.same_name sound.is_free_name value_cmp lib.Ieee.is_nan lib.Ieee.lt
 can_count = record {
   text = IsUtf8-from_is_utf8 sequence_text refl;
@@ -197,18 +200,18 @@ can_count = record {
   listed = refl;
 }
 
-message_may : (trees : Trees) (out : Result (Tally × Database) (Option Error)) → MayEnd making_messages (over with_grant trees) out → Does None at_once []
-    (over with_grant trees) create_message None CreateTable out
+message_may : (trees : Trees) (out : Result (Tally × Database) (Option Error)) → StatementMayEndIn create_message_statement (over schema_with_grants trees) out → Does None at_once []
+    (over schema_with_grants trees) create_message None CreateTable out
 unfolding understood everything
 message_may trees out h = h
 
-message_next : (trees : Trees) → AreEmpty trees with_grant.tables → Proceeds making_messages with_grant with_message trees
+message_next : (trees : Trees) → AreEmpty trees schema_with_grants.tables → Proceeds create_message_statement schema_with_grants schema_with_messages trees
 message_next trees empty =
-    let whole = subst (Completes (created with_grant (unplaced message_table))) message_brings.1
-    (completes_counted (created with_grant (unplaced message_table)) (unplaced sequence_table) message_brings.0 can_count) in
-    table_proceeds making_messages with_grant with_message create_message (unplaced message_table) trees can_message whole empty (message_may trees)
+    let whole = subst (Completes (created schema_with_grants (unplaced message_table))) message_brings.1
+    (completes_counted (created schema_with_grants (unplaced message_table)) (unplaced sequence_table) message_brings.0 can_count) in
+    table_proceeds create_message_statement schema_with_grants schema_with_messages create_message (unplaced message_table) trees can_message whole empty (message_may trees)
 
-can_months : CanIndex with_message message_table create_month_index month_index
+can_months : CanIndex schema_with_messages message_table create_month_index month_index
 unfolding everything is_utf8 chars lib.Utf8.encode sound.fits_kind sound.begins sound.same_name sound.is_free_name value_cmp lib.Ieee.is_nan lib.Ieee.lt
 can_months = record {
   text = IsUtf8-from_is_utf8 create_month_index refl;
@@ -224,15 +227,15 @@ can_months = record {
   listed = refl;
 }
 
-months_may : (trees : Trees) (out : Result (Tally × Database) (Option Error)) → MayEnd indexing_months (over with_message trees) out → Does None at_once []
-    (over with_message trees) create_month_index None (CreateIndex 4) out
+months_may : (trees : Trees) (out : Result (Tally × Database) (Option Error)) → StatementMayEndIn create_month_index_statement (over schema_with_messages trees) out → Does None at_once []
+    (over schema_with_messages trees) create_month_index None (CreateIndex 4) out
 unfolding understood everything
 months_may trees out h = h
 
-months_next : (trees : Trees) → AreEmpty trees with_message.tables → Proceeds indexing_months with_message with_month_index trees
-months_next trees empty = index_proceeds with_message 4 message_table refl create_month_index month_index can_months trees empty indexing_months (months_may trees)
+months_next : (trees : Trees) → AreEmpty trees schema_with_messages.tables → Proceeds create_month_index_statement schema_with_messages schema_with_month_index trees
+months_next trees empty = index_proceeds schema_with_messages 4 message_table refl create_month_index month_index can_months trees empty create_month_index_statement (months_may trees)
 
-can_authors : CanIndex with_month_index message_table create_author_index author_index
+can_authors : CanIndex schema_with_month_index message_table create_author_index author_index
 unfolding everything is_utf8 chars lib.Utf8.encode sound.fits_kind sound.begins sound.same_name sound.is_free_name value_cmp lib.Ieee.is_nan lib.Ieee.lt
 can_authors = record {
   text = IsUtf8-from_is_utf8 create_author_index refl;
@@ -248,14 +251,14 @@ can_authors = record {
   listed = refl;
 }
 
-authors_may : (trees : Trees) (out : Result (Tally × Database) (Option Error)) → MayEnd indexing_authors (over with_month_index trees) out → Does None at_once []
-    (over with_month_index trees) create_author_index None (CreateIndex 4) out
+authors_may : (trees : Trees) (out : Result (Tally × Database) (Option Error)) → StatementMayEndIn create_author_index_statement (over schema_with_month_index trees) out → Does None at_once []
+    (over schema_with_month_index trees) create_author_index None (CreateIndex 4) out
 unfolding understood everything
 authors_may trees out h = h
 
-authors_next : (trees : Trees) → AreEmpty trees with_month_index.tables → Proceeds indexing_authors with_month_index schema_1 trees
-authors_next trees empty = subst (λ s. Proceeds indexing_authors with_month_index s trees) author_indexed
-    (index_proceeds with_month_index 4 message_table refl create_author_index author_index can_authors trees empty indexing_authors (authors_may trees))
+authors_next : (trees : Trees) → AreEmpty trees schema_with_month_index.tables → Proceeds create_author_index_statement schema_with_month_index schema_1 trees
+authors_next trees empty = subst (λ s. Proceeds create_author_index_statement schema_with_month_index s trees) author_indexed
+    (index_proceeds schema_with_month_index 4 message_table refl create_author_index author_index can_authors trees empty create_author_index_statement (authors_may trees))
 
 can_option : CanCreate schema_1 create_option (unplaced option_table)
 unfolding everything is_utf8 chars lib.Utf8.encode sound.fits_kind sound.begins sound.same_name sound.is_free_name value_cmp lib.Ieee.is_nan lib.Ieee.lt
@@ -274,15 +277,15 @@ can_option = record {
   listed = refl;
 }
 
-option_may : (trees : Trees) (out : Result (Tally × Database) (Option Error)) → MayEnd making_options (over schema_1 trees) out → Does None at_once []
+option_may : (trees : Trees) (out : Result (Tally × Database) (Option Error)) → StatementMayEndIn create_option_statement (over schema_1 trees) out → Does None at_once []
     (over schema_1 trees) create_option None CreateTable out
 unfolding understood everything
 option_may trees out h = h
 
-option_next : (trees : Trees) → AreEmpty trees schema_1.tables → Proceeds making_options schema_1 schema_2 trees
+option_next : (trees : Trees) → AreEmpty trees schema_1.tables → Proceeds create_option_statement schema_1 schema_2 trees
 option_next trees empty =
     let whole = subst (Completes (created schema_1 (unplaced option_table))) option_alone.1 (completes_alone (created schema_1 (unplaced option_table)) option_alone.0) in
-    table_proceeds making_options schema_1 schema_2 create_option (unplaced option_table) trees can_option whole empty (option_may trees)
+    table_proceeds create_option_statement schema_1 schema_2 create_option (unplaced option_table) trees can_option whole empty (option_may trees)
 
 can_address : CanCreate schema_2 create_address (unplaced address_table)
 unfolding everything is_utf8 chars lib.Utf8.encode sound.fits_kind sound.begins sound.same_name sound.is_free_name value_cmp lib.Ieee.is_nan lib.Ieee.lt
@@ -301,19 +304,19 @@ can_address = record {
   listed = refl;
 }
 
-address_may : (trees : Trees) (out : Result (Tally × Database) (Option Error)) → MayEnd making_addresses (over schema_2 trees) out → Does None at_once []
+address_may : (trees : Trees) (out : Result (Tally × Database) (Option Error)) → StatementMayEndIn create_address_statement (over schema_2 trees) out → Does None at_once []
     (over schema_2 trees) create_address None CreateTable out
 unfolding understood everything
 address_may trees out h = h
 
-address_next : (trees : Trees) → AreEmpty trees schema_2.tables → Proceeds making_addresses schema_2 archive_schema trees
+address_next : (trees : Trees) → AreEmpty trees schema_2.tables → Proceeds create_address_statement schema_2 archive_schema trees
 address_next trees empty =
     let whole = subst (Completes (created schema_2 (unplaced address_table))) address_alone.1 (completes_alone (created schema_2 (unplaced address_table)) address_alone.0) in
-    table_proceeds making_addresses schema_2 archive_schema create_address (unplaced address_table) trees can_address whole empty (address_may trees)
+    table_proceeds create_address_statement schema_2 archive_schema create_address (unplaced address_table) trees can_address whole empty (address_may trees)
 
 -- ---- the number of the version
 
-number_may : (trees : Trees) (out : Result (Tally × Database) (Option Error)) → MayEnd adding_version (over archive_schema trees) out → Does None at_once
+number_may : (trees : Trees) (out : Result (Tally × Database) (Option Error)) → StatementMayEndIn insert_version_statement (over archive_schema trees) out → Does None at_once
     (Int VERSION ∷ []) (over archive_schema trees) version_text None (Insert 0 (Values version_cells 2)) out
 unfolding understood everything
 number_may trees out h = h
@@ -439,7 +442,7 @@ module _ (trees : Trees) (empty : AreEmpty trees archive_schema.tables) where
       let same : w.trees ≡ mid.0 = ap (λ (it : Written). it.trees) (value_is next.2) ∙ value_is next.1 in
       subst (Refers All archive_schema) (sym same) (refers trees empty given.0 given.1.1 mid.0 mid.1)
 
-  number_never : (stop : Option Error) → ¬ MayEnd adding_version (over archive_schema trees) (Err stop)
+  number_never : (stop : Option Error) → ¬ StatementMayEndIn insert_version_statement (over archive_schema trees) (Err stop)
   number_never stop h =
       let w = went (number_may trees (Err stop) h) never_inserts in
       let tested = went w.2 (λ t refused. refused.0 (inserts w.0 w.1)) in
@@ -450,7 +453,7 @@ module _ (trees : Trees) (empty : AreEmpty trees archive_schema.tables) where
 
 -- over tables without rows SQL refuses none of these in its turn
 record Never (statements : List Statement) (s : Schema) : Type 0 where
-  never : (trees : Trees) → AreEmpty trees s.tables → ¬ IsRefusedInTurn statements (over s trees)
+  never : (trees : Trees) → AreEmpty trees s.tables → ¬ IsAnyStatementRefused statements (over s trees)
 
 then_never : (st : Statement) (rest : List Statement) (from to : Schema) → ((trees : Trees) → AreEmpty trees from.tables → Proceeds st from to trees) → Never rest to → Never (st ∷ rest) from
 then_never st rest from to next later = record {
@@ -458,20 +461,20 @@ then_never st rest from to next later = record {
     | inl refused ↦ (next trees empty).never refused.0 refused.1
     | inr on ↦
         let made = (next trees empty).makes on.1.0 on.0 on.1.1 in
-        later.never on.0.trees made.1 (subst (λ s. IsRefusedInTurn rest (over s on.0.trees)) made.0 on.2)
+        later.never on.0.trees made.1 (subst (λ s. IsAnyStatementRefused rest (over s on.0.trees)) made.0 on.2)
   ];
 }
 
-number_last : Never (adding_version ∷ []) archive_schema
+number_last : Never (insert_version_statement ∷ []) archive_schema
 number_last = record { never = λ trees empty it. elim it [ inl refused ↦ number_never trees empty refused.0 refused.1 | inr on ↦ on.2 ] }
 
-all_never : Never making_statements no_schema
+all_never : Never all_create_statements empty_schema
 all_never =
-    then_never making_version _ no_schema with_version version_next (then_never making_lists _ with_version with_list list_next
-    (then_never making_persons _ with_list with_person person_next (then_never making_grants _ with_person with_grant grant_next
-    (then_never making_messages _ with_grant with_message message_next (then_never indexing_months _ with_message with_month_index months_next
-    (then_never indexing_authors _ with_month_index schema_1 authors_next (then_never making_options _ schema_1 schema_2 option_next
-    (then_never making_addresses _ schema_2 archive_schema address_next number_last))))))))
+    then_never create_version_statement _ empty_schema schema_with_version version_next (then_never create_list_statement _ schema_with_version schema_with_lists list_next
+    (then_never create_person_statement _ schema_with_lists schema_with_persons person_next (then_never create_grant_statement _ schema_with_persons schema_with_grants grant_next
+    (then_never create_message_statement _ schema_with_grants schema_with_messages message_next (then_never create_month_index_statement _ schema_with_messages schema_with_month_index months_next
+    (then_never create_author_index_statement _ schema_with_month_index schema_1 authors_next (then_never create_option_statement _ schema_1 schema_2 option_next
+    (then_never create_address_statement _ schema_2 archive_schema address_next number_last))))))))
 
-pub never_unmade : (db : Database) → db.schema ≡ no_schema → ¬ IsRefusedInTurn making_statements db
-never_unmade db none h = all_never.never db.trees tt (subst (λ s. IsRefusedInTurn making_statements (over s db.trees)) none h)
+pub never_unmade : (db : Database) → db.schema ≡ empty_schema → ¬ IsAnyStatementRefused all_create_statements db
+never_unmade db none h = all_never.never db.trees tt (subst (λ s. IsAnyStatementRefused all_create_statements (over s db.trees)) none h)

@@ -17,7 +17,7 @@ use Rattle.sqlite.specs.Rowids.TheVariants.{Above}
 use Rattle.sqlite_value.proofs.OrderLemmas.{value_cmp_total, value_cmp-Int}
 use Rattle.sqlite_trees.proofs.ListLemmas.{all_weaker}
 use Rattle.sqlite_trees.proofs.TreeLemmas.{IsTable-put_row}
-use Rattle.archive_tables.specs.Tables.{Numbered, row_of, read_of, Holds}
+use Rattle.archive_tables.specs.Tables.{NumberedRecord, numbered_row, numbered_from_row, HoldsRecords}
 
 abbrev HasNumber : Row → Type 0
 HasNumber row = rowid row ≡ Int (id_in (rowid row))
@@ -63,43 +63,43 @@ put_last new n (row ∷ rows) is all = rw (is, all.0) (ap (λ l. row ∷ l) (put
 -- ---- rows of records
 
 module _ {R : Type 0} (cells : R → Row) (read : Row → R) (back : (n : ℤ) (r : R) → read (Int n ∷ cells r) ≡ r) where
-  abbrev rows_of : List (Numbered R) → List Row
-  rows_of = map (row_of cells)
+  abbrev rows_of : List (NumberedRecord R) → List Row
+  rows_of = map (numbered_row cells)
 
-  have_numbers : (all : List (Numbered R)) → AllByRecursion HasNumber (rows_of all)
+  have_numbers : (all : List (NumberedRecord R)) → AllByRecursion HasNumber (rows_of all)
   have_numbers [] = tt
   have_numbers (r ∷ more) = (refl, have_numbers more)
 
-  read_back : (all : List (Numbered R)) → map (read_of read) (rows_of all) ≡ all
+  read_back : (all : List (NumberedRecord R)) → map (numbered_from_row read) (rows_of all) ≡ all
   read_back [] = refl
   read_back (r ∷ more) = ap₂ (λ x l. record { number = r.number; it = x } ∷ l) (back r.number r.it) (read_back more)
 
-  pub records_back : (all : List (Numbered R)) → map read (rows_of all) ≡ map (λ (r : Numbered R). r.it) all
+  pub records_back : (all : List (NumberedRecord R)) → map read (rows_of all) ≡ map (λ (r : NumberedRecord R). r.it) all
   records_back [] = refl
   records_back (r ∷ more) = ap₂ ◌∷◌ (back r.number r.it) (records_back more)
 
-  pub holds_from : (rows : List Row) (all : List (Numbered R)) → rows ≡ rows_of all → IsTable rows → Holds cells read rows × (map read rows ≡ map (λ (r : Numbered R). r.it) all)
+  pub holds_from : (rows : List Row) (all : List (NumberedRecord R)) → rows ≡ rows_of all → IsTable rows → HoldsRecords cells read rows × (map read rows ≡ map (λ (r : NumberedRecord R). r.it) all)
   holds_from rows all is up =
-      (record { coded = is ∙ ap rows_of (sym (ap (map (read_of read)) is ∙ read_back all)); rise = up }, ap (map read) is ∙ records_back all)
+      (record { round_trips = is ∙ ap rows_of (sym (ap (map (numbered_from_row read)) is ∙ read_back all)); rise = up }, ap (map read) is ∙ records_back all)
 
-  pub records_are : (rows : List Row) → Holds cells read rows → map read rows ≡ map (λ (r : Numbered R). r.it) (map (read_of read) rows)
-  records_are rows k = (holds_from rows (map (read_of read) rows) k.coded k.rise).1
+  pub records_are : (rows : List Row) → HoldsRecords cells read rows → map read rows ≡ map (λ (r : NumberedRecord R). r.it) (map (numbered_from_row read) rows)
+  records_are rows k = (holds_from rows (map (numbered_from_row read) rows) k.round_trips k.rise).1
 
-  one_more : (all : List (Numbered R)) (r : Numbered R) → (rows_of all ++ row_of cells r ∷ [] ≡ rows_of (all ++ r ∷ []))
-      × (map (λ (x : Numbered R). x.it) (all ++ r ∷ []) ≡ map (λ (x : Numbered R). x.it) all ++ r.it ∷ [])
+  one_more : (all : List (NumberedRecord R)) (r : NumberedRecord R) → (rows_of all ++ numbered_row cells r ∷ [] ≡ rows_of (all ++ r ∷ []))
+      × (map (λ (x : NumberedRecord R). x.it) (all ++ r ∷ []) ≡ map (λ (x : NumberedRecord R). x.it) all ++ r.it ∷ [])
   one_more [] r = (refl, refl)
-  one_more (x ∷ all) r = (ap (λ l. row_of cells x ∷ l) (one_more all r).0, ap (λ l. x.it ∷ l) (one_more all r).1)
+  one_more (x ∷ all) r = (ap (λ l. numbered_row cells x ∷ l) (one_more all r).0, ap (λ l. x.it ∷ l) (one_more all r).1)
 
   -- a row whose number is not below the next one goes to the end
-  pub put_past : (rows : List Row) (new : Numbered R) → (next_rowid rows ≡ new.number) ⊎ (next_rowid rows <ℤ new.number) → Holds cells read rows
-      → Holds cells read (put_row (row_of cells new) rows) × (map read (put_row (row_of cells new) rows) ≡ map read rows ++ new.it ∷ [])
-      × (put_row (row_of cells new) rows ≡ rows ++ row_of cells new ∷ [])
+  pub put_past : (rows : List Row) (new : NumberedRecord R) → (next_rowid rows ≡ new.number) ⊎ (next_rowid rows <ℤ new.number) → HoldsRecords cells read rows
+      → HoldsRecords cells read (put_row (numbered_row cells new) rows) × (map read (put_row (numbered_row cells new) rows) ≡ map read rows ++ new.it ∷ [])
+      × (put_row (numbered_row cells new) rows ≡ rows ++ numbered_row cells new ∷ [])
   put_past rows new far k =
-      let all = map (read_of read) rows in
-      let num = subst (AllByRecursion HasNumber) (sym k.coded) (have_numbers all) in
-      let last = put_last (row_of cells new) new.number rows refl (below_more _ _ rows far (all_below (pos 1) rows k.rise num)) in
+      let all = map (numbered_from_row read) rows in
+      let num = subst (AllByRecursion HasNumber) (sym k.round_trips) (have_numbers all) in
+      let last = put_last (numbered_row cells new) new.number rows refl (below_more _ _ rows far (all_below (pos 1) rows k.rise num)) in
       let more = one_more all new in
-      let it = holds_from _ _ (last ∙ ap (λ l. l ++ row_of cells new ∷ []) k.coded ∙ more.0) (IsTable-put_row (row_of cells new) rows k.rise) in
+      let it = holds_from _ _ (last ∙ ap (λ l. l ++ numbered_row cells new ∷ []) k.round_trips ∙ more.0) (IsTable-put_row (numbered_row cells new) rows k.rise) in
       (it.0, it.1 ∙ more.1 ∙ ap (λ l. l ++ new.it ∷ []) (sym (records_are rows k)), last)
 
   -- above zero stays the rows' numbers: the new one is above the last, or the first
@@ -119,14 +119,14 @@ module _ {R : Type 0} (cells : R → Row) (read : Row → R) (back : (n : ℤ) (
   all_and_last P [] new all last = (last, tt)
   all_and_last P (row ∷ rows) new all last = (all.0, all_and_last P rows new all.1 last)
 
-  pub positive_more : (rows : List Row) (new : Numbered R) → (next_rowid rows ≡ new.number) ⊎ (next_rowid rows <ℤ new.number) → Holds cells read rows
-      → AllByRecursion (λ row. value_cmp (Int (pos 0)) (rowid row) ≡ Less) rows → AllByRecursion (λ row. value_cmp (Int (pos 0)) (rowid row) ≡ Less) (put_row (row_of cells new) rows)
+  pub positive_more : (rows : List Row) (new : NumberedRecord R) → (next_rowid rows ≡ new.number) ⊎ (next_rowid rows <ℤ new.number) → HoldsRecords cells read rows
+      → AllByRecursion (λ row. value_cmp (Int (pos 0)) (rowid row) ≡ Less) rows → AllByRecursion (λ row. value_cmp (Int (pos 0)) (rowid row) ≡ Less) (put_row (numbered_row cells new) rows)
   positive_more rows new far k all =
-      let num = subst (AllByRecursion HasNumber) (sym k.coded) (have_numbers (map (read_of read) rows)) in
+      let num = subst (AllByRecursion HasNumber) (sym k.round_trips) (have_numbers (map (numbered_from_row read) rows)) in
       let next = positive_next rows num all (pos 1) (omega (arith, ints)) in
       let above = above_too (next_rowid rows) new.number next far in
       subst (AllByRecursion (λ row. value_cmp (Int (pos 0)) (rowid row) ≡ Less)) (sym ((put_past rows new far k).2))
-      (all_and_last (λ row. value_cmp (Int (pos 0)) (rowid row) ≡ Less) rows (row_of cells new) all (value_cmp-Int _ _ ∙ sym (int_cmp_is (pos 0) new.number Less above)))
+      (all_and_last (λ row. value_cmp (Int (pos 0)) (rowid row) ≡ Less) rows (numbered_row cells new) all (value_cmp-Int _ _ ∙ sym (int_cmp_is (pos 0) new.number Less above)))
     where
       above_too : (a b : ℤ) → pos 0 <ℤ a → (a ≡ b) ⊎ (a <ℤ b) → pos 0 <ℤ b
       above_too a b above (inl same) = subst (λ n. pos 0 <ℤ n) same above

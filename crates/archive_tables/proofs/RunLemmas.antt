@@ -16,8 +16,8 @@ use Rattle.sqlite.proofs.Callers.{IsPlain}
 use Rattle.sqlite_rules.specs.Action.{works}
 use Rattle.sqlite_schema.specs.declared.schema.Keys.TheVariants.{Enforced}
 use Rattle.archive_tables.specs.Schema.{archive_schema}
-use Rattle.archive_tables.specs.Tables.{IsHeld, AreTables, committed_behind}
-use Rattle.archive_tables.specs.Calls.{RestsOver, StaysOver, IsBackAt}
+use Rattle.archive_tables.specs.Tables.{IsOpenArchive, AreArchiveTables, committed_database}
+use Rattle.archive_tables.specs.Calls.{FaultKeepsRowsOrRollsBack, LeavesRowsUnchanged, IsRolledBackTo}
 
 -- ---- a statement that fails
 
@@ -53,7 +53,7 @@ query_leaves old new sql params rows plain ran =
 
 -- outside a transaction, where this is both seen and committed
 pub kept_at : (new : State) (d : Database) → IsTrue new.is_open → new.now ≡ d → new.committed ≡ d → new.in_transaction ≡ false
-    → d.schema ≡ archive_schema → AreTables d.trees → IsBackAt d new
+    → d.schema ≡ archive_schema → AreArchiveTables d.trees → IsRolledBackTo d new
 kept_at new d up now committed mode schema tables = (
   record {
     is_open = up;
@@ -67,12 +67,12 @@ kept_at new d up now committed mode schema tables = (
 )
 
 -- a call that changes nothing
-pub stays : {behind : Option Database} (old new : State) → IsHeld behind old → IsUnchanged old new → StaysOver behind old new
+pub stays : {behind : Option Database} (old new : State) → IsOpenArchive behind old → IsUnchanged old new → LeavesRowsUnchanged behind old new
 stays {behind} old new k same = (
   record {
     is_open = same.0.is_open;
     autocommit = same.0.mode ∙ k.autocommit;
-    settled = same.0.committed_is ∙ k.settled ∙ ap (committed_behind behind) (sym same.0.now_is);
+    settled = same.0.committed_is ∙ k.settled ∙ ap (committed_database behind) (sym same.0.now_is);
     schema = rw same.0.now_is k.schema;
     tables = rw same.0.now_is k.tables;
     whole = k.whole;
@@ -81,28 +81,28 @@ stays {behind} old new k same = (
 )
 
 -- a call that goes back to the last commit
-pub goes_back : (db : Database) (old new : State) → IsHeld (Some db) old → IsRolledBack old new → IsTrue new.is_open → IsBackAt db new
+pub goes_back : (db : Database) (old new : State) → IsOpenArchive (Some db) old → IsRolledBack old new → IsTrue new.is_open → IsRolledBackTo db new
 goes_back db old new k undone up =
     kept_at new db up ((undone.undone up).0 ∙ k.settled) ((undone.undone up).1 ∙ k.settled) undone.autocommit k.whole.0 k.whole.1
 
-rests_over : (behind : Option Database) (old new : State) → IsHeld behind old → IsUnchanged old new ⊎ IsRolledBack old new → RestsOver behind old new
+rests_over : (behind : Option Database) (old new : State) → IsOpenArchive behind old → IsUnchanged old new ⊎ IsRolledBack old new → FaultKeepsRowsOrRollsBack behind old new
 rests_over None old new k (inl same) = λ up. stays old new k same
 rests_over None old new k (inr undone) = λ up.
     kept_at new old.now up ((undone.undone up).0 ∙ k.settled) ((undone.undone up).1 ∙ k.settled) undone.autocommit k.schema k.tables
 rests_over (Some db) old new k (inl same) = λ up. inl (stays old new k same)
 rests_over (Some db) old new k (inr undone) = λ up. inr (goes_back db old new k undone up)
 
-pub rests : {behind : Option Database} (old new : State) → IsHeld behind old → IsUnchanged old new ⊎ IsRolledBack old new → RestsOver behind old new
+pub rests : {behind : Option Database} (old new : State) → IsOpenArchive behind old → IsUnchanged old new ⊎ IsRolledBack old new → FaultKeepsRowsOrRollsBack behind old new
 rests {behind} old new k how = rests_over behind old new k how
 
 -- a write outside a transaction is committed, and one within leaves what is behind
-settles : (behind : Option Database) (old new : State) → IsHeld behind old → new.committed ≡ (if old.in_transaction then old.committed else new.now)
-    → new.committed ≡ committed_behind behind new.now
+settles : (behind : Option Database) (old new : State) → IsOpenArchive behind old → new.committed ≡ (if old.in_transaction then old.committed else new.now)
+    → new.committed ≡ committed_database behind new.now
 settles None old new k is = is ∙ rw k.autocommit
 settles (Some db) old new k is = is ∙ rw k.autocommit k.settled
 
-pub kept_by : {behind : Option Database} (old new : State) → IsHeld behind old → Shows old new new.now (if old.in_transaction then old.committed else new.now) old.in_transaction
-    → new.now.schema ≡ archive_schema → AreTables new.now.trees → IsHeld behind new
+pub kept_by : {behind : Option Database} (old new : State) → IsOpenArchive behind old → Shows old new new.now (if old.in_transaction then old.committed else new.now) old.in_transaction
+    → new.now.schema ≡ archive_schema → AreArchiveTables new.now.trees → IsOpenArchive behind new
 kept_by {behind} old new k shown schema tables = record {
   is_open = shown.is_open;
   autocommit = shown.mode ∙ k.autocommit;

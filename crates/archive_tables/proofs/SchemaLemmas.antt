@@ -16,9 +16,9 @@ pub version_is : table_defined_by create_version ≡ Ok (unplaced version_table)
 unfolding everything
 version_is = refl
 
-pub list_is : table_defined_by create_list ≡ Ok (unplaced list_table)
+pub list_matches : table_defined_by create_list ≡ Ok (unplaced list_table)
 unfolding everything
-list_is = refl
+list_matches = refl
 
 pub person_is : table_defined_by create_person ≡ Ok (unplaced person_table)
 unfolding everything

@@ -35,8 +35,8 @@ use Rattle.sqlite_value.specs.Keys.{ascending}
 use Rattle.sqlite_sql.proofs.QueryLemmas.{output_cmp_total}
 use Rattle.sqlite_trees.proofs.ListLemmas.{map-map}
 use Rattle.archive_tables.specs.Schema.{archive_schema}
-use Rattle.archive_tables.specs.Tables.{IsHeld, Numbered, row_of, read_of, Holds}
-use Rattle.archive_tables.specs.Calls.{RestsOver, StaysOver}
+use Rattle.archive_tables.specs.Tables.{IsOpenArchive, NumberedRecord, numbered_row, numbered_from_row, HoldsRecords}
+use Rattle.archive_tables.specs.Calls.{FaultKeepsRowsOrRollsBack, LeavesRowsUnchanged}
 use Rattle.archive_tables.proofs.OrderLemmas.{one_order, ties_flip}
 use Rattle.archive_tables.proofs.RunLemmas.{query_fails, query_leaves, rests, stays}
 use Rattle.archive_tables.proofs.RowLemmas.{records_are}
@@ -202,7 +202,7 @@ module _ (sql : List ℕ) (t : ℕ) (terms shown : List Term) (order : List (Ter
       subst (λ all. Picks (plain_query t terms shown order) params all rows) (low old.now.trees)
       (picks_of t terms shown order (overlay old.now.trees []) params rows (read.answer Null))
 
-  module _ {behind : Option Database} (k : IsHeld behind old) where
+  module _ {behind : Option Database} (k : IsOpenArchive behind old) where
     plain_here : IsPlain (understood old.now.schema sql)
     plain_here = subst (λ s. IsPlain (understood s sql)) (sym k.schema) plain
 
@@ -212,52 +212,53 @@ module _ (sql : List ℕ) (t : ℕ) (terms shown : List Term) (order : List (Ter
     pub leaves : (rows : List Row) → Shown sql params old new rows → IsUnchanged old new
     leaves rows h = query_leaves old new sql params rows plain_here h
 
-    pub asked_stays : (rows : List Row) → Shown sql params old new rows → StaysOver behind old new
+    pub asked_stays : (rows : List Row) → Shown sql params old new rows → LeavesRowsUnchanged behind old new
     asked_stays rows h = stays old new k (leaves rows h)
 
-    pub asked_rests : (rows : List Row) → Shown sql params old new rows → RestsOver behind old new
+    pub asked_rests : (rows : List Row) → Shown sql params old new rows → FaultKeepsRowsOrRollsBack behind old new
     asked_rests rows h = rests old new k (inl (leaves rows h))
 
-    pub refused_rests : (e : Error) → FailsToQuery sql params old new e → RestsOver behind old new
+    pub refused_rests : (e : Error) → FailsToQuery sql params old new e → FaultKeepsRowsOrRollsBack behind old new
     refused_rests e h = rests old new k (query_fails old new sql params e plain_here h)
 
 -- ---- over the rows of records
 
 module _ {R : Type 0} (cells : R → Row) (read : Row → R) (back : (n : ℤ) (r : R) → read (Int n ∷ cells r) ≡ r) (q : Query) (params : Row) (wanted : R → Bool)
     (tests : (n : ℤ) (r : R) → passes q.filter params (Int n ∷ cells r) ≡ wanted r) where
-  abbrev its : List (Numbered R) → List R
-  its = map (λ (r : Numbered R). r.it)
+  abbrev its : List (NumberedRecord R) → List R
+  its = map (λ (r : NumberedRecord R). r.it)
 
-  passing : (all : List (Numbered R)) → filter (passes q.filter params) (map (row_of cells) all) ≡ map (row_of cells) (filter (λ (r : Numbered R). wanted r.it) all)
+  passing : (all : List (NumberedRecord R)) → filter (passes q.filter params) (map (numbered_row cells) all) ≡ map (numbered_row cells) (filter (λ (r : NumberedRecord R). wanted r.it) all)
   passing [] = refl
   passing (r ∷ all) =
-      rw (tests r.number r.it) (elim (wanted r.it) as (λ b. cond b (row_of cells r ∷ filter (passes q.filter params) (map (row_of cells) all))
-      (filter (passes q.filter params) (map (row_of cells) all))
-      ≡ map (row_of cells) (cond b (r ∷ filter (λ (x : Numbered R). wanted x.it) all) (filter (λ (x : Numbered R). wanted x.it) all)))
-      [ true ↦ ap (λ l. row_of cells r ∷ l) (passing all) | false ↦ passing all ])
+      rw (tests r.number r.it) (elim (wanted r.it) as (λ b. cond b (numbered_row cells r ∷ filter (passes q.filter params) (map (numbered_row cells) all))
+      (filter (passes q.filter params) (map (numbered_row cells) all))
+      ≡ map (numbered_row cells) (cond b (r ∷ filter (λ (x : NumberedRecord R). wanted x.it) all) (filter (λ (x : NumberedRecord R). wanted x.it) all)))
+      [ true ↦ ap (λ l. numbered_row cells r ∷ l) (passing all) | false ↦ passing all ])
 
-  filter_its : (all : List (Numbered R)) → its (filter (λ (r : Numbered R). wanted r.it) all) ≡ filter wanted (its all)
+  filter_its : (all : List (NumberedRecord R)) → its (filter (λ (r : NumberedRecord R). wanted r.it) all) ≡ filter wanted (its all)
   filter_its [] = refl
   filter_its (r ∷ all) =
-      elim (wanted r.it) as (λ b. its (cond b (r ∷ filter (λ (x : Numbered R). wanted x.it) all) (filter (λ (x : Numbered R). wanted x.it) all)) ≡ cond b
+      elim (wanted r.it) as (λ b. its (cond b (r ∷ filter (λ (x : NumberedRecord R). wanted x.it) all) (filter (λ (x : NumberedRecord R). wanted x.it) all)) ≡ cond b
       (r.it ∷ filter wanted (its all)) (filter wanted (its all)))
       [ true ↦ ap (λ l. r.it ∷ l) (filter_its all) | false ↦ filter_its all ]
 
   -- the rows that pass are those of the records that are wanted
-  pub hits : (rows : List Row) → Holds cells read rows → (filter (passes q.filter params) rows ≡ map (row_of cells) (filter (λ (r : Numbered R). wanted r.it) (map (read_of read) rows)))
-      × (its (filter (λ (r : Numbered R). wanted r.it) (map (read_of read) rows)) ≡ filter wanted (map read rows))
+  pub hits : (rows : List Row) → HoldsRecords cells read rows → (filter (passes q.filter params) rows ≡ map (numbered_row cells)
+      (filter (λ (r : NumberedRecord R). wanted r.it) (map (numbered_from_row read) rows)))
+      × (its (filter (λ (r : NumberedRecord R). wanted r.it) (map (numbered_from_row read) rows)) ≡ filter wanted (map read rows))
   hits rows k = (
-    ap (filter (passes q.filter params)) k.coded ∙ passing (map (read_of read) rows),
-    filter_its (map (read_of read) rows) ∙ ap (filter wanted) (sym (records_are cells read back rows k)),
+    ap (filter (passes q.filter params)) k.round_trips ∙ passing (map (numbered_from_row read) rows),
+    filter_its (map (numbered_from_row read) rows) ∙ ap (filter wanted) (sym (records_are cells read back rows k)),
   )
 
-  pub count_wanted : (rows shown : List Row) → Holds cells read rows → Picks q params rows shown → length shown ≡ length (filter wanted (map read rows))
+  pub count_wanted : (rows shown : List Row) → HoldsRecords cells read rows → Picks q params rows shown → length shown ≡ length (filter wanted (map read rows))
   count_wanted rows shown k p =
       let it = hits rows k in
-      picks_count q params rows shown p ∙ ap length it.0 ∙ length-map (filter (λ (r : Numbered R). wanted r.it) (map (read_of read) rows)) (row_of cells)
-      ∙ sym (length-map (filter (λ (r : Numbered R). wanted r.it) (map (read_of read) rows)) (λ (r : Numbered R). r.it)) ∙ ap length it.1
+      picks_count q params rows shown p ∙ ap length it.0 ∙ length-map (filter (λ (r : NumberedRecord R). wanted r.it) (map (numbered_from_row read) rows)) (numbered_row cells)
+      ∙ sym (length-map (filter (λ (r : NumberedRecord R). wanted r.it) (map (numbered_from_row read) rows)) (λ (r : NumberedRecord R). r.it)) ∙ ap length it.1
 
-  pub any_wanted : (rows shown : List Row) → Holds cells read rows → Picks q params rows shown → not (nat_eq (length shown) 0) ≡ list_any wanted (map read rows)
+  pub any_wanted : (rows shown : List Row) → HoldsRecords cells read rows → Picks q params rows shown → not (nat_eq (length shown) 0) ≡ list_any wanted (map read rows)
   any_wanted rows shown k p = ap (λ n. not (nat_eq n 0)) (count_wanted rows shown k p) ∙ any_is_some wanted (map read rows)
 
 -- ---- in the order of the numbers
@@ -291,11 +292,11 @@ module _ (t : ℕ) (terms shown : List Term) (params : Row) where
   -- the records that are wanted, each as the query shows it
   pub shows : {R : Type 0} (cells : R → Row) (read : Row → R) (back : (n : ℤ) (r : R) → read (Int n ∷ cells r) ≡ r) (wanted : R → Bool)
       (tests : (n : ℤ) (r : R) → passes terms params (Int n ∷ cells r) ≡ wanted r) (show : R → Row) (same : (n : ℤ) (r : R) → (out (Int n ∷ cells r)).1 ≡ show r)
-      (rows picked : List Row) → Holds cells read rows → Picks query params rows picked → picked ≡ map show (filter wanted (map read rows))
+      (rows picked : List Row) → HoldsRecords cells read rows → Picks query params rows picked → picked ≡ map show (filter wanted (map read rows))
   shows {R} cells read back wanted tests show same rows picked k it =
       let found = hits cells read back query params wanted tests rows k in
-      in_order rows picked k.rise it ∙ ap (map (λ row. (out row).1)) found.0 ∙ each (filter (λ (r : Numbered R). wanted r.it) (map (read_of read) rows)) ∙ ap (map show) found.1
+      in_order rows picked k.rise it ∙ ap (map (λ row. (out row).1)) found.0 ∙ each (filter (λ (r : NumberedRecord R). wanted r.it) (map (numbered_from_row read) rows)) ∙ ap (map show) found.1
     where
-      each : (all : List (Numbered R)) → map (λ row. (out row).1) (map (row_of cells) all) ≡ map show (map (λ (r : Numbered R). r.it) all)
+      each : (all : List (NumberedRecord R)) → map (λ row. (out row).1) (map (numbered_row cells) all) ≡ map show (map (λ (r : NumberedRecord R). r.it) all)
       each [] = refl
       each (r ∷ all) = ap₂ ◌∷◌ (same r.number r.it) (each all)

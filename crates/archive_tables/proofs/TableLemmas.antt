@@ -4,11 +4,13 @@ use Rattle.std.specs.List.{AllByRecursion}
 use Rattle.sqlite.specs.Order.{Row}
 use Rattle.sqlite.specs.Table.{Table}
 use Rattle.sqlite.specs.Tree.{Trees}
-use Rattle.archive_machine.specs.Records.{Person, Grant, Message, Filing, ListOption, Address, Archive}
+use Rattle.archive_model.specs.Records.{Person, Grant, Message, IndexColumns, ListOption, Address, Archive}
 use Rattle.archive_tables.specs.Schema.{archive_schema}
-use Rattle.archive_tables.specs.Tables.{Holds, AreApart, ArePositive, AreTables, archive_in, list_cells, list_read, person_cells, person_read, grant_cells, grant_read, message_read}
-use Rattle.archive_tables.specs.Tables.{filed_cells, filing_read, filed_read, option_cells, option_read, address_cells, address_read, same_grant, same_message, same_option}
-use Rattle.archive_tables.specs.Tables.{same_address}
+use Rattle.archive_tables.specs.Tables.{HoldsRecords, HaveDistinctKeys, HavePositiveRowids, AreArchiveTables, archive_in_trees, list_cells}
+use Rattle.archive_tables.specs.Tables.{list_from_row, person_cells, person_from_row, grant_cells, grant_from_row, message_from_row}
+use Rattle.archive_tables.specs.Tables.{indexed_message_cells, index_columns_from_row, indexed_message_from_row, option_cells, option_from_row}
+use Rattle.archive_tables.specs.Tables.{address_cells, address_from_row, same_grant_key, same_message_key, same_option_key}
+use Rattle.archive_tables.specs.Tables.{same_address_key}
 
 -- every table but the one of this tree is as before
 pub record SameBut (t : ℕ) (old new : Trees) : Type 0 where
@@ -31,31 +33,31 @@ same_but t old new all = record {
   addresses = all.1.1.1.1.1.1.1.0;
 }
 
-abbrev of_lists : List (List ℕ) → List Person → List Grant → List Message → List Filing → List ListOption → List Address → Archive
-of_lists lists persons grants messages filings options addresses = record {
+abbrev of_lists : List (List ℕ) → List Person → List Grant → List Message → List IndexColumns → List ListOption → List Address → Archive
+of_lists lists persons grants messages index_columns options addresses = record {
   lists = lists;
   persons = persons;
   grants = grants;
   messages = messages;
-  filings = filings;
+  index_columns = index_columns;
   options = options;
   addresses = addresses;
 }
 
-pub archive_same : (a b : Archive) → a.lists ≡ b.lists → a.persons ≡ b.persons → a.grants ≡ b.grants → a.messages ≡ b.messages → a.filings ≡ b.filings
+pub archive_same : (a b : Archive) → a.lists ≡ b.lists → a.persons ≡ b.persons → a.grants ≡ b.grants → a.messages ≡ b.messages → a.index_columns ≡ b.index_columns
     → a.options ≡ b.options → a.addresses ≡ b.addresses → a ≡ b
 archive_same a b p q r s t u v =
-    ap (λ l. of_lists l a.persons a.grants a.messages a.filings a.options a.addresses) p
-    ∙ ap (λ l. of_lists b.lists l a.grants a.messages a.filings a.options a.addresses) q
-    ∙ ap (λ l. of_lists b.lists b.persons l a.messages a.filings a.options a.addresses) r
-    ∙ ap (λ l. of_lists b.lists b.persons b.grants l a.filings a.options a.addresses) s
+    ap (λ l. of_lists l a.persons a.grants a.messages a.index_columns a.options a.addresses) p
+    ∙ ap (λ l. of_lists b.lists l a.grants a.messages a.index_columns a.options a.addresses) q
+    ∙ ap (λ l. of_lists b.lists b.persons l a.messages a.index_columns a.options a.addresses) r
+    ∙ ap (λ l. of_lists b.lists b.persons b.grants l a.index_columns a.options a.addresses) s
     ∙ ap (λ l. of_lists b.lists b.persons b.grants b.messages l a.options a.addresses) t
-    ∙ ap (λ l. of_lists b.lists b.persons b.grants b.messages b.filings l a.addresses) u
-    ∙ ap (λ l. of_lists b.lists b.persons b.grants b.messages b.filings b.options l) v
+    ∙ ap (λ l. of_lists b.lists b.persons b.grants b.messages b.index_columns l a.addresses) u
+    ∙ ap (λ l. of_lists b.lists b.persons b.grants b.messages b.index_columns b.options l) v
 
-module _ (old new : Trees) (k : AreTables old) where
-  pub lists_change : SameBut 1 old new → (rows : List Row) → new 1 ≡ rows → Holds list_cells list_read rows
-      → AreTables new × (archive_in new ≡ record (archive_in old) { lists = map list_read rows })
+module _ (old new : Trees) (k : AreArchiveTables old) where
+  pub lists_change : SameBut 1 old new → (rows : List Row) → new 1 ≡ rows → HoldsRecords list_cells list_from_row rows
+      → AreArchiveTables new × (archive_in_trees new ≡ record (archive_in_trees old) { lists = map list_from_row rows })
   lists_change same rows is holds =
       let version = same.version (λ e. omega (arith, e)) in
       let persons = same.persons (λ e. omega (arith, e)) in
@@ -65,24 +67,24 @@ module _ (old new : Trees) (k : AreTables old) where
       let addresses = same.addresses (λ e. omega (arith, e)) in (
         record {
           version = version ∙ k.version;
-          lists = subst (Holds list_cells list_read) (sym is) holds;
-          persons = subst (Holds person_cells person_read) (sym persons) k.persons;
-          grants = subst (Holds grant_cells grant_read) (sym grants) k.grants;
-          messages = subst (Holds filed_cells filed_read) (sym messages) k.messages;
-          options = subst (Holds option_cells option_read) (sym options) k.options;
-          addresses = subst (Holds address_cells address_read) (sym addresses) k.addresses;
-          grants_apart = subst (λ l. AreApart same_grant (map grant_read l)) (sym grants) k.grants_apart;
-          messages_apart = subst (λ l. AreApart same_message (map message_read l)) (sym messages) k.messages_apart;
-          options_apart = subst (λ l. AreApart same_option (map option_read l)) (sym options) k.options_apart;
-          addresses_apart = subst (λ l. AreApart same_address (map address_read l)) (sym addresses) k.addresses_apart;
-          positive = subst ArePositive (sym messages) k.positive;
+          lists = subst (HoldsRecords list_cells list_from_row) (sym is) holds;
+          persons = subst (HoldsRecords person_cells person_from_row) (sym persons) k.persons;
+          grants = subst (HoldsRecords grant_cells grant_from_row) (sym grants) k.grants;
+          messages = subst (HoldsRecords indexed_message_cells indexed_message_from_row) (sym messages) k.messages;
+          options = subst (HoldsRecords option_cells option_from_row) (sym options) k.options;
+          addresses = subst (HoldsRecords address_cells address_from_row) (sym addresses) k.addresses;
+          grants_distinct = subst (λ l. HaveDistinctKeys same_grant_key (map grant_from_row l)) (sym grants) k.grants_distinct;
+          messages_distinct = subst (λ l. HaveDistinctKeys same_message_key (map message_from_row l)) (sym messages) k.messages_distinct;
+          options_distinct = subst (λ l. HaveDistinctKeys same_option_key (map option_from_row l)) (sym options) k.options_distinct;
+          addresses_distinct = subst (λ l. HaveDistinctKeys same_address_key (map address_from_row l)) (sym addresses) k.addresses_distinct;
+          positive = subst HavePositiveRowids (sym messages) k.positive;
         },
-        archive_same _ _ (ap (map list_read) is) (ap (map person_read) persons) (ap (map grant_read) grants) (ap (map message_read) messages) (ap (map filing_read) messages)
-            (ap (map option_read) options) (ap (map address_read) addresses),
+        archive_same _ _ (ap (map list_from_row) is) (ap (map person_from_row) persons) (ap (map grant_from_row) grants) (ap (map message_from_row) messages) (ap (map index_columns_from_row) messages)
+            (ap (map option_from_row) options) (ap (map address_from_row) addresses),
       )
 
-  pub persons_change : SameBut 3 old new → (rows : List Row) → new 3 ≡ rows → Holds person_cells person_read rows
-      → AreTables new × (archive_in new ≡ record (archive_in old) { persons = map person_read rows })
+  pub persons_change : SameBut 3 old new → (rows : List Row) → new 3 ≡ rows → HoldsRecords person_cells person_from_row rows
+      → AreArchiveTables new × (archive_in_trees new ≡ record (archive_in_trees old) { persons = map person_from_row rows })
   persons_change same rows is holds =
       let version = same.version (λ e. omega (arith, e)) in
       let lists = same.lists (λ e. omega (arith, e)) in
@@ -92,24 +94,24 @@ module _ (old new : Trees) (k : AreTables old) where
       let addresses = same.addresses (λ e. omega (arith, e)) in (
         record {
           version = version ∙ k.version;
-          lists = subst (Holds list_cells list_read) (sym lists) k.lists;
-          persons = subst (Holds person_cells person_read) (sym is) holds;
-          grants = subst (Holds grant_cells grant_read) (sym grants) k.grants;
-          messages = subst (Holds filed_cells filed_read) (sym messages) k.messages;
-          options = subst (Holds option_cells option_read) (sym options) k.options;
-          addresses = subst (Holds address_cells address_read) (sym addresses) k.addresses;
-          grants_apart = subst (λ l. AreApart same_grant (map grant_read l)) (sym grants) k.grants_apart;
-          messages_apart = subst (λ l. AreApart same_message (map message_read l)) (sym messages) k.messages_apart;
-          options_apart = subst (λ l. AreApart same_option (map option_read l)) (sym options) k.options_apart;
-          addresses_apart = subst (λ l. AreApart same_address (map address_read l)) (sym addresses) k.addresses_apart;
-          positive = subst ArePositive (sym messages) k.positive;
+          lists = subst (HoldsRecords list_cells list_from_row) (sym lists) k.lists;
+          persons = subst (HoldsRecords person_cells person_from_row) (sym is) holds;
+          grants = subst (HoldsRecords grant_cells grant_from_row) (sym grants) k.grants;
+          messages = subst (HoldsRecords indexed_message_cells indexed_message_from_row) (sym messages) k.messages;
+          options = subst (HoldsRecords option_cells option_from_row) (sym options) k.options;
+          addresses = subst (HoldsRecords address_cells address_from_row) (sym addresses) k.addresses;
+          grants_distinct = subst (λ l. HaveDistinctKeys same_grant_key (map grant_from_row l)) (sym grants) k.grants_distinct;
+          messages_distinct = subst (λ l. HaveDistinctKeys same_message_key (map message_from_row l)) (sym messages) k.messages_distinct;
+          options_distinct = subst (λ l. HaveDistinctKeys same_option_key (map option_from_row l)) (sym options) k.options_distinct;
+          addresses_distinct = subst (λ l. HaveDistinctKeys same_address_key (map address_from_row l)) (sym addresses) k.addresses_distinct;
+          positive = subst HavePositiveRowids (sym messages) k.positive;
         },
-        archive_same _ _ (ap (map list_read) lists) (ap (map person_read) is) (ap (map grant_read) grants) (ap (map message_read) messages) (ap (map filing_read) messages)
-            (ap (map option_read) options) (ap (map address_read) addresses),
+        archive_same _ _ (ap (map list_from_row) lists) (ap (map person_from_row) is) (ap (map grant_from_row) grants) (ap (map message_from_row) messages) (ap (map index_columns_from_row) messages)
+            (ap (map option_from_row) options) (ap (map address_from_row) addresses),
       )
 
-  pub grants_change : SameBut 6 old new → (rows : List Row) → new 6 ≡ rows → Holds grant_cells grant_read rows → AreApart same_grant (map grant_read rows)
-      → AreTables new × (archive_in new ≡ record (archive_in old) { grants = map grant_read rows })
+  pub grants_change : SameBut 6 old new → (rows : List Row) → new 6 ≡ rows → HoldsRecords grant_cells grant_from_row rows → HaveDistinctKeys same_grant_key (map grant_from_row rows)
+      → AreArchiveTables new × (archive_in_trees new ≡ record (archive_in_trees old) { grants = map grant_from_row rows })
   grants_change same rows is holds apart =
       let version = same.version (λ e. omega (arith, e)) in
       let lists = same.lists (λ e. omega (arith, e)) in
@@ -119,24 +121,25 @@ module _ (old new : Trees) (k : AreTables old) where
       let addresses = same.addresses (λ e. omega (arith, e)) in (
         record {
           version = version ∙ k.version;
-          lists = subst (Holds list_cells list_read) (sym lists) k.lists;
-          persons = subst (Holds person_cells person_read) (sym persons) k.persons;
-          grants = subst (Holds grant_cells grant_read) (sym is) holds;
-          messages = subst (Holds filed_cells filed_read) (sym messages) k.messages;
-          options = subst (Holds option_cells option_read) (sym options) k.options;
-          addresses = subst (Holds address_cells address_read) (sym addresses) k.addresses;
-          grants_apart = subst (λ l. AreApart same_grant (map grant_read l)) (sym is) apart;
-          messages_apart = subst (λ l. AreApart same_message (map message_read l)) (sym messages) k.messages_apart;
-          options_apart = subst (λ l. AreApart same_option (map option_read l)) (sym options) k.options_apart;
-          addresses_apart = subst (λ l. AreApart same_address (map address_read l)) (sym addresses) k.addresses_apart;
-          positive = subst ArePositive (sym messages) k.positive;
+          lists = subst (HoldsRecords list_cells list_from_row) (sym lists) k.lists;
+          persons = subst (HoldsRecords person_cells person_from_row) (sym persons) k.persons;
+          grants = subst (HoldsRecords grant_cells grant_from_row) (sym is) holds;
+          messages = subst (HoldsRecords indexed_message_cells indexed_message_from_row) (sym messages) k.messages;
+          options = subst (HoldsRecords option_cells option_from_row) (sym options) k.options;
+          addresses = subst (HoldsRecords address_cells address_from_row) (sym addresses) k.addresses;
+          grants_distinct = subst (λ l. HaveDistinctKeys same_grant_key (map grant_from_row l)) (sym is) apart;
+          messages_distinct = subst (λ l. HaveDistinctKeys same_message_key (map message_from_row l)) (sym messages) k.messages_distinct;
+          options_distinct = subst (λ l. HaveDistinctKeys same_option_key (map option_from_row l)) (sym options) k.options_distinct;
+          addresses_distinct = subst (λ l. HaveDistinctKeys same_address_key (map address_from_row l)) (sym addresses) k.addresses_distinct;
+          positive = subst HavePositiveRowids (sym messages) k.positive;
         },
-        archive_same _ _ (ap (map list_read) lists) (ap (map person_read) persons) (ap (map grant_read) is) (ap (map message_read) messages) (ap (map filing_read) messages)
-            (ap (map option_read) options) (ap (map address_read) addresses),
+        archive_same _ _ (ap (map list_from_row) lists) (ap (map person_from_row) persons) (ap (map grant_from_row) is) (ap (map message_from_row) messages) (ap (map index_columns_from_row) messages)
+            (ap (map option_from_row) options) (ap (map address_from_row) addresses),
       )
 
-  pub messages_change : SameBut 8 old new → (rows : List Row) → new 8 ≡ rows → Holds filed_cells filed_read rows → AreApart same_message (map message_read rows) → ArePositive rows
-      → AreTables new × (archive_in new ≡ record (archive_in old) { messages = map message_read rows; filings = map filing_read rows })
+  pub messages_change : SameBut 8 old new → (rows : List Row) → new 8 ≡ rows → HoldsRecords indexed_message_cells indexed_message_from_row rows
+      → HaveDistinctKeys same_message_key (map message_from_row rows) → HavePositiveRowids rows
+      → AreArchiveTables new × (archive_in_trees new ≡ record (archive_in_trees old) { messages = map message_from_row rows; index_columns = map index_columns_from_row rows })
   messages_change same rows is holds apart positive =
       let version = same.version (λ e. omega (arith, e)) in
       let lists = same.lists (λ e. omega (arith, e)) in
@@ -146,24 +149,24 @@ module _ (old new : Trees) (k : AreTables old) where
       let addresses = same.addresses (λ e. omega (arith, e)) in (
         record {
           version = version ∙ k.version;
-          lists = subst (Holds list_cells list_read) (sym lists) k.lists;
-          persons = subst (Holds person_cells person_read) (sym persons) k.persons;
-          grants = subst (Holds grant_cells grant_read) (sym grants) k.grants;
-          messages = subst (Holds filed_cells filed_read) (sym is) holds;
-          options = subst (Holds option_cells option_read) (sym options) k.options;
-          addresses = subst (Holds address_cells address_read) (sym addresses) k.addresses;
-          grants_apart = subst (λ l. AreApart same_grant (map grant_read l)) (sym grants) k.grants_apart;
-          messages_apart = subst (λ l. AreApart same_message (map message_read l)) (sym is) apart;
-          options_apart = subst (λ l. AreApart same_option (map option_read l)) (sym options) k.options_apart;
-          addresses_apart = subst (λ l. AreApart same_address (map address_read l)) (sym addresses) k.addresses_apart;
-          positive = subst ArePositive (sym is) positive;
+          lists = subst (HoldsRecords list_cells list_from_row) (sym lists) k.lists;
+          persons = subst (HoldsRecords person_cells person_from_row) (sym persons) k.persons;
+          grants = subst (HoldsRecords grant_cells grant_from_row) (sym grants) k.grants;
+          messages = subst (HoldsRecords indexed_message_cells indexed_message_from_row) (sym is) holds;
+          options = subst (HoldsRecords option_cells option_from_row) (sym options) k.options;
+          addresses = subst (HoldsRecords address_cells address_from_row) (sym addresses) k.addresses;
+          grants_distinct = subst (λ l. HaveDistinctKeys same_grant_key (map grant_from_row l)) (sym grants) k.grants_distinct;
+          messages_distinct = subst (λ l. HaveDistinctKeys same_message_key (map message_from_row l)) (sym is) apart;
+          options_distinct = subst (λ l. HaveDistinctKeys same_option_key (map option_from_row l)) (sym options) k.options_distinct;
+          addresses_distinct = subst (λ l. HaveDistinctKeys same_address_key (map address_from_row l)) (sym addresses) k.addresses_distinct;
+          positive = subst HavePositiveRowids (sym is) positive;
         },
-        archive_same _ _ (ap (map list_read) lists) (ap (map person_read) persons) (ap (map grant_read) grants) (ap (map message_read) is) (ap (map filing_read) is)
-            (ap (map option_read) options) (ap (map address_read) addresses),
+        archive_same _ _ (ap (map list_from_row) lists) (ap (map person_from_row) persons) (ap (map grant_from_row) grants) (ap (map message_from_row) is) (ap (map index_columns_from_row) is)
+            (ap (map option_from_row) options) (ap (map address_from_row) addresses),
       )
 
-  pub options_change : SameBut 13 old new → (rows : List Row) → new 13 ≡ rows → Holds option_cells option_read rows → AreApart same_option (map option_read rows)
-      → AreTables new × (archive_in new ≡ record (archive_in old) { options = map option_read rows })
+  pub options_change : SameBut 13 old new → (rows : List Row) → new 13 ≡ rows → HoldsRecords option_cells option_from_row rows → HaveDistinctKeys same_option_key (map option_from_row rows)
+      → AreArchiveTables new × (archive_in_trees new ≡ record (archive_in_trees old) { options = map option_from_row rows })
   options_change same rows is holds apart =
       let version = same.version (λ e. omega (arith, e)) in
       let lists = same.lists (λ e. omega (arith, e)) in
@@ -173,24 +176,25 @@ module _ (old new : Trees) (k : AreTables old) where
       let addresses = same.addresses (λ e. omega (arith, e)) in (
         record {
           version = version ∙ k.version;
-          lists = subst (Holds list_cells list_read) (sym lists) k.lists;
-          persons = subst (Holds person_cells person_read) (sym persons) k.persons;
-          grants = subst (Holds grant_cells grant_read) (sym grants) k.grants;
-          messages = subst (Holds filed_cells filed_read) (sym messages) k.messages;
-          options = subst (Holds option_cells option_read) (sym is) holds;
-          addresses = subst (Holds address_cells address_read) (sym addresses) k.addresses;
-          grants_apart = subst (λ l. AreApart same_grant (map grant_read l)) (sym grants) k.grants_apart;
-          messages_apart = subst (λ l. AreApart same_message (map message_read l)) (sym messages) k.messages_apart;
-          options_apart = subst (λ l. AreApart same_option (map option_read l)) (sym is) apart;
-          addresses_apart = subst (λ l. AreApart same_address (map address_read l)) (sym addresses) k.addresses_apart;
-          positive = subst ArePositive (sym messages) k.positive;
+          lists = subst (HoldsRecords list_cells list_from_row) (sym lists) k.lists;
+          persons = subst (HoldsRecords person_cells person_from_row) (sym persons) k.persons;
+          grants = subst (HoldsRecords grant_cells grant_from_row) (sym grants) k.grants;
+          messages = subst (HoldsRecords indexed_message_cells indexed_message_from_row) (sym messages) k.messages;
+          options = subst (HoldsRecords option_cells option_from_row) (sym is) holds;
+          addresses = subst (HoldsRecords address_cells address_from_row) (sym addresses) k.addresses;
+          grants_distinct = subst (λ l. HaveDistinctKeys same_grant_key (map grant_from_row l)) (sym grants) k.grants_distinct;
+          messages_distinct = subst (λ l. HaveDistinctKeys same_message_key (map message_from_row l)) (sym messages) k.messages_distinct;
+          options_distinct = subst (λ l. HaveDistinctKeys same_option_key (map option_from_row l)) (sym is) apart;
+          addresses_distinct = subst (λ l. HaveDistinctKeys same_address_key (map address_from_row l)) (sym addresses) k.addresses_distinct;
+          positive = subst HavePositiveRowids (sym messages) k.positive;
         },
-        archive_same _ _ (ap (map list_read) lists) (ap (map person_read) persons) (ap (map grant_read) grants) (ap (map message_read) messages) (ap (map filing_read) messages)
-            (ap (map option_read) is) (ap (map address_read) addresses),
+        archive_same _ _ (ap (map list_from_row) lists) (ap (map person_from_row) persons) (ap (map grant_from_row) grants) (ap (map message_from_row) messages)
+            (ap (map index_columns_from_row) messages)
+            (ap (map option_from_row) is) (ap (map address_from_row) addresses),
       )
 
-  pub addresses_change : SameBut 15 old new → (rows : List Row) → new 15 ≡ rows → Holds address_cells address_read rows → AreApart same_address (map address_read rows)
-      → AreTables new × (archive_in new ≡ record (archive_in old) { addresses = map address_read rows })
+  pub addresses_change : SameBut 15 old new → (rows : List Row) → new 15 ≡ rows → HoldsRecords address_cells address_from_row rows → HaveDistinctKeys same_address_key (map address_from_row rows)
+      → AreArchiveTables new × (archive_in_trees new ≡ record (archive_in_trees old) { addresses = map address_from_row rows })
   addresses_change same rows is holds apart =
       let version = same.version (λ e. omega (arith, e)) in
       let lists = same.lists (λ e. omega (arith, e)) in
@@ -200,18 +204,19 @@ module _ (old new : Trees) (k : AreTables old) where
       let options = same.options (λ e. omega (arith, e)) in (
         record {
           version = version ∙ k.version;
-          lists = subst (Holds list_cells list_read) (sym lists) k.lists;
-          persons = subst (Holds person_cells person_read) (sym persons) k.persons;
-          grants = subst (Holds grant_cells grant_read) (sym grants) k.grants;
-          messages = subst (Holds filed_cells filed_read) (sym messages) k.messages;
-          options = subst (Holds option_cells option_read) (sym options) k.options;
-          addresses = subst (Holds address_cells address_read) (sym is) holds;
-          grants_apart = subst (λ l. AreApart same_grant (map grant_read l)) (sym grants) k.grants_apart;
-          messages_apart = subst (λ l. AreApart same_message (map message_read l)) (sym messages) k.messages_apart;
-          options_apart = subst (λ l. AreApart same_option (map option_read l)) (sym options) k.options_apart;
-          addresses_apart = subst (λ l. AreApart same_address (map address_read l)) (sym is) apart;
-          positive = subst ArePositive (sym messages) k.positive;
+          lists = subst (HoldsRecords list_cells list_from_row) (sym lists) k.lists;
+          persons = subst (HoldsRecords person_cells person_from_row) (sym persons) k.persons;
+          grants = subst (HoldsRecords grant_cells grant_from_row) (sym grants) k.grants;
+          messages = subst (HoldsRecords indexed_message_cells indexed_message_from_row) (sym messages) k.messages;
+          options = subst (HoldsRecords option_cells option_from_row) (sym options) k.options;
+          addresses = subst (HoldsRecords address_cells address_from_row) (sym is) holds;
+          grants_distinct = subst (λ l. HaveDistinctKeys same_grant_key (map grant_from_row l)) (sym grants) k.grants_distinct;
+          messages_distinct = subst (λ l. HaveDistinctKeys same_message_key (map message_from_row l)) (sym messages) k.messages_distinct;
+          options_distinct = subst (λ l. HaveDistinctKeys same_option_key (map option_from_row l)) (sym options) k.options_distinct;
+          addresses_distinct = subst (λ l. HaveDistinctKeys same_address_key (map address_from_row l)) (sym is) apart;
+          positive = subst HavePositiveRowids (sym messages) k.positive;
         },
-        archive_same _ _ (ap (map list_read) lists) (ap (map person_read) persons) (ap (map grant_read) grants) (ap (map message_read) messages) (ap (map filing_read) messages)
-            (ap (map option_read) options) (ap (map address_read) is),
+        archive_same _ _ (ap (map list_from_row) lists) (ap (map person_from_row) persons) (ap (map grant_from_row) grants) (ap (map message_from_row) messages)
+            (ap (map index_columns_from_row) messages)
+            (ap (map option_from_row) options) (ap (map address_from_row) is),
       )

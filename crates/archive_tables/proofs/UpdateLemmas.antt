@@ -21,13 +21,14 @@ use Rattle.sqlite.specs.State.{State, mode_of, Executes}
 use Rattle.sqlite.proofs.Callers.{IsPlain, command_of, statement_of, runs_as, one_step}
 use Rattle.sqlite_tied.specs.Compute.{everything}
 use Rattle.sqlite_rules.specs.Calls.{ids_of}
-use Rattle.archive_machine.specs.Records.{Message}
-use Rattle.archive_machine.specs.Filing.{Filed}
+use Rattle.archive_model.specs.Records.{Message}
+use Rattle.archive_model.specs.Filing.{IndexedMessage}
 use Rattle.std.specs.List.{list_any}
 use Rattle.archive_tables.specs.Schema.{archive_schema, message_table}
-use Rattle.archive_machine.specs.Questions.{is_message}
-use Rattle.archive_tables.specs.Tables.{IsHeld, Numbered, row_of, filed_cells, message_read, filing_read, filed_read, archive_of, or_null, same_message, AreApart}
-use Rattle.archive_tables.specs.Calls.{ChangesOver, RestsOver}
+use Rattle.archive_model.specs.Questions.{is_message_at_key}
+use Rattle.archive_tables.specs.Tables.{IsOpenArchive, NumberedRecord, numbered_row, indexed_message_cells, message_from_row}
+use Rattle.archive_tables.specs.Tables.{index_columns_from_row, indexed_message_from_row, archive_of, int_or_null_value, same_message_key, HaveDistinctKeys}
+use Rattle.archive_tables.specs.Calls.{ChangesArchive, FaultKeepsRowsOrRollsBack}
 use Rattle.archive_tables.proofs.RunLemmas.{passed, value_is, no_action, cast_null, cast_int, kept_by, rests, execute_fails}
 use Rattle.archive_tables.proofs.TableLemmas.{SameBut, same_but, messages_change}
 use Rattle.archive_tables.proofs.ChangeLemmas.{updated, apart_mapped}
@@ -36,7 +37,7 @@ use Rattle.archive_tables.proofs.MessageLemmas.{filed_back, messages_are, filing
 use Rattle.archive_tables.proofs.MailboxLemmas.{at_key, has_key}
 
 -- a message of this list and key is the same as those of this list and key
-pub alike : (list key : List ℕ) (a b : Message) → is_message list key a ≡ true → same_message a b ≡ is_message list key b
+pub alike : (list key : List ℕ) (a b : Message) → is_message_at_key list key a ≡ true → same_message_key a b ≡ is_message_at_key list key b
 alike list key a b found =
     let both = parts (bytes_eq a.list list) (bytes_eq a.key key) found in
     ap₂ ◌&&◌ (ap (bytes_eq b.list) (equal_words a.list list both.0)) (ap (bytes_eq b.key) (equal_words a.key key both.1))
@@ -47,41 +48,43 @@ alike list key a b found =
 
 -- ---- the same of what is filed of them
 
-abbrev same_filed : Filed → Filed → Bool
-same_filed f g = same_message f.0 g.0
+abbrev same_filed : IndexedMessage → IndexedMessage → Bool
+same_filed f g = same_message_key f.0 g.0
 
-none_alike : (m : Message) (rows : List Row) → list_any (λ (f : Filed). same_message m f.0) (map filed_read rows) ≡ list_any (same_message m) (map message_read rows)
+none_alike : (m : Message) (rows : List Row) → list_any (λ (f : IndexedMessage). same_message_key m f.0) (map indexed_message_from_row rows) ≡ list_any (same_message_key m) (map message_from_row rows)
 none_alike m [] = refl
-none_alike m (row ∷ rows) = ap (λ b. same_message m (message_read row) || b) (none_alike m rows)
+none_alike m (row ∷ rows) = ap (λ b. same_message_key m (message_from_row row) || b) (none_alike m rows)
 
-filed_apart : (rows : List Row) → AreApart same_message (map message_read rows) → AreApart same_filed (map filed_read rows)
+filed_apart : (rows : List Row) → HaveDistinctKeys same_message_key (map message_from_row rows) → HaveDistinctKeys same_filed (map indexed_message_from_row rows)
 filed_apart [] apart = tt
-filed_apart (row ∷ rows) apart = (none_alike (message_read row) rows ∙ apart.0, filed_apart rows apart.1)
+filed_apart (row ∷ rows) apart = (none_alike (message_from_row row) rows ∙ apart.0, filed_apart rows apart.1)
 
 -- a message is changed, and what is filed of it stays
 changed_filed : (p : Message → Bool) (set : Message → Message) (new old : List Row)
-    → map filed_read new ≡ map (λ (f : Filed). if p f.0 then (set f.0, f.1) else f) (map filed_read old)
-    → (map message_read new ≡ map (λ (m : Message). if p m then set m else m) (map message_read old)) × (map filing_read new ≡ map filing_read old)
-changed_filed p set new old is = (sym (messages_are new) ∙ ap (map (λ (f : Filed). f.0)) is ∙ firsts old, sym (filings_are new) ∙ ap (map (λ (f : Filed). f.1)) is ∙ seconds old)
+    → map indexed_message_from_row new ≡ map (λ (f : IndexedMessage). if p f.0 then (set f.0, f.1) else f) (map indexed_message_from_row old)
+    → (map message_from_row new ≡ map (λ (m : Message). if p m then set m else m) (map message_from_row old)) × (map index_columns_from_row new ≡ map index_columns_from_row old)
+changed_filed p set new old is = (sym (messages_are new) ∙ ap (map (λ (f : IndexedMessage). f.0)) is ∙ firsts old, sym (filings_are new) ∙ ap (map (λ (f : IndexedMessage). f.1)) is ∙ seconds old)
   where
-    firsts : (rows : List Row) → map (λ (f : Filed). f.0) (map (λ (f : Filed). if p f.0 then (set f.0, f.1) else f) (map filed_read rows)) ≡ map
-        (λ (m : Message). if p m then set m else m) (map message_read rows)
+    firsts : (rows : List Row) → map (λ (f : IndexedMessage). f.0) (map (λ (f : IndexedMessage). if p f.0 then (set f.0, f.1) else f) (map indexed_message_from_row rows)) ≡ map
+        (λ (m : Message). if p m then set m else m) (map message_from_row rows)
     firsts [] = refl
-    firsts (row ∷ rows) = ap₂ ◌∷◌ (by_test (p (message_read row))) (firsts rows)
+    firsts (row ∷ rows) = ap₂ ◌∷◌ (by_test (p (message_from_row row))) (firsts rows)
       where
-        by_test : (b : Bool) → (if b then (set (message_read row), filing_read row) else filed_read row).0 ≡ (if b then set (message_read row) else message_read row)
+        by_test : (b : Bool) → (if b then (set (message_from_row row), index_columns_from_row row) else indexed_message_from_row row).0 ≡
+            (if b then set (message_from_row row) else message_from_row row)
         by_test true = refl
         by_test false = refl
 
-    seconds : (rows : List Row) → map (λ (f : Filed). f.1) (map (λ (f : Filed). if p f.0 then (set f.0, f.1) else f) (map filed_read rows)) ≡ map filing_read rows
+    seconds : (rows : List Row) → map (λ (f : IndexedMessage). f.1) (map (λ (f : IndexedMessage). if p f.0 then (set f.0, f.1) else f) (map indexed_message_from_row rows)) ≡
+        map index_columns_from_row rows
     seconds [] = refl
-    seconds (row ∷ rows) = ap₂ ◌∷◌ (by_test (p (message_read row))) (seconds rows)
+    seconds (row ∷ rows) = ap₂ ◌∷◌ (by_test (p (message_from_row row))) (seconds rows)
       where
-        by_test : (b : Bool) → (if b then (set (message_read row), filing_read row) else filed_read row).1 ≡ filing_read row
+        by_test : (b : Bool) → (if b then (set (message_from_row row), index_columns_from_row row) else indexed_message_from_row row).1 ≡ index_columns_from_row row
         by_test true = refl
         by_test false = refl
 
-pub cast_or_null : (o : Option ℤ) → cast Integer (or_null o) ≡ or_null o
+pub cast_or_null : (o : Option ℤ) → cast Integer (int_or_null_value o) ≡ int_or_null_value o
 cast_or_null None = cast_null
 cast_or_null (Some n) = cast_int n
 
@@ -96,24 +99,24 @@ module _ (sql : List ℕ) (new_cells : List Term) (is : command_of (understood a
   abbrev query : Query
   query = plain_query 8 at_key new_cells []
 
-  abbrev shown_of : Numbered Filed → Row
-  shown_of r = (output query (env_of params (row_of filed_cells r))).1
+  abbrev shown_of : NumberedRecord IndexedMessage → Row
+  shown_of r = (output query (env_of params (numbered_row indexed_message_cells r))).1
 
   abbrev change : Message → Message
-  change m = if is_message list key m then set m else m
+  change m = if is_message_at_key list key m then set m else m
 
-  keeps : (a b : Message) → same_message (change a) (change b) ≡ same_message a b
+  keeps : (a b : Message) → same_message_key (change a) (change b) ≡ same_message_key a b
   keeps a b = ap₂ ◌&&◌ (ap₂ bytes_eq (same_list b) (same_list a)) (ap₂ bytes_eq (same_key b) (same_key a))
     where
       same_list : (m : Message) → (change m).list ≡ m.list
-      same_list m = elim (is_message list key m) as (λ c. (cond c (set m) m).list ≡ m.list) [ true ↦ keeps_list m | false ↦ refl ]
+      same_list m = elim (is_message_at_key list key m) as (λ c. (cond c (set m) m).list ≡ m.list) [ true ↦ keeps_list m | false ↦ refl ]
 
       same_key : (m : Message) → (change m).key ≡ m.key
-      same_key m = elim (is_message list key m) as (λ c. (cond c (set m) m).key ≡ m.key) [ true ↦ keeps_key m | false ↦ refl ]
+      same_key m = elim (is_message_at_key list key m) as (λ c. (cond c (set m) m).key ≡ m.key) [ true ↦ keeps_key m | false ↦ refl ]
 
-  module _ (puts : (db : Trees) (r : Numbered Filed) (given : List Row) → given ≡ shown_of r ∷ []
-      → edited db (edit_of db message_table (ids_of given) Given 1 given) ≡ put_row (row_of filed_cells (record r { it = (set r.it.0, r.it.1) })) (without_rowid r.number (db 8))) where
-    changes : {behind : Option Database} (old new : State) (count : ℕ) → IsHeld behind old → Executes sql params old new (Ok count) → ChangesOver behind old new
+  module _ (puts : (db : Trees) (r : NumberedRecord IndexedMessage) (given : List Row) → given ≡ shown_of r ∷ []
+      → edited db (edit_of db message_table (ids_of given) Given 1 given) ≡ put_row (numbered_row indexed_message_cells (record r { it = (set r.it.0, r.it.1) })) (without_rowid r.number (db 8))) where
+    changes : {behind : Option Database} (old new : State) (count : ℕ) → IsOpenArchive behind old → Executes sql params old new (Ok count) → ChangesArchive behind old new
         (λ a. record a { messages = map change a.messages })
     changes old new count k h =
         let db = old.now.trees in
@@ -129,20 +132,21 @@ module _ (sql : List ℕ) (new_cells : List Term) (is : command_of (understood a
         let applied = one_step archive_schema _ db written.0 edit (no_action 8 (taken_by db edit) edit.news) written.1 in
         let trees : new.now.trees ≡ written.0 = ap (λ (d : Database). d.trees) now ∙ ap (λ (x : Written). x.trees) (value_is written.2) in
         let rows : new.now.trees 8 ≡ edited db edit = ap (λ (t : Trees). t 8) trees ∙ applied.rows in
-        let found = hits filed_cells filed_read filed_back query params (λ (f : Filed). is_message list key f.0) (has_key list key more) (db 8) k.tables.messages in
-        let it = updated filed_cells filed_read filed_back (λ (f : Filed). is_message list key f.0) (λ (f : Filed). (set f.0, f.1)) same_filed
+        let found = hits indexed_message_cells indexed_message_from_row filed_back query params (λ (f : IndexedMessage). is_message_at_key list key f.0) (has_key list key more) (db 8)
+        k.tables.messages in
+        let it = updated indexed_message_cells indexed_message_from_row filed_back (λ (f : IndexedMessage). is_message_at_key list key f.0) (λ (f : IndexedMessage). (set f.0, f.1)) same_filed
         (λ f g found. alike list key f.0 g.0 found) (db 8) (edited db edit) k.tables.messages
-        (filed_apart (db 8) k.tables.messages_apart)
-        (λ r one. puts db r queried.0 (one_row query params (db 8) queried.0 (row_of filed_cells r) picks (found.0 ∙ ap (map (row_of filed_cells)) one)))
-        (λ none. ap (λ l. edited db (edit_of db message_table (ids_of l) Given 1 l)) (no_row query params (db 8) queried.0 picks (found.0 ∙ ap (map (row_of filed_cells)) none))) in
+        (filed_apart (db 8) k.tables.messages_distinct)
+        (λ r one. puts db r queried.0 (one_row query params (db 8) queried.0 (numbered_row indexed_message_cells r) picks (found.0 ∙ ap (map (numbered_row indexed_message_cells)) one)))
+        (λ none. ap (λ l. edited db (edit_of db message_table (ids_of l) Given 1 l)) (no_row query params (db 8) queried.0 picks (found.0 ∙ ap (map (numbered_row indexed_message_cells)) none))) in
         let same = subst (SameBut 8 db) (sym trees) (same_but 8 db written.0 applied.tables) in
-        let both = changed_filed (is_message list key) set (edited db edit) (db 8) it.1 in
-        let apart = subst (AreApart same_message) (sym both.0) (apart_mapped same_message change keeps (archive_of old).messages k.tables.messages_apart) in
+        let both = changed_filed (is_message_at_key list key) set (edited db edit) (db 8) it.1 in
+        let apart = subst (HaveDistinctKeys same_message_key) (sym both.0) (apart_mapped same_message_key change keeps (archive_of old).messages k.tables.messages_distinct) in
         let all = messages_change db new.now.trees k.tables same _ rows it.0 apart (it.2 (pos 0) k.tables.positive) in
-        (kept_by old new k w.shown (ap (λ (d : Database). d.schema) now) all.0, all.1 ∙ ap₂ (λ l n. record (archive_of old) { messages = l; filings = n }) both.0 both.1)
+        (kept_by old new k w.shown (ap (λ (d : Database). d.schema) now) all.0, all.1 ∙ ap₂ (λ l n. record (archive_of old) { messages = l; index_columns = n }) both.0 both.1)
 
-    pub tries_to_change : (behind : Option Database) (old new : State) (r : Result ℕ Error) → IsHeld behind old → Executes sql params old new r
-        → MatchResult r (λ _. ChangesOver behind old new (λ a. record a { messages = map change a.messages })) (λ _. RestsOver behind old new)
+    pub tries_to_change : (behind : Option Database) (old new : State) (r : Result ℕ Error) → IsOpenArchive behind old → Executes sql params old new r
+        → MatchResult r (λ _. ChangesArchive behind old new (λ a. record a { messages = map change a.messages })) (λ _. FaultKeepsRowsOrRollsBack behind old new)
     tries_to_change behind old new (Ok count) k h = changes old new count k h
     tries_to_change behind old new (Err e) k h = rests old new k (execute_fails old new sql params e h)
 
@@ -191,34 +195,36 @@ clear_plain : IsPlain (understood archive_schema clear_text)
 unfolding understood everything
 clear_plain = (refl, refl)
 
-withdrawn_puts : (db : Trees) (r : Numbered Filed) (by : ℤ) (given : List Row)
-    → given ≡ (Int r.number ∷ Int r.number ∷ Null ∷ Text r.it.0.list ∷ Text r.it.0.key ∷ Blob r.it.0.sender ∷ Int r.it.0.arrival ∷ Blob r.it.0.text ∷ Int by ∷ or_null
+withdrawn_puts : (db : Trees) (r : NumberedRecord IndexedMessage) (by : ℤ) (given : List Row)
+    → given ≡ (Int r.number ∷ Int r.number ∷ Null ∷ Text r.it.0.list ∷ Text r.it.0.key ∷ Blob r.it.0.sender ∷ Int r.it.0.arrival ∷ Blob r.it.0.text ∷ Int by ∷ int_or_null_value
     r.it.0.embargo ∷ Int r.it.1.sent ∷ Int r.it.1.month ∷ Blob r.it.1.author ∷ []) ∷ []
-    → edited db (edit_of db message_table (ids_of given) Given 1 given) ≡ put_row (row_of filed_cells (record r { it = (record r.it.0 { withdrawn = by }, r.it.1) })) (without_rowid r.number (db 8))
+    → edited db (edit_of db message_table (ids_of given) Given 1 given) ≡ put_row (numbered_row indexed_message_cells (record r { it = (record r.it.0 { withdrawn = by }, r.it.1) }))
+    (without_rowid r.number (db 8))
 withdrawn_puts db r by given from = rw (from, cast_null, cast_int r.number, cast_int r.it.0.arrival, cast_int by, cast_or_null r.it.0.embargo, cast_int r.it.1.sent, cast_int r.it.1.month)
 
-embargo_puts : (db : Trees) (r : Numbered Filed) (until : Option ℤ) (given : List Row)
+embargo_puts : (db : Trees) (r : NumberedRecord IndexedMessage) (until : Option ℤ) (given : List Row)
     → given ≡ (Int r.number ∷ Int r.number ∷ Null ∷ Text r.it.0.list ∷ Text r.it.0.key ∷ Blob r.it.0.sender ∷ Int r.it.0.arrival ∷ Blob r.it.0.text ∷ Int
-    r.it.0.withdrawn ∷ or_null until ∷ Int r.it.1.sent ∷ Int r.it.1.month ∷ Blob r.it.1.author ∷ []) ∷ []
-    → edited db (edit_of db message_table (ids_of given) Given 1 given) ≡ put_row (row_of filed_cells (record r { it = (record r.it.0 { embargo = until }, r.it.1) })) (without_rowid r.number (db 8))
+    r.it.0.withdrawn ∷ int_or_null_value until ∷ Int r.it.1.sent ∷ Int r.it.1.month ∷ Blob r.it.1.author ∷ []) ∷ []
+    → edited db (edit_of db message_table (ids_of given) Given 1 given) ≡ put_row (numbered_row indexed_message_cells (record r { it = (record r.it.0 { embargo = until }, r.it.1) }))
+    (without_rowid r.number (db 8))
 embargo_puts db r until given from = rw (from, cast_null, cast_int r.number, cast_int r.it.0.arrival, cast_int r.it.0.withdrawn, cast_or_null until, cast_int r.it.1.sent, cast_int r.it.1.month)
 
-pub tries_withdrawn : (list key : List ℕ) (by : ℤ) (behind : Option Database) (old new : State) (r : Result ℕ Error) → IsHeld behind old → Executes withdrawn_text
+pub tries_withdrawn : (list key : List ℕ) (by : ℤ) (behind : Option Database) (old new : State) (r : Result ℕ Error) → IsOpenArchive behind old → Executes withdrawn_text
     (Text list ∷ Text key ∷ Int by ∷ []) old new r
-    → MatchResult r (λ _. ChangesOver behind old new (λ a. record a { messages = map (λ m. if is_message list key m then record m { withdrawn = by } else m) a.messages }))
-    (λ _. RestsOver behind old new)
+    → MatchResult r (λ _. ChangesArchive behind old new (λ a. record a { messages = map (λ m. if is_message_at_key list key m then record m { withdrawn = by } else m) a.messages }))
+    (λ _. FaultKeepsRowsOrRollsBack behind old new)
 tries_withdrawn list key by = tries_to_change withdrawn_text withdrawn_cells withdrawn_is withdrawn_plain list key (Int by ∷ []) (λ m. record m { withdrawn = by }) (λ m. refl) (λ m. refl)
     (λ db r given from. withdrawn_puts db r by given from)
 
-pub tries_embargo : (list key : List ℕ) (until : ℤ) (behind : Option Database) (old new : State) (r : Result ℕ Error) → IsHeld behind old → Executes embargo_text
+pub tries_embargo : (list key : List ℕ) (until : ℤ) (behind : Option Database) (old new : State) (r : Result ℕ Error) → IsOpenArchive behind old → Executes embargo_text
     (Text list ∷ Text key ∷ Int until ∷ []) old new r
-    → MatchResult r (λ _. ChangesOver behind old new (λ a. record a { messages = map (λ m. if is_message list key m then record m { embargo = Some until } else m) a.messages }))
-    (λ _. RestsOver behind old new)
+    → MatchResult r (λ _. ChangesArchive behind old new (λ a. record a { messages = map (λ m. if is_message_at_key list key m then record m { embargo = Some until } else m) a.messages }))
+    (λ _. FaultKeepsRowsOrRollsBack behind old new)
 tries_embargo list key until = tries_to_change embargo_text embargo_cells embargo_is embargo_plain list key (Int until ∷ []) (λ m. record m { embargo = Some until }) (λ m. refl) (λ m. refl)
     (λ db r given from. embargo_puts db r (Some until) given from)
 
-pub tries_to_clear : (list key : List ℕ) (behind : Option Database) (old new : State) (r : Result ℕ Error) → IsHeld behind old → Executes clear_text (Text list ∷ Text key ∷ []) old new r
-    → MatchResult r (λ _. ChangesOver behind old new (λ a. record a { messages = map (λ m. if is_message list key m then record m { embargo = None } else m) a.messages }))
-    (λ _. RestsOver behind old new)
+pub tries_to_clear : (list key : List ℕ) (behind : Option Database) (old new : State) (r : Result ℕ Error) → IsOpenArchive behind old → Executes clear_text (Text list ∷ Text key ∷ []) old new r
+    → MatchResult r (λ _. ChangesArchive behind old new (λ a. record a { messages = map (λ m. if is_message_at_key list key m then record m { embargo = None } else m) a.messages }))
+    (λ _. FaultKeepsRowsOrRollsBack behind old new)
 tries_to_clear list key = tries_to_change clear_text clear_cells clear_is clear_plain list key [] (λ m. record m { embargo = None }) (λ m. refl) (λ m. refl)
     (λ db r given from. embargo_puts db r None given from)

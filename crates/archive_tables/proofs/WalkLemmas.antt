@@ -22,13 +22,13 @@ use Rattle.sqlite_sql.specs.declared.ops.BinaryOp.TheVariants.{Compare}
 use Rattle.sqlite_sql.specs.declared.ops.CompareOp.TheVariants.{Eq}
 use Rattle.sqlite_value.proofs.OrderLemmas.{value_cmp-Int}
 use Rattle.sqlite_trees.proofs.ListLemmas.{map-map}
-use Rattle.archive_machine.specs.Records.{Message}
-use Rattle.archive_machine.specs.Filing.{Filed}
-use Rattle.archive_machine.specs.Questions.{messages_in}
+use Rattle.archive_model.specs.Records.{Message}
+use Rattle.archive_model.specs.Filing.{IndexedMessage}
+use Rattle.archive_model.specs.Questions.{messages_in}
 use Rattle.archive_tables.specs.Schema.{archive_schema}
-use Rattle.archive_tables.specs.Tables.{IsHeld, AreTables, Numbered, row_of, filed_cells, filed_read, archive_in}
-use Rattle.archive_tables.specs.Rows.{message_shown, dated_marks_shown, numbered_filed, places_in, message_at, place_shown}
-use Rattle.archive_tables.specs.Calls.{RestsOver, StaysOver, IsCaused}
+use Rattle.archive_tables.specs.Tables.{IsOpenArchive, AreArchiveTables, NumberedRecord, numbered_row, indexed_message_cells, indexed_message_from_row, archive_in_trees}
+use Rattle.archive_tables.specs.Rows.{message_result_row, dated_marks_result_row, numbered_indexed_messages, message_rowids_in, message_at, rowid_result_row}
+use Rattle.archive_tables.specs.Calls.{FaultKeepsRowsOrRollsBack, LeavesRowsUnchanged, IsMemoryOrDiskError}
 use Rattle.archive_tables.proofs.MessageLemmas.{filed_back, wanted_messages}
 use Rattle.archive_tables.proofs.MailboxLemmas.{of_list, has_list}
 use Rattle.archive_tables.proofs.SelectLemmas.{plain_query, by_number, env_of, passes, hits, in_order, asked, asked_stays, asked_rests, refused_rests, alone, int_is, tie_is}
@@ -60,8 +60,8 @@ places_typed : (list : List ℕ) → accepts_program archive_schema [] (plain_qu
 unfolding everything
 places_typed list = refl
 
-abbrev place_of : Numbered Filed → Row
-place_of r = place_shown r.number
+abbrev place_of : NumberedRecord IndexedMessage → Row
+place_of r = rowid_result_row r.number
 
 -- ---- the message of a number
 
@@ -120,58 +120,64 @@ unfolding everything
 marks_at_typed place = refl
 
 module _ (place : ℤ) where
-  abbrev pub is_at : Numbered Filed → Bool
+  abbrev pub is_at : NumberedRecord IndexedMessage → Bool
   is_at r = int_eq r.number place
 
-  has_place : (r : Numbered Filed) → passes at_place (Int place ∷ []) (row_of filed_cells r) ≡ is_at r
+  has_place : (r : NumberedRecord IndexedMessage) → passes at_place (Int place ∷ []) (numbered_row indexed_message_cells r) ≡ is_at r
   has_place r = alone _ ∙ int_is r.number place
 
-  abbrev shown_at : Numbered Filed → Row
-  shown_at r = message_shown r.it.0
+  abbrev shown_at : NumberedRecord IndexedMessage → Row
+  shown_at r = message_result_row r.it.0
 
-  passing : (all : List (Numbered Filed)) → filter (passes at_place (Int place ∷ [])) (map (row_of filed_cells) all) ≡ map (row_of filed_cells) (filter is_at all)
+  passing : (all : List (NumberedRecord IndexedMessage)) → filter (passes at_place (Int place ∷ [])) (map (numbered_row indexed_message_cells) all) ≡ map (numbered_row indexed_message_cells)
+      (filter is_at all)
   passing [] = refl
   passing (r ∷ all) =
-      rw (has_place r) (elim (is_at r) as (λ b. cond b (row_of filed_cells r ∷ filter (passes at_place (Int place ∷ [])) (map (row_of filed_cells) all))
-      (filter (passes at_place (Int place ∷ [])) (map (row_of filed_cells) all))
-      ≡ map (row_of filed_cells) (cond b (r ∷ filter is_at all) (filter is_at all)))
-      [ true ↦ ap (λ l. row_of filed_cells r ∷ l) (passing all) | false ↦ passing all ])
+      rw (has_place r) (elim (is_at r) as (λ b. cond b (numbered_row indexed_message_cells r ∷ filter (passes at_place (Int place ∷ [])) (map (numbered_row indexed_message_cells) all))
+      (filter (passes at_place (Int place ∷ [])) (map (numbered_row indexed_message_cells) all))
+      ≡ map (numbered_row indexed_message_cells) (cond b (r ∷ filter is_at all) (filter is_at all)))
+      [ true ↦ ap (λ l. numbered_row indexed_message_cells r ∷ l) (passing all) | false ↦ passing all ])
 
 -- what the query shows of a row
 abbrev cells_of : ℤ → Row → Row
 cells_of place row = (output (plain_query 8 at_place all_cells by_number) (env_of (Int place ∷ []) row)).1
 
-shown_cells : (place : ℤ) (all : List (Numbered Filed)) → map (cells_of place) (map (row_of filed_cells) all) ≡ map (λ (r : Numbered Filed). message_shown r.it.0) all
+shown_cells : (place : ℤ) (all : List (NumberedRecord IndexedMessage)) → map (cells_of place) (map (numbered_row indexed_message_cells) all) ≡ map
+    (λ (r : NumberedRecord IndexedMessage). message_result_row r.it.0) all
 shown_cells place [] = refl
-shown_cells place (r ∷ all) = ap (λ l. message_shown r.it.0 ∷ l) (shown_cells place all)
+shown_cells place (r ∷ all) = ap (λ l. message_result_row r.it.0 ∷ l) (shown_cells place all)
 
 abbrev marks_seen : ℤ → Row → Row
 marks_seen place row = (output (plain_query 8 at_place mark_cells by_number) (env_of (Int place ∷ []) row)).1
 
-shown_marks : (place : ℤ) (all : List (Numbered Filed)) → map (marks_seen place) (map (row_of filed_cells) all) ≡ map (λ (r : Numbered Filed). dated_marks_shown r.it.0) all
+shown_marks : (place : ℤ) (all : List (NumberedRecord IndexedMessage)) → map (marks_seen place) (map (numbered_row indexed_message_cells) all) ≡ map
+    (λ (r : NumberedRecord IndexedMessage). dated_marks_result_row r.it.0) all
 shown_marks place [] = refl
-shown_marks place (r ∷ all) = ap (λ l. dated_marks_shown r.it.0 ∷ l) (shown_marks place all)
+shown_marks place (r ∷ all) = ap (λ l. dated_marks_result_row r.it.0 ∷ l) (shown_marks place all)
 
 abbrev cell_of : List ℕ → Row → Row
 cell_of list row = (output (plain_query 8 of_list number_cell by_number) (env_of (Text list ∷ []) row)).1
 
-shown_cell : (list : List ℕ) (all : List (Numbered Filed)) → map (cell_of list) (map (row_of filed_cells) all) ≡ map place_shown (map (λ (r : Numbered Filed). r.number) all)
+shown_cell : (list : List ℕ) (all : List (NumberedRecord IndexedMessage)) → map (cell_of list) (map (numbered_row indexed_message_cells) all) ≡ map rowid_result_row
+    (map (λ (r : NumberedRecord IndexedMessage). r.number) all)
 shown_cell list [] = refl
-shown_cell list (r ∷ all) = ap (λ l. place_shown r.number ∷ l) (shown_cell list all)
+shown_cell list (r ∷ all) = ap (λ l. rowid_result_row r.number ∷ l) (shown_cell list all)
 
 -- ---- a walk
 
 -- the numbers rise, so that each message is found by its own
-found_later : (x : Numbered Filed) (all : List (Numbered Filed)) → AllByRecursion (λ row. value_cmp (rowid (row_of filed_cells x)) (rowid row) ≡ Less) (map (row_of filed_cells) all)
+found_later : (x : NumberedRecord IndexedMessage) (all : List (NumberedRecord IndexedMessage))
+    → AllByRecursion (λ row. value_cmp (rowid (numbered_row indexed_message_cells x)) (rowid row) ≡ Less) (map (numbered_row indexed_message_cells) all)
     → AllByRecursion (λ r. int_eq x.number r.number ≡ false) all
 found_later x [] above = tt
 found_later x (r ∷ all) above =
     (sym (tie_is x.number r.number) ∙ ap is_eq (sym (value_cmp-Int x.number r.number) ∙ above.0), found_later x all above.1)
 
-abbrev pub finds : List (Numbered Filed) → Numbered Filed → Option (Numbered Filed)
-finds all r = find (λ (s : Numbered Filed). int_eq s.number r.number) all
+abbrev pub finds : List (NumberedRecord IndexedMessage) → NumberedRecord IndexedMessage → Option (NumberedRecord IndexedMessage)
+finds all r = find (λ (s : NumberedRecord IndexedMessage). int_eq s.number r.number) all
 
-past_first : (x : Numbered Filed) (all rest : List (Numbered Filed)) → AllByRecursion (λ r. int_eq x.number r.number ≡ false) rest → AllByRecursion (λ r. finds all r ≡ Some r) rest
+past_first : (x : NumberedRecord IndexedMessage) (all rest : List (NumberedRecord IndexedMessage)) → AllByRecursion (λ r. int_eq x.number r.number ≡ false) rest
+    → AllByRecursion (λ r. finds all r ≡ Some r) rest
     → AllByRecursion (λ r. finds (x ∷ all) r ≡ Some r) rest
 past_first x all [] other found = tt
 past_first x all (r ∷ rest) other found = (rw other.0 found.0, past_first x all rest other.1 found.1)
@@ -182,94 +188,97 @@ itself n = sym (tie_is n n) ∙ same
     same : is_eq (int_cmp n n) ≡ true
     same = grind (arith, ints)
 
-pub each_found : (all : List (Numbered Filed)) → IsTable (map (row_of filed_cells) all) → AllByRecursion (λ r. finds all r ≡ Some r) all
+pub each_found : (all : List (NumberedRecord IndexedMessage)) → IsTable (map (numbered_row indexed_message_cells) all) → AllByRecursion (λ r. finds all r ≡ Some r) all
 each_found [] up = tt
 each_found (x ∷ all) up = (rw (itself x.number) refl, past_first x all all (found_later x all up.0) (each_found all up.1))
 
-pub kept_found : (w : Numbered Filed → Bool) (P : Numbered Filed → Type 0) (all : List (Numbered Filed)) → AllByRecursion P all → AllByRecursion P (filter w all)
+pub kept_found : (w : NumberedRecord IndexedMessage → Bool) (P : NumberedRecord IndexedMessage → Type 0) (all : List (NumberedRecord IndexedMessage)) → AllByRecursion P all
+    → AllByRecursion P (filter w all)
 kept_found w P [] h = tt
 kept_found w P (r ∷ all) h =
     elim (w r) as (λ b. AllByRecursion P (cond b (r ∷ filter w all) (filter w all)))
     [ true ↦ (h.0, kept_found w P all h.1) | false ↦ kept_found w P all h.1 ]
 
-pub messages_at : (all wanted : List (Numbered Filed)) → AllByRecursion (λ r. finds all r ≡ Some r) wanted
-    → map (λ place. option_map (λ (r : Numbered Filed). r.it.0) (find (λ (r : Numbered Filed). int_eq r.number place) all)) (map (λ (r : Numbered Filed). r.number) wanted)
-    ≡ map (λ (r : Numbered Filed). Some r.it.0) wanted
+pub messages_at : (all wanted : List (NumberedRecord IndexedMessage)) → AllByRecursion (λ r. finds all r ≡ Some r) wanted
+    → map (λ place. option_map (λ (r : NumberedRecord IndexedMessage). r.it.0) (find (λ (r : NumberedRecord IndexedMessage). int_eq r.number place) all))
+    (map (λ (r : NumberedRecord IndexedMessage). r.number) wanted)
+    ≡ map (λ (r : NumberedRecord IndexedMessage). Some r.it.0) wanted
 messages_at all [] h = refl
-messages_at all (r ∷ wanted) h = ap₂ ◌∷◌ (ap (option_map (λ (r : Numbered Filed). r.it.0)) h.0) (messages_at all wanted h.1)
+messages_at all (r ∷ wanted) h = ap₂ ◌∷◌ (ap (option_map (λ (r : NumberedRecord IndexedMessage). r.it.0)) h.0) (messages_at all wanted h.1)
 
-pub walked : (trees : Trees) (list : List ℕ) → AreTables trees → map (message_at trees) (places_in trees list) ≡ map Some (messages_in (archive_in trees) list)
+pub walked : (trees : Trees) (list : List ℕ) → AreArchiveTables trees → map (message_at trees) (message_rowids_in trees list) ≡ map Some (messages_in (archive_in_trees trees) list)
 walked trees list t =
-    let all = numbered_filed trees in
-    let wanted = filter (λ (r : Numbered Filed). bytes_eq r.it.0.list list) all in
-    let found = kept_found (λ (r : Numbered Filed). bytes_eq r.it.0.list list) (λ r. finds all r ≡ Some r) all (each_found all (subst IsTable t.messages.coded t.messages.rise)) in
-    let its = hits filed_cells filed_read filed_back (plain_query 8 of_list number_cell by_number) (Text list ∷ []) (λ (f : Filed). bytes_eq f.0.list list) (has_list list) (trees 8) t.messages in
-    messages_at all wanted found ∙ sym (map-map (λ (f : Filed). Some f.0) (λ (r : Numbered Filed). r.it) wanted) ∙ ap (map (λ (f : Filed). Some f.0)) its.1
+    let all = numbered_indexed_messages trees in
+    let wanted = filter (λ (r : NumberedRecord IndexedMessage). bytes_eq r.it.0.list list) all in
+    let found = kept_found (λ (r : NumberedRecord IndexedMessage). bytes_eq r.it.0.list list) (λ r. finds all r ≡ Some r) all (each_found all (subst IsTable t.messages.round_trips t.messages.rise)) in
+    let its = hits indexed_message_cells indexed_message_from_row filed_back (plain_query 8 of_list number_cell by_number) (Text list ∷ []) (λ (f : IndexedMessage). bytes_eq f.0.list list)
+    (has_list list) (trees 8) t.messages in
+    messages_at all wanted found ∙ sym (map-map (λ (f : IndexedMessage). Some f.0) (λ (r : NumberedRecord IndexedMessage). r.it) wanted) ∙ ap (map (λ (f : IndexedMessage). Some f.0)) its.1
     ∙ wanted_messages (λ (m : Message). bytes_eq m.list list) Some (trees 8)
 
 -- ---- what the texts show
 
-module _ (old new : State) {behind : Option Database} (k : IsHeld behind old) where
+module _ (old new : State) {behind : Option Database} (k : IsOpenArchive behind old) where
   pub places_found : (list : List ℕ) (rows : List Row) → Shown places_text (Text list ∷ []) old new rows
-      → (rows ≡ map place_shown (places_in old.now.trees list)) × StaysOver behind old new
+      → (rows ≡ map rowid_result_row (message_rowids_in old.now.trees list)) × LeavesRowsUnchanged behind old new
   places_found list rows h =
       let params = Text list ∷ [] in
-      let all = numbered_filed old.now.trees in
-      let wanted = filter (λ (r : Numbered Filed). bytes_eq r.it.0.list list) all in
+      let all = numbered_indexed_messages old.now.trees in
+      let wanted = filter (λ (r : NumberedRecord IndexedMessage). bytes_eq r.it.0.list list) all in
       let picks = asked places_text 8 of_list number_cell by_number _ places_is.0 places_plain places_is.1 (λ t. refl) params old new k rows h in
-      let its = hits filed_cells filed_read filed_back (plain_query 8 of_list number_cell by_number) params (λ (f : Filed). bytes_eq f.0.list list) (has_list list)
+      let its = hits indexed_message_cells indexed_message_from_row filed_back (plain_query 8 of_list number_cell by_number) params (λ (f : IndexedMessage). bytes_eq f.0.list list) (has_list list)
       (old.now.trees 8) k.tables.messages in
       let same = asked_stays places_text 8 of_list number_cell by_number _ places_is.0 places_plain places_is.1 (λ t. refl) params old new k rows h in (
         in_order 8 of_list number_cell params (old.now.trees 8) rows k.tables.messages.rise picks ∙ ap (map (cell_of list)) its.0 ∙ shown_cell list wanted,
         same,
       )
 
-  pub no_places : (list : List ℕ) (e : Error) → FailsToQuery places_text (Text list ∷ []) old new e → RestsOver behind old new
+  pub no_places : (list : List ℕ) (e : Error) → FailsToQuery places_text (Text list ∷ []) old new e → FaultKeepsRowsOrRollsBack behind old new
   no_places list e h = refused_rests places_text 8 of_list number_cell by_number _ places_is.0 places_plain places_is.1 (λ t. refl) (Text list ∷ []) old new k e h
 
-  pub no_places_caused : (list : List ℕ) (e : Error) → FailsToQuery places_text (Text list ∷ []) old new e → old.step_limit ≡ None → IsCaused old new e
+  pub no_places_caused : (list : List ℕ) (e : Error) → FailsToQuery places_text (Text list ∷ []) old new e → old.step_limit ≡ None → IsMemoryOrDiskError old new e
   no_places_caused list e h free = question_fails_by places_text 8 of_list number_cell by_number _ places_is.0 places_plain places_is.1 (Text list ∷ []) places_fit
       (places_typed list) old new k free e h
 
   pub at_found : (place : ℤ) (rows : List Row) → Shown at_text (Int place ∷ []) old new rows
-      → (rows ≡ map (λ (r : Numbered Filed). message_shown r.it.0) (filter (is_at place) (numbered_filed old.now.trees))) × StaysOver behind old new
+      → (rows ≡ map (λ (r : NumberedRecord IndexedMessage). message_result_row r.it.0) (filter (is_at place) (numbered_indexed_messages old.now.trees))) × LeavesRowsUnchanged behind old new
   at_found place rows h =
       let params = Int place ∷ [] in
-      let all = numbered_filed old.now.trees in
+      let all = numbered_indexed_messages old.now.trees in
       let picks = asked at_text 8 at_place all_cells by_number _ at_is.0 at_plain at_is.1 (λ t. refl) params old new k rows h in
       let same = asked_stays at_text 8 at_place all_cells by_number _ at_is.0 at_plain at_is.1 (λ t. refl) params old new k rows h in (
         in_order 8 at_place all_cells params (old.now.trees 8) rows k.tables.messages.rise picks
-            ∙ ap (map (cells_of place)) (ap (filter (passes at_place params)) k.tables.messages.coded ∙ passing place all) ∙ shown_cells place (filter (is_at place) all),
+            ∙ ap (map (cells_of place)) (ap (filter (passes at_place params)) k.tables.messages.round_trips ∙ passing place all) ∙ shown_cells place (filter (is_at place) all),
         same,
       )
 
-  pub none_at : (place : ℤ) (e : Error) → FailsToQuery at_text (Int place ∷ []) old new e → RestsOver behind old new
+  pub none_at : (place : ℤ) (e : Error) → FailsToQuery at_text (Int place ∷ []) old new e → FaultKeepsRowsOrRollsBack behind old new
   none_at place e h = refused_rests at_text 8 at_place all_cells by_number _ at_is.0 at_plain at_is.1 (λ t. refl) (Int place ∷ []) old new k e h
 
-  pub none_at_caused : (place : ℤ) (e : Error) → FailsToQuery at_text (Int place ∷ []) old new e → old.step_limit ≡ None → IsCaused old new e
+  pub none_at_caused : (place : ℤ) (e : Error) → FailsToQuery at_text (Int place ∷ []) old new e → old.step_limit ≡ None → IsMemoryOrDiskError old new e
   none_at_caused place e h free = question_fails_by at_text 8 at_place all_cells by_number _ at_is.0 at_plain at_is.1 (Int place ∷ []) at_fit (at_typed place) old new k free e h
 
-  pub at_rests : (place : ℤ) (rows : List Row) → Shown at_text (Int place ∷ []) old new rows → RestsOver behind old new
+  pub at_rests : (place : ℤ) (rows : List Row) → Shown at_text (Int place ∷ []) old new rows → FaultKeepsRowsOrRollsBack behind old new
   at_rests place rows h = asked_rests at_text 8 at_place all_cells by_number _ at_is.0 at_plain at_is.1 (λ t. refl) (Int place ∷ []) old new k rows h
 
   pub marks_found : (place : ℤ) (rows : List Row) → Shown marks_at_text (Int place ∷ []) old new rows
-      → (rows ≡ map (λ (r : Numbered Filed). dated_marks_shown r.it.0) (filter (is_at place) (numbered_filed old.now.trees))) × StaysOver behind old new
+      → (rows ≡ map (λ (r : NumberedRecord IndexedMessage). dated_marks_result_row r.it.0) (filter (is_at place) (numbered_indexed_messages old.now.trees))) × LeavesRowsUnchanged behind old new
   marks_found place rows h =
       let params = Int place ∷ [] in
-      let all = numbered_filed old.now.trees in
+      let all = numbered_indexed_messages old.now.trees in
       let picks = asked marks_at_text 8 at_place mark_cells by_number _ marks_at_is.0 marks_at_plain marks_at_is.1 (λ t. refl) params old new k rows h in
       let same = asked_stays marks_at_text 8 at_place mark_cells by_number _ marks_at_is.0 marks_at_plain marks_at_is.1 (λ t. refl) params old new k rows h in (
         in_order 8 at_place mark_cells params (old.now.trees 8) rows k.tables.messages.rise picks
-            ∙ ap (map (marks_seen place)) (ap (filter (passes at_place params)) k.tables.messages.coded ∙ passing place all) ∙ shown_marks place (filter (is_at place) all),
+            ∙ ap (map (marks_seen place)) (ap (filter (passes at_place params)) k.tables.messages.round_trips ∙ passing place all) ∙ shown_marks place (filter (is_at place) all),
         same,
       )
 
-  pub no_marks_at : (place : ℤ) (e : Error) → FailsToQuery marks_at_text (Int place ∷ []) old new e → RestsOver behind old new
+  pub no_marks_at : (place : ℤ) (e : Error) → FailsToQuery marks_at_text (Int place ∷ []) old new e → FaultKeepsRowsOrRollsBack behind old new
   no_marks_at place e h = refused_rests marks_at_text 8 at_place mark_cells by_number _ marks_at_is.0 marks_at_plain marks_at_is.1 (λ t. refl) (Int place ∷ []) old new k e h
 
-  pub no_marks_at_caused : (place : ℤ) (e : Error) → FailsToQuery marks_at_text (Int place ∷ []) old new e → old.step_limit ≡ None → IsCaused old new e
+  pub no_marks_at_caused : (place : ℤ) (e : Error) → FailsToQuery marks_at_text (Int place ∷ []) old new e → old.step_limit ≡ None → IsMemoryOrDiskError old new e
   no_marks_at_caused place e h free = question_fails_by marks_at_text 8 at_place mark_cells by_number _ marks_at_is.0 marks_at_plain marks_at_is.1
       (Int place ∷ []) marks_at_fit (marks_at_typed place) old new k free e h
 
-  pub marks_at_rests : (place : ℤ) (rows : List Row) → Shown marks_at_text (Int place ∷ []) old new rows → RestsOver behind old new
+  pub marks_at_rests : (place : ℤ) (rows : List Row) → Shown marks_at_text (Int place ∷ []) old new rows → FaultKeepsRowsOrRollsBack behind old new
   marks_at_rests place rows h = asked_rests marks_at_text 8 at_place mark_cells by_number _ marks_at_is.0 marks_at_plain marks_at_is.1 (λ t. refl) (Int place ∷ []) old new k rows h

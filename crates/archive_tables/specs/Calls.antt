@@ -9,150 +9,150 @@ use Rattle.sqlite.specs.Tree.{Trees}
 use Rattle.sqlite.specs.Store.{Ghosts}
 use Rattle.sqlite.specs.Held.{Held, state}
 use Rattle.sqlite.specs.State.{State, HasCleanDisk}
-use Rattle.archive_machine.specs.Records.{Archive}
-use Rattle.archive_tables.specs.Tables.{IsHeld, IsKept, archive_of}
-use Rattle.archive_tables.specs.Statements.{Statement, IsRefused, IsCarriedOut}
-use Rattle.archive_tables.specs.Crashes.{AddsNothing, CrashesOver}
+use Rattle.archive_model.specs.Records.{Archive}
+use Rattle.archive_tables.specs.Tables.{IsOpenArchive, IsArchiveAtRest, archive_of}
+use Rattle.archive_tables.specs.Statements.{Statement, IsStatementRefused, StatementExecutesTo}
+use Rattle.archive_tables.specs.Crashes.{CrashAddsNothing, CrashLeavesOldOrChanged}
 
 -- the tables are held, and hold what this makes of what they held
-abbrev pub ChangesOver : Option Database → State → State → (Archive → Archive) → Type 0
-ChangesOver behind old new change = IsHeld behind new × (archive_of new ≡ change (archive_of old))
+abbrev pub ChangesArchive : Option Database → State → State → (Archive → Archive) → Type 0
+ChangesArchive behind old new change = IsOpenArchive behind new × (archive_of new ≡ change (archive_of old))
 
 -- A write outside a transaction: its change of the archive is committed when the call returns.
-abbrev pub Changes : State → State → (Archive → Archive) → Type 0
-Changes = ChangesOver None
+abbrev pub CommitsChange : State → State → (Archive → Archive) → Type 0
+CommitsChange = ChangesArchive None
 
 -- the same rows, over the same
-abbrev pub StaysOver : Option Database → State → State → Type 0
-StaysOver behind old new = IsHeld behind new × (new.now ≡ old.now)
+abbrev pub LeavesRowsUnchanged : Option Database → State → State → Type 0
+LeavesRowsUnchanged behind old new = IsOpenArchive behind new × (new.now ≡ old.now)
 
 -- outside a transaction again, with the rows that were behind it
-abbrev pub IsBackAt : Database → State → Type 0
-IsBackAt db s = IsKept s × (s.now ≡ db)
+abbrev pub IsRolledBackTo : Database → State → Type 0
+IsRolledBackTo db s = IsArchiveAtRest s × (s.now ≡ db)
 
 -- within the transaction still, or back already, where the connection is open
-abbrev pub IsHeldOrBack : Database → State → Type 0
-IsHeldOrBack db s = IsTrue s.is_open → IsHeld (Some db) s ⊎ IsBackAt db s
+abbrev pub IsOpenArchiveOrRolledBack : Database → State → Type 0
+IsOpenArchiveOrRolledBack db s = IsTrue s.is_open → IsOpenArchive (Some db) s ⊎ IsRolledBackTo db s
 
 -- A fault: the same rows, where the connection is still open; within a transaction these, or what was behind it.
-abbrev pub RestsOver : Option Database → State → State → Type 0
-RestsOver None old new = IsTrue new.is_open → StaysOver None old new
-RestsOver (Some db) old new = IsTrue new.is_open → StaysOver (Some db) old new ⊎ IsBackAt db new
+abbrev pub FaultKeepsRowsOrRollsBack : Option Database → State → State → Type 0
+FaultKeepsRowsOrRollsBack None old new = IsTrue new.is_open → LeavesRowsUnchanged None old new
+FaultKeepsRowsOrRollsBack (Some db) old new = IsTrue new.is_open → LeavesRowsUnchanged (Some db) old new ⊎ IsRolledBackTo db new
 
 -- After a fault outside a transaction the rows are as they were, unless the fault shut the connection.
-abbrev pub Rests : State → State → Type 0
-Rests = RestsOver None
+abbrev pub FaultKeepsRows : State → State → Type 0
+FaultKeepsRows = FaultKeepsRowsOrRollsBack None
 
 -- What shuts a connection: nothing but a fault of the disk, and none is forgotten.
-pub record ShutsByFault (old new : State) : Type 0 where
+pub record ClosesOnlyByFault (old new : State) : Type 0 where
   pub faults : old.faults ≤ new.faults
   pub stays_open : HasCleanDisk new → IsTrue old.is_open → IsTrue new.is_open ⊎ MoreFaults old.faults new.faults
 
 -- What a call does to a connection, whatever the tables are and whatever it answers: only a fault shuts it, one that is shut stays
 -- shut, a disk that has returned what was written so far had done so before, and the limit on the steps of a query stays.
-pub record Lasts (old new : State) : Type 0 where
+pub record KeepsConnectionUnlessDiskFails (old new : State) : Type 0 where
   pub returned : HasCleanDisk new → HasCleanDisk old
-  pub shut : ShutsByFault old new
+  pub shut : ClosesOnlyByFault old new
   pub stays_shut : HasCleanDisk new → IsTrue new.is_open → IsTrue old.is_open
   pub limit : new.step_limit ≡ old.step_limit
 
 -- A fault has a cause: memory was wanted, or the disk failed or refused once more than before.
-abbrev pub IsCaused : State → State → Error → Type 0
-IsCaused old new e = (e ≡ SqliteFailure OutOfMemory) ⊎ MoreFaults old.faults new.faults
+abbrev pub IsMemoryOrDiskError : State → State → Error → Type 0
+IsMemoryOrDiskError old new e = (e ≡ SqliteFailure OutOfMemory) ⊎ MoreFaults old.faults new.faults
 
 module _ {S : Type 0} (g : Ghosts S) (old new : Held S) where
   -- A write, outside a transaction or within one: what it makes of an archive that is as it needs it, and that a failed one rests.
-  abbrev pub WritesOver : {A : Type 0} → Result A Error → (Archive → Type 0) → (Archive → Archive) → Type 0
-  WritesOver result Needs change =
-      HasCleanDisk (state g new) → (behind : Option Database) → IsHeld behind (state g old)
-      → MatchResult result (λ _. Needs (archive_of (state g old)) → ChangesOver behind (state g old) (state g new) change)
-      (λ _. RestsOver behind (state g old) (state g new))
+  abbrev pub WriteChangesArchive : {A : Type 0} → Result A Error → (Archive → Type 0) → (Archive → Archive) → Type 0
+  WriteChangesArchive result Needs change =
+      HasCleanDisk (state g new) → (behind : Option Database) → IsOpenArchive behind (state g old)
+      → MatchResult result (λ _. Needs (archive_of (state g old)) → ChangesArchive behind (state g old) (state g new) change)
+      (λ _. FaultKeepsRowsOrRollsBack behind (state g old) (state g new))
 
   -- a question, outside a transaction or within one
-  abbrev pub AsksOver : {A : Type 0} → Result A Error → (Archive → A → Type 0) → Type 0
-  AsksOver result Says =
-      HasCleanDisk (state g new) → (behind : Option Database) → IsHeld behind (state g old)
-      → MatchResult result (λ a. Says (archive_of (state g old)) a × StaysOver behind (state g old) (state g new))
-      (λ _. RestsOver behind (state g old) (state g new))
+  abbrev pub AnswerHoldsOfArchive : {A : Type 0} → Result A Error → (Archive → A → Type 0) → Type 0
+  AnswerHoldsOfArchive result Says =
+      HasCleanDisk (state g new) → (behind : Option Database) → IsOpenArchive behind (state g old)
+      → MatchResult result (λ a. Says (archive_of (state g old)) a × LeavesRowsUnchanged behind (state g old) (state g new))
+      (λ _. FaultKeepsRowsOrRollsBack behind (state g old) (state g new))
 
   -- A question on the rows themselves, which it leaves: what it says of them holds until the next write.
-  abbrev pub AsksRowsOver : {A : Type 0} → Result A Error → (Trees → A → Type 0) → Type 0
-  AsksRowsOver result Says =
-      HasCleanDisk (state g new) → (behind : Option Database) → IsHeld behind (state g old)
-      → MatchResult result (λ a. Says (state g old).now.trees a × StaysOver behind (state g old) (state g new))
-      (λ _. RestsOver behind (state g old) (state g new))
+  abbrev pub AnswerHoldsOfRows : {A : Type 0} → Result A Error → (Trees → A → Type 0) → Type 0
+  AnswerHoldsOfRows result Says =
+      HasCleanDisk (state g new) → (behind : Option Database) → IsOpenArchive behind (state g old)
+      → MatchResult result (λ a. Says (state g old).now.trees a × LeavesRowsUnchanged behind (state g old) (state g new))
+      (λ _. FaultKeepsRowsOrRollsBack behind (state g old) (state g new))
 
   -- a connection that is shut answers nothing
-  abbrev pub AnswersOpen : {A E : Type 0} → Result A E → Type 0
-  AnswersOpen result = HasCleanDisk (state g new) → OnOk result (IsTrue (state g old).is_open)
+  abbrev pub AnswersOnlyIfOpen : {A E : Type 0} → Result A E → Type 0
+  AnswersOnlyIfOpen result = HasCleanDisk (state g new) → OnOk result (IsTrue (state g old).is_open)
 
   -- Where the connection has no limit on the steps of a query, a question fails for want of memory or by a fault of the disk, or
   -- there is a row that cannot be read, and for nothing else.
   abbrev pub FailsByFaultOr : {A : Type 0} → Result A Error → Type 0 → Type 0
   FailsByFaultOr result Unread =
-      HasCleanDisk (state g new) → IsKept (state g old) → (state g old).step_limit ≡ None → IfErr result (λ e. IsCaused (state g old) (state g new) e ⊎ Unread)
+      HasCleanDisk (state g new) → IsArchiveAtRest (state g old) → (state g old).step_limit ≡ None → IfErr result (λ e. IsMemoryOrDiskError (state g old) (state g new) e ⊎ Unread)
 
   -- The same of a question that reads each row, outside a transaction or within one.
   abbrev pub FailsByFault : {A : Type 0} → Result A Error → Type 0
   FailsByFault result =
-      HasCleanDisk (state g new) → (behind : Option Database) → IsHeld behind (state g old) → (state g old).step_limit ≡ None
-      → IfErr result (λ e. IsCaused (state g old) (state g new) e)
+      HasCleanDisk (state g new) → (behind : Option Database) → IsOpenArchive behind (state g old) → (state g old).step_limit ≡ None
+      → IfErr result (λ e. IsMemoryOrDiskError (state g old) (state g new) e)
 
   -- Where the connection has no limit on the steps of a query, a write on such tables fails for want of memory, or by a fault of the
   -- disk, or since its rows are refused, and for nothing else.
   abbrev pub FailsByFaultOrRefusal : {A : Type 0} → Result A Error → Statement → Type 0
   FailsByFaultOrRefusal result statement =
-      HasCleanDisk (state g new) → (behind : Option Database) → IsHeld behind (state g old) → (state g old).step_limit ≡ None
-      → IfErr result (λ e. IsCaused (state g old) (state g new) e ⊎ IsRefused statement (state g old).now)
+      HasCleanDisk (state g new) → (behind : Option Database) → IsOpenArchive behind (state g old) → (state g old).step_limit ≡ None
+      → IfErr result (λ e. IsMemoryOrDiskError (state g old) (state g new) e ⊎ IsStatementRefused statement (state g old).now)
 
   -- and where it succeeds, the connection sees what the statement makes
-  abbrev pub CarriesOut : {A : Type 0} → Result A Error → Statement → Type 0
-  CarriesOut result statement =
-      HasCleanDisk (state g new) → (behind : Option Database) → IsHeld behind (state g old) → (state g old).step_limit ≡ None
-      → OnOk result (IsCarriedOut statement (state g old).now (state g new).now)
+  abbrev pub ExecutesStatement : {A : Type 0} → Result A Error → Statement → Type 0
+  ExecutesStatement result statement =
+      HasCleanDisk (state g new) → (behind : Option Database) → IsOpenArchive behind (state g old) → (state g old).step_limit ≡ None
+      → OnOk result (StatementExecutesTo statement (state g old).now (state g new).now)
 
   -- who is answered sees what was seen before, whatever the tables are
-  abbrev pub SeesTheSame : {A : Type 0} → Result A Error → Type 0
-  SeesTheSame result = HasCleanDisk (state g new) → OnOk result ((state g new).now ≡ (state g old).now)
+  abbrev pub AnswerSeesSameDatabase : {A : Type 0} → Result A Error → Type 0
+  AnswerSeesSameDatabase result = HasCleanDisk (state g new) → OnOk result ((state g new).now ≡ (state g old).now)
 
   -- ---- clauses of a whole call
 
   -- How a call ends, whatever the tables are and whatever it answers: what it does to the connection, and that one that is shut
   -- answers nothing.
-  pub record Ends {A E : Type 0} (result : Result A E) : Type 0 where
-    pub lasts : Lasts (state g old) (state g new)
-    pub was_open : AnswersOpen result
+  pub record EndsConnectionCall {A E : Type 0} (result : Result A E) : Type 0 where
+    pub lasts : KeepsConnectionUnlessDiskFails (state g old) (state g new)
+    pub was_open : AnswersOnlyIfOpen result
 
   -- A question on the tables, outside a transaction or within one: what it says of them and leaves, why it fails, that it changes
   -- neither what is seen nor what a stop of the machine leaves, and how it ends.
-  pub record Asks {A : Type 0} (result : Result A Error) (Says : Archive → A → Type 0) (Unread : Type 0) : Type 0 where
-    pub over : AsksOver result Says
+  pub record AnswersFromDatabase {A : Type 0} (result : Result A Error) (Says : Archive → A → Type 0) (Unread : Type 0) : Type 0 where
+    pub over : AnswerHoldsOfArchive result Says
     pub caused : FailsByFaultOr result Unread
-    pub same : SeesTheSame result
-    pub quiet : AddsNothing g old new
-    pub ends : Ends result
+    pub same : AnswerSeesSameDatabase result
+    pub quiet : CrashAddsNothing g old new
+    pub ends : EndsConnectionCall result
 
   -- The same of a question whose faults have a cause within a transaction, too.
-  pub record AsksAnywhere {A : Type 0} (result : Result A Error) (Says : Archive → A → Type 0) : Type 0 where
-    pub over : AsksOver result Says
+  pub record AnswersOrFailsByFault {A : Type 0} (result : Result A Error) (Says : Archive → A → Type 0) : Type 0 where
+    pub over : AnswerHoldsOfArchive result Says
     pub caused : FailsByFault result
-    pub same : SeesTheSame result
-    pub quiet : AddsNothing g old new
-    pub ends : Ends result
+    pub same : AnswerSeesSameDatabase result
+    pub quiet : CrashAddsNothing g old new
+    pub ends : EndsConnectionCall result
 
   -- A question on the rows themselves.
-  pub record AsksRows {A : Type 0} (result : Result A Error) (Says : Trees → A → Type 0) (Unread : Type 0) : Type 0 where
-    pub over : AsksRowsOver result Says
+  pub record AnswersFromRows {A : Type 0} (result : Result A Error) (Says : Trees → A → Type 0) (Unread : Type 0) : Type 0 where
+    pub over : AnswerHoldsOfRows result Says
     pub caused : FailsByFaultOr result Unread
-    pub same : SeesTheSame result
-    pub quiet : AddsNothing g old new
-    pub ends : Ends result
+    pub same : AnswerSeesSameDatabase result
+    pub quiet : CrashAddsNothing g old new
+    pub ends : EndsConnectionCall result
 
   -- A write by a statement on tables that are as it needs them, outside a transaction or within one: what it makes of them, why it
   -- fails, what a stop of the machine may leave, and how it ends.
-  pub record Writes {A : Type 0} (result : Result A Error) (Needs : Archive → Type 0) (change : Archive → Archive) (statement : Statement) : Type 0 where
-    pub over : WritesOver result Needs change
+  pub record WritesByStatement {A : Type 0} (result : Result A Error) (Needs : Archive → Type 0) (change : Archive → Archive) (statement : Statement) : Type 0 where
+    pub over : WriteChangesArchive result Needs change
     pub caused : FailsByFaultOrRefusal result statement
-    pub made : CarriesOut result statement
-    pub crash : CrashesOver g old new Needs change
-    pub ends : Ends result
+    pub made : ExecutesStatement result statement
+    pub crash : CrashLeavesOldOrChanged g old new Needs change
+    pub ends : EndsConnectionCall result

@@ -8,20 +8,20 @@ use Rattle.sqlite.specs.Schema.{Schema}
 use Rattle.sqlite.specs.State.{State, HasCleanDisk, IsUnchanged, IsRolledBack}
 use Rattle.sqlite.specs.Store.{Ghosts}
 use Rattle.sqlite.specs.Table.{Table}
-use Rattle.archive_machine.specs.Records.{Archive}
+use Rattle.archive_model.specs.Records.{Archive}
 use Rattle.archive_tables.specs.Schema.{archive_schema}
-use Rattle.archive_tables.specs.Calls.{Lasts, AnswersOpen, IsCaused, SeesTheSame}
-use Rattle.archive_tables.specs.Crashes.{AddsNothing, CrashesAtCommit}
-use Rattle.archive_tables.specs.Statements.{Statement, IsRefused, IsCarriedOut, IsRefusedInTurn, AreCarriedOut}
-use Rattle.archive_tables.specs.Tables.{AreTablesWith, newest_number, archive_by}
+use Rattle.archive_tables.specs.Calls.{KeepsConnectionUnlessDiskFails, AnswersOnlyIfOpen, IsMemoryOrDiskError, AnswerSeesSameDatabase}
+use Rattle.archive_tables.specs.Crashes.{CrashAddsNothing, CrashAddsOnlyCommit}
+use Rattle.archive_tables.specs.Statements.{Statement, IsStatementRefused, StatementExecutesTo, IsAnyStatementRefused, StatementsExecuteTo}
+use Rattle.archive_tables.specs.Tables.{AreTablesWithVersionRow, newest_version, archive_of_version}
 use Rattle.archive_tables.specs.declared.texts.schema.TheConstants.{VERSION}
 
 -- what new tables remember: no list, no person, no message
 abbrev pub empty_archive : Archive
-empty_archive = record { lists = []; persons = []; grants = []; messages = []; filings = []; options = []; addresses = [] }
+empty_archive = record { lists = []; persons = []; grants = []; messages = []; index_columns = []; options = []; addresses = [] }
 
 -- the tables of this schema are there, without rows, in a transaction that goes back to this database
-pub record IsMaking (s : State) (schema : Schema) (before : Database) : Type 0 where
+pub record IsCreatingTables (s : State) (schema : Schema) (before : Database) : Type 0 where
   pub is_open : IsTrue s.is_open
   pub within : s.in_transaction ≡ true
   pub behind : s.committed ≡ before
@@ -29,7 +29,7 @@ pub record IsMaking (s : State) (schema : Schema) (before : Database) : Type 0 w
   pub empty : AllByRecursion (λ (t : Table). s.now.trees t.tree ≡ []) schema.tables
 
 -- an open transaction that goes back to this database, over this schema, whatever the rows are
-pub record IsWithin (s : State) (before : Database) (schema : Schema) : Type 0 where
+pub record IsInTransactionWithSchema (s : State) (before : Database) (schema : Schema) : Type 0 where
   pub is_open : IsTrue s.is_open
   pub within : s.in_transaction ≡ true
   pub behind : s.committed ≡ before
@@ -37,90 +37,90 @@ pub record IsWithin (s : State) (before : Database) (schema : Schema) : Type 0 w
 
 -- In a transaction that goes back to this database: tables of a version under this schema, which remember this archive, while
 -- `version` says this number.
-pub record IsMoving (s : State) (before : Database) (schema : Schema) (said : ℤ) (number : ℕ) (archive : Archive) : Type 0 where
+pub record IsMigratingTables (s : State) (before : Database) (schema : Schema) (said : ℤ) (number : ℕ) (archive : Archive) : Type 0 where
   pub is_open : IsTrue s.is_open
   pub within : s.in_transaction ≡ true
   pub behind : s.committed ≡ before
   pub schema_is : s.now.schema ≡ schema
-  pub tables : AreTablesWith said number s.now.trees
-  pub remembers : archive_by number s.now.trees ≡ archive
+  pub tables : AreTablesWithVersionRow said number s.now.trees
+  pub remembers : archive_of_version number s.now.trees ≡ archive
 
 -- all is there but the commit
-abbrev pub IsMade : State → Database → Archive → Type 0
-IsMade s before archive = IsMoving s before archive_schema VERSION newest_number archive
+abbrev pub IsReadyToCommit : State → Database → Archive → Type 0
+IsReadyToCommit s before archive = IsMigratingTables s before archive_schema VERSION newest_version archive
 
 -- a statement that fails changes nothing, or goes back to the last commit
-abbrev pub Stops : {S A : Type 0} → Ghosts S → Held S → Held S → Result A Error → Type 0
-Stops g old new result = HasCleanDisk (state g new) → OnErr result (IsUnchanged (state g old) (state g new) ⊎ IsRolledBack (state g old) (state g new))
+abbrev pub FailureKeepsOrRollsBack : {S A : Type 0} → Ghosts S → Held S → Held S → Result A Error → Type 0
+FailureKeepsOrRollsBack g old new result = HasCleanDisk (state g new) → OnErr result (IsUnchanged (state g old) (state g new) ⊎ IsRolledBack (state g old) (state g new))
 
 -- Over this schema, whatever the rows are, on a connection that is open and has no limit on the steps of a query: a statement fails for
 -- want of memory, by a fault of the disk, or since SQL refuses it on this database, and for nothing else.
-abbrev pub FailsOver : {S A : Type 0} → Ghosts S → Held S → Held S → Result A Error → Schema → Statement → Type 0
-FailsOver g old new result schema statement =
+abbrev pub FailsUnderSchema : {S A : Type 0} → Ghosts S → Held S → Held S → Result A Error → Schema → Statement → Type 0
+FailsUnderSchema g old new result schema statement =
     HasCleanDisk (state g new) → IsTrue (state g old).is_open → (state g old).now.schema ≡ schema → (state g old).step_limit ≡ None
-    → IfErr result (λ e. IsCaused (state g old) (state g new) e ⊎ IsRefused statement (state g old).now)
+    → IfErr result (λ e. IsMemoryOrDiskError (state g old) (state g new) e ⊎ IsStatementRefused statement (state g old).now)
 
 -- and where it succeeds, the connection sees what the statement makes
-abbrev pub CarriesOver : {S A : Type 0} → Ghosts S → Held S → Held S → Result A Error → Schema → Statement → Type 0
-CarriesOver g old new result schema statement =
+abbrev pub ExecutesUnderSchema : {S A : Type 0} → Ghosts S → Held S → Held S → Result A Error → Schema → Statement → Type 0
+ExecutesUnderSchema g old new result schema statement =
     HasCleanDisk (state g new) → IsTrue (state g old).is_open → (state g old).now.schema ≡ schema → (state g old).step_limit ≡ None
-    → OnOk result (IsCarriedOut statement (state g old).now (state g new).now)
+    → OnOk result (StatementExecutesTo statement (state g old).now (state g new).now)
 
 -- How a step of the making or the moving of tables ends: as each call does; where it fails as is said above, and why, over this schema;
 -- and what its statement makes.
 pub record EndsStep {S A : Type 0} (g : Ghosts S) (old new : Held S) (result : Result A Error) (schema : Schema) (statement : Statement) : Type 0 where
-  pub lasts : Lasts (state g old) (state g new)
-  pub was_open : AnswersOpen g old new result
-  pub stopped : Stops g old new result
-  pub caused : FailsOver g old new result schema statement
-  pub carried : CarriesOver g old new result schema statement
+  pub lasts : KeepsConnectionUnlessDiskFails (state g old) (state g new)
+  pub was_open : AnswersOnlyIfOpen g old new result
+  pub stopped : FailureKeepsOrRollsBack g old new result
+  pub caused : FailsUnderSchema g old new result schema statement
+  pub carried : ExecutesUnderSchema g old new result schema statement
 
 -- How some steps end, one after the other, in a transaction of which this holds: as each call does; they fail for want of memory, by a
 -- fault of the disk, or since SQL refuses one of their statements in its turn; and what all of them make.
 pub record EndsSteps {S A : Type 0} (g : Ghosts S) (old new : Held S) (result : Result A Error) (Holds : State → Database → Type 0) (statements : List Statement) : Type 0 where
-  pub lasts : Lasts (state g old) (state g new)
+  pub lasts : KeepsConnectionUnlessDiskFails (state g old) (state g new)
   pub caused : HasCleanDisk (state g new) → (before : Database) → Holds (state g old) before → (state g old).step_limit ≡ None
-      → IfErr result (λ e. IsCaused (state g old) (state g new) e ⊎ IsRefusedInTurn statements (state g old).now)
+      → IfErr result (λ e. IsMemoryOrDiskError (state g old) (state g new) e ⊎ IsAnyStatementRefused statements (state g old).now)
   pub carried : HasCleanDisk (state g new) → (before : Database) → Holds (state g old) before → (state g old).step_limit ≡ None
-      → OnOk result (AreCarriedOut statements (state g old).now (state g new).now)
+      → OnOk result (StatementsExecuteTo statements (state g old).now (state g new).now)
 
 -- within a transaction over this schema, whatever the rows are, a stop of the machine leaves nothing that it did not leave before
-abbrev pub QuietWithin : {S : Type 0} → Ghosts S → Held S → Held S → Schema → Type 0
-QuietWithin g old new schema = (before : Database) → IsWithin (state g old) before schema → AddsNothing g old new
+abbrev pub CrashAddsNothingInTransaction : {S : Type 0} → Ghosts S → Held S → Held S → Schema → Type 0
+CrashAddsNothingInTransaction g old new schema = (before : Database) → IsInTransactionWithSchema (state g old) before schema → CrashAddsNothing g old new
 
 -- Outside a transaction or within one, as BEGIN, COMMIT and ROLLBACK need it, on a connection that is open: it fails for want of memory
 -- or by a fault of the disk, and for nothing else.
-abbrev pub FailsInPlace : {S A : Type 0} → Ghosts S → Held S → Held S → Result A Error → (within : Bool) → Type 0
-FailsInPlace g old new result within =
-    HasCleanDisk (state g new) → IsTrue (state g old).is_open → (state g old).in_transaction ≡ within → IfErr result (IsCaused (state g old) (state g new))
+abbrev pub TransactionCallFailsByFault : {S A : Type 0} → Ghosts S → Held S → Held S → Result A Error → (within : Bool) → Type 0
+TransactionCallFailsByFault g old new result within =
+    HasCleanDisk (state g new) → IsTrue (state g old).is_open → (state g old).in_transaction ≡ within → IfErr result (IsMemoryOrDiskError (state g old) (state g new))
 
 -- How BEGIN ends: as a step; why it fails outside a transaction; and that what is seen stays, and what a stop of the machine leaves.
 pub record EndsBegin {S A : Type 0} (g : Ghosts S) (old new : Held S) (result : Result A Error) : Type 0 where
-  pub lasts : Lasts (state g old) (state g new)
-  pub was_open : AnswersOpen g old new result
-  pub stopped : Stops g old new result
-  pub caused : FailsInPlace g old new result false
-  pub same : SeesTheSame g old new result
-  pub quiet : AddsNothing g old new
+  pub lasts : KeepsConnectionUnlessDiskFails (state g old) (state g new)
+  pub was_open : AnswersOnlyIfOpen g old new result
+  pub stopped : FailureKeepsOrRollsBack g old new result
+  pub caused : TransactionCallFailsByFault g old new result false
+  pub same : AnswerSeesSameDatabase g old new result
+  pub quiet : CrashAddsNothing g old new
 
 -- How COMMIT ends: as a step; why it fails within a transaction; and that a stop of the machine may leave what was seen.
 pub record EndsCommit {S A : Type 0} (g : Ghosts S) (old new : Held S) (result : Result A Error) : Type 0 where
-  pub lasts : Lasts (state g old) (state g new)
-  pub was_open : AnswersOpen g old new result
-  pub stopped : Stops g old new result
-  pub caused : FailsInPlace g old new result true
-  pub same : SeesTheSame g old new result
-  pub crash : CrashesAtCommit g old new
+  pub lasts : KeepsConnectionUnlessDiskFails (state g old) (state g new)
+  pub was_open : AnswersOnlyIfOpen g old new result
+  pub stopped : FailureKeepsOrRollsBack g old new result
+  pub caused : TransactionCallFailsByFault g old new result true
+  pub same : AnswerSeesSameDatabase g old new result
+  pub crash : CrashAddsOnlyCommit g old new
 
 -- How ROLLBACK ends: where it fails as a step does; why, within a transaction; and a stop of the machine leaves nothing new.
 pub record EndsRollback {S A : Type 0} (g : Ghosts S) (old new : Held S) (result : Result A Error) : Type 0 where
-  pub stopped : Stops g old new result
-  pub caused : FailsInPlace g old new result true
-  pub quiet : AddsNothing g old new
+  pub stopped : FailureKeepsOrRollsBack g old new result
+  pub caused : TransactionCallFailsByFault g old new result true
+  pub quiet : CrashAddsNothing g old new
 
 -- what is committed is what was there before, if the connection is still open
-abbrev pub IsUndone : State → Database → Type 0
-IsUndone s before = IsTrue s.is_open → s.committed ≡ before
+abbrev pub IsCommittedUnchanged : State → Database → Type 0
+IsCommittedUnchanged s before = IsTrue s.is_open → s.committed ≡ before
 
 -- the connection is open, and outside a transaction
 pub record IsIdle (s : State) : Type 0 where
@@ -129,23 +129,23 @@ pub record IsIdle (s : State) : Type 0 where
   pub settled : s.committed ≡ s.now
 
 -- in a transaction over the tables of one schema, without rows, it makes those of the other
-abbrev pub Makes : {S A : Type 0} → Ghosts S → Held S → Held S → Result A Error → (from to : Schema) → Type 0
-Makes g old new result from to = HasCleanDisk (state g new) → (before : Database) → IsMaking (state g old) from before → OnOk result (IsMaking (state g new) to before)
+abbrev pub CreatesTables : {S A : Type 0} → Ghosts S → Held S → Held S → Result A Error → (from to : Schema) → Type 0
+CreatesTables g old new result from to = HasCleanDisk (state g new) → (before : Database) → IsCreatingTables (state g old) from before → OnOk result (IsCreatingTables (state g new) to before)
 
 -- a transaction over one schema, whatever the rows are, becomes one over the other
-abbrev pub MovesWithin : {S A : Type 0} → Ghosts S → Held S → Held S → Result A Error → (from to : Schema) → Type 0
-MovesWithin g old new result from to =
-    HasCleanDisk (state g new) → (before : Database) → IsWithin (state g old) before from → OnOk result (IsWithin (state g new) before to)
+abbrev pub MigratesSchema : {S A : Type 0} → Ghosts S → Held S → Held S → Result A Error → (from to : Schema) → Type 0
+MigratesSchema g old new result from to =
+    HasCleanDisk (state g new) → (before : Database) → IsInTransactionWithSchema (state g old) before from → OnOk result (IsInTransactionWithSchema (state g new) before to)
 
 -- outside a transaction, this is there now and is committed, if the connection is still open
-abbrev pub IsBackTo : State → Database → Type 0
-IsBackTo s before = IsTrue s.is_open → (s.now ≡ before) × (s.committed ≡ before) × (s.in_transaction ≡ false)
+abbrev pub IsRolledBackIfOpen : State → Database → Type 0
+IsRolledBackIfOpen s before = IsTrue s.is_open → (s.now ≡ before) × (s.committed ≡ before) × (s.in_transaction ≡ false)
 
 -- a transaction that goes back to this, or is over and has, if the connection is still open
-abbrev pub IsStopped : State → Database → Type 0
-IsStopped s before = IsTrue s.is_open → (s.committed ≡ before) × ((s.in_transaction ≡ true) ⊎ ((s.now ≡ before) × (s.in_transaction ≡ false)))
+abbrev pub IsRollbackPendingOrDone : State → Database → Type 0
+IsRollbackPendingOrDone s before = IsTrue s.is_open → (s.committed ≡ before) × ((s.in_transaction ≡ true) ⊎ ((s.now ≡ before) × (s.in_transaction ≡ false)))
 
 -- where the making of tables over this schema fails, the transaction goes on, or it is over and goes back
-abbrev pub StopsFrom : {S A : Type 0} → Ghosts S → Held S → Held S → Result A Error → Schema → Type 0
-StopsFrom g old new result from =
-    HasCleanDisk (state g new) → (before : Database) → IsMaking (state g old) from before → OnErr result (IsStopped (state g new) before)
+abbrev pub CreationFailureCanRollBack : {S A : Type 0} → Ghosts S → Held S → Held S → Result A Error → Schema → Type 0
+CreationFailureCanRollBack g old new result from =
+    HasCleanDisk (state g new) → (before : Database) → IsCreatingTables (state g old) from before → OnErr result (IsRollbackPendingOrDone (state g new) before)

@@ -7,33 +7,33 @@ use Rattle.sqlite.specs.Tree.{Trees}
 use Rattle.sqlite.specs.declared.error.Error.{Error}
 use Rattle.sqlite.specs.declared.error.Error.TheVariants.{SqliteFailure, Utf8Error}
 use Rattle.sqlite.specs.declared.error.ErrorCode.TheVariants.{OutOfMemory}
-use Rattle.archive_machine.specs.Records.{Grant, Message, ListOption}
-use Rattle.archive_machine.specs.Filing.{Filed, is_filed_in_month, is_filed_by_author, is_sent_before}
-use Rattle.archive_tables.specs.Tables.{or_null, merge_number, Numbered, read_of, filed_read}
+use Rattle.archive_model.specs.Records.{Grant, Message, ListOption}
+use Rattle.archive_model.specs.Filing.{IndexedMessage, is_indexed_in_month, is_indexed_by_author, is_sent_before}
+use Rattle.archive_tables.specs.Tables.{int_or_null_value, merge_flag, NumberedRecord, numbered_from_row, indexed_message_from_row}
 use Rattle.archive_tables.specs.declared.rows.MessageRow.{MessageRow}
 use Rattle.archive_tables.specs.declared.rows.MarksRow.{MarksRow}
 use Rattle.archive_tables.specs.declared.rows.DatedMarksRow.{DatedMarksRow}
 use Rattle.archive_tables.specs.declared.rows.GrantRow.{GrantRow}
 
 -- a message as it comes in: not withdrawn, and under no embargo
-abbrev pub new_message : List ℕ → List ℕ → List ℕ → ℤ → List ℕ → Message
-new_message list key sender arrival text = record { list = list; key = key; sender = sender; arrival = arrival; text = text; withdrawn = pos 0; embargo = None }
+abbrev pub unmarked_message : List ℕ → List ℕ → List ℕ → ℤ → List ℕ → Message
+unmarked_message list key sender arrival text = record { list = list; key = key; sender = sender; arrival = arrival; text = text; withdrawn = pos 0; embargo = None }
 
 -- the numbers of all versions
-abbrev pub versions_shown : Trees → List Row
-versions_shown trees = map (λ row. column row 1 ∷ []) (trees 0)
+abbrev pub version_result_rows : Trees → List Row
+version_result_rows trees = map (λ row. column row 1 ∷ []) (trees 0)
 
 -- a row of one column: the name of a list or of a person
-abbrev pub name_shown : List ℕ → Row
-name_shown name = Text name ∷ []
+abbrev pub name_result_row : List ℕ → Row
+name_result_row name = Text name ∷ []
 
 -- a message without its list
-abbrev pub message_shown : Message → Row
-message_shown m = Text m.key ∷ Blob m.sender ∷ Int m.arrival ∷ Blob m.text ∷ Int m.withdrawn ∷ or_null m.embargo ∷ []
+abbrev pub message_result_row : Message → Row
+message_result_row m = Text m.key ∷ Blob m.sender ∷ Int m.arrival ∷ Blob m.text ∷ Int m.withdrawn ∷ int_or_null_value m.embargo ∷ []
 
 -- the message that a row says; its list is the one that the query asked for, and has no column
-abbrev pub message_in : List ℕ → MessageRow → Message
-message_in list r = record {
+abbrev pub message_from_result_row : List ℕ → MessageRow → Message
+message_from_result_row list r = record {
   list = list;
   key = string_bytes r.key;
   sender = r.sender.items;
@@ -44,84 +44,84 @@ message_in list r = record {
 }
 
 -- the two marks of a message: who withdrew it, and the day up to which it is held back
-abbrev pub marks_shown : Message → Row
-marks_shown m = Int m.withdrawn ∷ or_null m.embargo ∷ []
+abbrev pub marks_result_row : Message → Row
+marks_result_row m = Int m.withdrawn ∷ int_or_null_value m.embargo ∷ []
 
 -- the two marks of a message as they are read: who withdrew it (0 nobody, 1 its author, 2 the board), and the embargo's day
-abbrev pub marks_of : Message → MarksRow
-marks_of m = record { withdrawn = m.withdrawn; embargo = m.embargo }
+abbrev pub decoded_marks : Message → MarksRow
+decoded_marks m = record { withdrawn = m.withdrawn; embargo = m.embargo }
 
 -- when a message came, and its two marks
-abbrev pub dated_marks_shown : Message → Row
-dated_marks_shown m = Int m.arrival ∷ Int m.withdrawn ∷ or_null m.embargo ∷ []
+abbrev pub dated_marks_result_row : Message → Row
+dated_marks_result_row m = Int m.arrival ∷ Int m.withdrawn ∷ int_or_null_value m.embargo ∷ []
 
 -- the same as they are read: the arrival in seconds, who withdrew it (0 nobody, 1 its author, 2 the board), and the embargo's day
-abbrev pub dated_marks_of : Message → DatedMarksRow
-dated_marks_of m = record { arrival = m.arrival; withdrawn = m.withdrawn; embargo = m.embargo }
+abbrev pub decoded_dated_marks : Message → DatedMarksRow
+decoded_dated_marks m = record { arrival = m.arrival; withdrawn = m.withdrawn; embargo = m.embargo }
 
 -- what is said of the threads of a list
-abbrev pub merge_shown : ListOption → Row
-merge_shown o = Int (merge_number o.merge) ∷ []
+abbrev pub merge_result_row : ListOption → Row
+merge_result_row o = Int (merge_flag o.merge) ∷ []
 
 -- a grant without its person and list
-abbrev pub grant_shown : Grant → Row
-grant_shown g = Int g.rank ∷ Int g.from_day ∷ Int g.until_day ∷ []
+abbrev pub grant_result_row : Grant → Row
+grant_result_row g = Int g.rank ∷ Int g.from_day ∷ Int g.until_day ∷ []
 
 -- the grant that a row says; its person and list are those that the query asked for, and have no columns
-abbrev pub grant_in : List ℕ → List ℕ → GrantRow → Grant
-grant_in person list r = record { person = person; list = list; rank = r.rank; from_day = r.from_day; until_day = r.until_day }
+abbrev pub grant_from_result_row : List ℕ → List ℕ → GrantRow → Grant
+grant_from_result_row person list r = record { person = person; list = list; rank = r.rank; from_day = r.from_day; until_day = r.until_day }
 
 -- ---- why a row is not read
 
 -- SQLite's SQLITE_NOMEM: the one fault for which no row is to blame
-abbrev pub no_memory : Error
-no_memory = SqliteFailure OutOfMemory
+abbrev pub out_of_memory_error : Error
+out_of_memory_error = SqliteFailure OutOfMemory
 
 -- of a row that begins with a text: there is no memory, or the text is no UTF-8
-abbrev pub IsTextFault : List ℕ → Error → Type 0
-IsTextFault text e = (e ≡ no_memory) ⊎ ((¬ IsUtf8 text) × (e ≡ Utf8Error 0))
+abbrev pub IsTextReadError : List ℕ → Error → Type 0
+IsTextReadError text e = (e ≡ out_of_memory_error) ⊎ ((¬ IsUtf8 text) × (e ≡ Utf8Error 0))
 
 -- ---- the messages by their numbers
 
-abbrev pub numbered_filed : Trees → List (Numbered Filed)
-numbered_filed trees = map (read_of filed_read) (trees 8)
+abbrev pub numbered_indexed_messages : Trees → List (NumberedRecord IndexedMessage)
+numbered_indexed_messages trees = map (numbered_from_row indexed_message_from_row) (trees 8)
 
 -- the numbers of a list's messages, in mailbox order
-abbrev pub places_in : Trees → List ℕ → List ℤ
-places_in trees list = map (λ (r : Numbered Filed). r.number) (filter (λ (r : Numbered Filed). bytes_eq r.it.0.list list) (numbered_filed trees))
+abbrev pub message_rowids_in : Trees → List ℕ → List ℤ
+message_rowids_in trees list = map (λ (r : NumberedRecord IndexedMessage). r.number) (filter (λ (r : NumberedRecord IndexedMessage). bytes_eq r.it.0.list list) (numbered_indexed_messages trees))
 
 -- the message of a number
 abbrev pub message_at : Trees → ℤ → Option Message
-message_at trees place = option_map (λ (r : Numbered Filed). r.it.0) (find (λ (r : Numbered Filed). int_eq r.number place) (numbered_filed trees))
+message_at trees place = option_map (λ (r : NumberedRecord IndexedMessage). r.it.0) (find (λ (r : NumberedRecord IndexedMessage). int_eq r.number place) (numbered_indexed_messages trees))
 
 -- a row of one column: the rowid of a message, its column `pos`
-abbrev pub place_shown : ℤ → Row
-place_shown place = Int place ∷ []
+abbrev pub rowid_result_row : ℤ → Row
+rowid_result_row place = Int place ∷ []
 
 -- ---- the messages that are filed under a month or an author key, by the numbers of their rows
 
-abbrev pub was_sent_before : Numbered Filed → Numbered Filed → Bool
+abbrev pub was_sent_before : NumberedRecord IndexedMessage → NumberedRecord IndexedMessage → Bool
 was_sent_before r s = is_sent_before r.it s.it
 
 -- a row before the first that was not sent before it
-abbrev pub with_row : Numbered Filed → List (Numbered Filed) → List (Numbered Filed)
-with_row r [] = r ∷ []
-with_row r (s ∷ rows) = if was_sent_before s r then s ∷ with_row r rows else r ∷ s ∷ rows
+abbrev pub with_dated_row : NumberedRecord IndexedMessage → List (NumberedRecord IndexedMessage) → List (NumberedRecord IndexedMessage)
+with_dated_row r [] = r ∷ []
+with_dated_row r (s ∷ rows) = if was_sent_before s r then s ∷ with_dated_row r rows else r ∷ s ∷ rows
 
 -- by the sent date that is filed, and then by their numbers
-abbrev pub rows_by_date : List (Numbered Filed) → List (Numbered Filed)
+abbrev pub rows_by_date : List (NumberedRecord IndexedMessage) → List (NumberedRecord IndexedMessage)
 rows_by_date [] = []
-rows_by_date (r ∷ rows) = with_row r (rows_by_date rows)
+rows_by_date (r ∷ rows) = with_dated_row r (rows_by_date rows)
 
 -- the numbers of the rows of which this holds
-abbrev pub places_where : (Filed → Bool) → Trees → List ℤ
-places_where wanted trees = map (λ (r : Numbered Filed). r.number) (rows_by_date (filter (λ (r : Numbered Filed). wanted r.it) (numbered_filed trees)))
+abbrev pub message_rowids_where : (IndexedMessage → Bool) → Trees → List ℤ
+message_rowids_where wanted trees = map (λ (r : NumberedRecord IndexedMessage). r.number) (rows_by_date (filter (λ (r : NumberedRecord IndexedMessage). wanted r.it) (numbered_indexed_messages trees)))
 
 -- the rowids of a list's messages that were sent in a month (year times 12 plus month less 1, in UTC), by sent date and then in
 -- mailbox order
 abbrev pub month_places : Trees → (list : List ℕ) → (month : ℤ) → List ℤ
-month_places trees list month = places_where (is_filed_in_month list month) trees
+month_places trees list month = message_rowids_where (is_indexed_in_month list month) trees
 
 -- the rowids of a list's messages of an author key, by sent date and then in mailbox order
 abbrev pub author_places : Trees → (list key : List ℕ) → List ℤ
-author_places trees list key = places_where (is_filed_by_author list key) trees
+author_places trees list key = message_rowids_where (is_indexed_by_author list key) trees

@@ -168,8 +168,8 @@ address_table = record (table (codes "address") 15 (needed (codes "person") Text
 -- of one that is new
 
 -- the schema of a new file, in which nothing was made (SQLite's file format, section 2.6)
-abbrev pub no_schema : Schema
-no_schema = record { tables = []; indexes = []; views = [] }
+abbrev pub empty_schema : Schema
+empty_schema = record { tables = []; indexes = []; views = [] }
 
 -- Version 1: lists, persons, grants and messages, found by month and by author key; with them SQLite's own `sqlite_sequence` and
 -- `sqlite_autoindex` objects (SQLite's file format, section 2.6).
@@ -195,32 +195,32 @@ abbrev pub archive_schema : Schema
 archive_schema = schema_3
 
 -- by the number of a version, 1 to 3
-abbrev pub schema_of : (number : ℕ) → Schema
-schema_of number = if number == 1 then schema_1 else if number == 2 then schema_2 else schema_3
+abbrev pub schema_of_version : (number : ℕ) → Schema
+schema_of_version number = if number == 1 then schema_1 else if number == 2 then schema_2 else schema_3
 
 -- ---- what is there after each of the texts, up to the last of version 1
 
 -- `version` comes first: its one row says which version the tables are of
-abbrev pub with_version : Schema
-with_version = created no_schema version_table
+abbrev pub schema_with_version : Schema
+schema_with_version = created empty_schema version_table
 
 -- then `list`: the names of the mailing lists, no name twice
-abbrev pub with_list : Schema
-with_list = created with_version list_table
+abbrev pub schema_with_lists : Schema
+schema_with_lists = created schema_with_version list_table
 
 -- then `person`: names and bearer tokens, neither of them twice
-abbrev pub with_person : Schema
-with_person = created with_list person_table
+abbrev pub schema_with_persons : Schema
+schema_with_persons = created schema_with_lists person_table
 
 -- then `grant_row`: grants refer to persons and lists, and a person has one of a kind on a list
-abbrev pub with_grant : Schema
-with_grant = created with_person grant_table
+abbrev pub schema_with_grants : Schema
+schema_with_grants = created schema_with_persons grant_table
 
 -- then `message`, and `sqlite_sequence` (SQLite's file format, section 2.6), which AUTOINCREMENT brings so that no rowid is given
 -- twice
-abbrev pub with_message : Schema
-with_message = created (created with_grant message_table) sequence_table
+abbrev pub schema_with_messages : Schema
+schema_with_messages = created (created schema_with_grants message_table) sequence_table
 
 -- then the index of messages by list, month and sent date; of version 1 only the index by author key is missing
-abbrev pub with_month_index : Schema
-with_month_index = indexed with_message message_table month_index
+abbrev pub schema_with_month_index : Schema
+schema_with_month_index = indexed schema_with_messages message_table month_index

@@ -11,117 +11,117 @@ use Rattle.sqlite.specs.State.{text_of}
 use Rattle.sqlite_resolve.specs.declared.compiled.Compiled.{Compiled}
 use Rattle.sqlite_resolve.specs.declared.error.CompileError.{CompileError}
 use Rattle.sqlite_schema.specs.declared.schema.Keys.TheVariants.{Enforced}
-use Rattle.archive_machine.specs.Records.{Person, Grant, Message, Filing, ListOption, Address}
+use Rattle.archive_model.specs.Records.{Person, Grant, Message, IndexColumns, ListOption, Address}
 use Rattle.archive_tables.specs.Schema.{create_version, create_list, create_person, create_grant, create_message, create_month_index, create_author_index, create_option, create_address}
-use Rattle.archive_tables.specs.Tables.{newest_number, person_cells, grant_cells, option_cells, address_cells}
+use Rattle.archive_tables.specs.Tables.{newest_version, person_cells, grant_cells, option_cells, address_cells}
 
 -- the text of a statement, and what is put in for its parameters
 pub record Statement : Type 0 where
   pub sql : List ℕ
   pub given : Row
 
-abbrev pub adding_list : List ℕ → Statement
-adding_list name = record { sql = codes "INSERT INTO list (name) VALUES (?1)"; given = Text name ∷ [] }
+abbrev pub insert_list_statement : List ℕ → Statement
+insert_list_statement name = record { sql = codes "INSERT INTO list (name) VALUES (?1)"; given = Text name ∷ [] }
 
-abbrev pub adding_person : Person → Statement
-adding_person p = record { sql = codes "INSERT INTO person (name, token) VALUES (?1, ?2)"; given = person_cells p }
+abbrev pub insert_person_statement : Person → Statement
+insert_person_statement p = record { sql = codes "INSERT INTO person (name, token) VALUES (?1, ?2)"; given = person_cells p }
 
-abbrev pub adding_grant : Grant → Statement
-adding_grant g = record {
+abbrev pub insert_grant_statement : Grant → Statement
+insert_grant_statement g = record {
   sql = codes "INSERT INTO grant_row (person, list, kind, from_day, until_day) VALUES (?1, ?2, ?3, ?4, ?5)";
   given = grant_cells g;
 }
 
 -- the grant of the same person, list and rank gets the days of this one
-abbrev pub changing_grant : Grant → Statement
-changing_grant g = record {
+abbrev pub update_grant_statement : Grant → Statement
+update_grant_statement g = record {
   sql = codes "UPDATE grant_row SET from_day = ?4, until_day = ?5 WHERE person = ?1 AND list = ?2 AND kind = ?3";
   given = grant_cells g;
 }
 
-abbrev pub removing_grant : (person list : List ℕ) (rank : ℤ) → Statement
-removing_grant person list rank = record {
+abbrev pub delete_grant_statement : (person list : List ℕ) (rank : ℤ) → Statement
+delete_grant_statement person list rank = record {
   sql = codes "DELETE FROM grant_row WHERE person = ?1 AND list = ?2 AND kind = ?3";
   given = Text person ∷ Text list ∷ Int rank ∷ [];
 }
 
 -- it is neither withdrawn nor under embargo, whatever its marks say
-abbrev pub adding_message : Message → Filing → Statement
-adding_message m filing = record {
+abbrev pub insert_message_statement : Message → IndexColumns → Statement
+insert_message_statement m filing = record {
   sql = codes "INSERT INTO message (list, key, sender, arrival, text, withdrawn, embargo, sent, month, author) VALUES (?1, ?2, ?3, ?4, ?5, 0, NULL, ?6, ?7, ?8)";
   given = Text m.list ∷ Text m.key ∷ Blob m.sender ∷ Int m.arrival ∷ Blob m.text ∷ Int filing.sent ∷ Int filing.month ∷ Blob filing.author ∷ [];
 }
 
-abbrev pub withdrawing : (list key : List ℕ) (by : ℤ) → Statement
-withdrawing list key by = record {
+abbrev pub set_withdrawn_statement : (list key : List ℕ) (by : ℤ) → Statement
+set_withdrawn_statement list key by = record {
   sql = codes "UPDATE message SET withdrawn = ?3 WHERE list = ?1 AND key = ?2";
   given = Text list ∷ Text key ∷ Int by ∷ [];
 }
 
-abbrev pub holding_back : (list key : List ℕ) (until : ℤ) → Statement
-holding_back list key until = record {
+abbrev pub set_embargo_statement : (list key : List ℕ) (until : ℤ) → Statement
+set_embargo_statement list key until = record {
   sql = codes "UPDATE message SET embargo = ?3 WHERE list = ?1 AND key = ?2";
   given = Text list ∷ Text key ∷ Int until ∷ [];
 }
 
-abbrev pub freeing : (list key : List ℕ) → Statement
-freeing list key = record { sql = codes "UPDATE message SET embargo = NULL WHERE list = ?1 AND key = ?2"; given = Text list ∷ Text key ∷ [] }
+abbrev pub clear_embargo_statement : (list key : List ℕ) → Statement
+clear_embargo_statement list key = record { sql = codes "UPDATE message SET embargo = NULL WHERE list = ?1 AND key = ?2"; given = Text list ∷ Text key ∷ [] }
 
-abbrev pub adding_option : ListOption → Statement
-adding_option o = record { sql = codes "INSERT INTO list_option (list, merge) VALUES (?1, ?2)"; given = option_cells o }
+abbrev pub insert_option_statement : ListOption → Statement
+insert_option_statement o = record { sql = codes "INSERT INTO list_option (list, merge) VALUES (?1, ?2)"; given = option_cells o }
 
-abbrev pub changing_option : ListOption → Statement
-changing_option o = record { sql = codes "UPDATE list_option SET merge = ?2 WHERE list = ?1"; given = option_cells o }
+abbrev pub update_option_statement : ListOption → Statement
+update_option_statement o = record { sql = codes "UPDATE list_option SET merge = ?2 WHERE list = ?1"; given = option_cells o }
 
-abbrev pub adding_address : Address → Statement
-adding_address a = record { sql = codes "INSERT INTO address (person, address) VALUES (?1, ?2)"; given = address_cells a }
+abbrev pub insert_address_statement : Address → Statement
+insert_address_statement a = record { sql = codes "INSERT INTO address (person, address) VALUES (?1, ?2)"; given = address_cells a }
 
-abbrev pub changing_address : Address → Statement
-changing_address a = record { sql = codes "UPDATE address SET address = ?2 WHERE person = ?1"; given = address_cells a }
+abbrev pub update_address_statement : Address → Statement
+update_address_statement a = record { sql = codes "UPDATE address SET address = ?2 WHERE person = ?1"; given = address_cells a }
 
 -- the texts of the schema
 
 abbrev creating : List ℕ → Statement
 creating text = record { sql = text; given = [] }
 
-abbrev pub making_version : Statement
-making_version = creating create_version
+abbrev pub create_version_statement : Statement
+create_version_statement = creating create_version
 
-abbrev pub making_lists : Statement
-making_lists = creating create_list
+abbrev pub create_list_statement : Statement
+create_list_statement = creating create_list
 
-abbrev pub making_persons : Statement
-making_persons = creating create_person
+abbrev pub create_person_statement : Statement
+create_person_statement = creating create_person
 
-abbrev pub making_grants : Statement
-making_grants = creating create_grant
+abbrev pub create_grant_statement : Statement
+create_grant_statement = creating create_grant
 
-abbrev pub making_messages : Statement
-making_messages = creating create_message
+abbrev pub create_message_statement : Statement
+create_message_statement = creating create_message
 
-abbrev pub indexing_months : Statement
-indexing_months = creating create_month_index
+abbrev pub create_month_index_statement : Statement
+create_month_index_statement = creating create_month_index
 
-abbrev pub indexing_authors : Statement
-indexing_authors = creating create_author_index
+abbrev pub create_author_index_statement : Statement
+create_author_index_statement = creating create_author_index
 
-abbrev pub making_options : Statement
-making_options = creating create_option
+abbrev pub create_option_statement : Statement
+create_option_statement = creating create_option
 
-abbrev pub making_addresses : Statement
-making_addresses = creating create_address
+abbrev pub create_address_statement : Statement
+create_address_statement = creating create_address
 
 -- the number of the newest version
-abbrev pub adding_version : Statement
-adding_version = record { sql = codes "INSERT INTO version (number) VALUES (?1)"; given = Int (pos newest_number) ∷ [] }
+abbrev pub insert_version_statement : Statement
+insert_version_statement = record { sql = codes "INSERT INTO version (number) VALUES (?1)"; given = Int (pos newest_version) ∷ [] }
 
 -- the same in the place of an older one
-abbrev pub changing_version : Statement
-changing_version = record { sql = codes "UPDATE version SET number = ?1"; given = Int (pos newest_number) ∷ [] }
+abbrev pub update_version_statement : Statement
+update_version_statement = record { sql = codes "UPDATE version SET number = ?1"; given = Int (pos newest_version) ∷ [] }
 
 -- an option for each list
-abbrev pub copying_options : Statement
-copying_options = record { sql = codes "INSERT INTO list_option (list, merge) SELECT name, 1 FROM list ORDER BY rowid"; given = [] }
+abbrev pub backfill_options_statement : Statement
+backfill_options_statement = record { sql = codes "INSERT INTO list_option (list, merge) SELECT name, 1 FROM list ORDER BY rowid"; given = [] }
 
 -- ---- what SQL says of one
 
@@ -134,50 +134,50 @@ ends_as (Ok c) st db out = Does None at_once st.given db (text_of st.sql c) c.re
 ends_as (Err e) st db out = ⊥
 
 -- how a statement may end on a database, but for want of memory and the disk
-abbrev pub MayEnd : Statement → Database → Result (Tally × Database) (Option Error) → Type 0
-MayEnd st db out = ends_as (understood db.schema st.sql) st db out
+abbrev pub StatementMayEndIn : Statement → Database → Result (Tally × Database) (Option Error) → Type 0
+StatementMayEndIn st db out = ends_as (understood db.schema st.sql) st db out
 
 -- The rows themselves refuse the statement: a row that it makes breaks a rule of the schema (a key that is there twice, a name that
--- no row has, a value out of its range), has no number of 64 bits, or is too long to be stored (IsRefused, IsOversized of sqlite).
-abbrev pub IsRefused : Statement → Database → Type 0
-IsRefused st db = (stop : Option Error) × MayEnd st db (Err stop)
+-- no row has, a value out of its range), has no number of 64 bits, or is too long to be stored (IsStatementRefused, IsOversized of sqlite).
+abbrev pub IsStatementRefused : Statement → Database → Type 0
+IsStatementRefused st db = (stop : Option Error) × StatementMayEndIn st db (Err stop)
 
 -- this is what the statement makes of it
-abbrev pub IsCarriedOut : Statement → Database → Database → Type 0
-IsCarriedOut st db after = (tally : Tally) × MayEnd st db (Ok (tally, after))
+abbrev pub StatementExecutesTo : Statement → Database → Database → Type 0
+StatementExecutesTo st db after = (tally : Tally) × StatementMayEndIn st db (Ok (tally, after))
 
 -- ---- one after the other
 
 -- SQL refuses one of these, on what those before it make of the database.
-abbrev pub IsRefusedInTurn : List Statement → Database → Type 0
-IsRefusedInTurn [] db = ⊥
-IsRefusedInTurn (st ∷ rest) db = IsRefused st db ⊎ ((next : Database) × IsCarriedOut st db next × IsRefusedInTurn rest next)
+abbrev pub IsAnyStatementRefused : List Statement → Database → Type 0
+IsAnyStatementRefused [] db = ⊥
+IsAnyStatementRefused (st ∷ rest) db = IsStatementRefused st db ⊎ ((next : Database) × StatementExecutesTo st db next × IsAnyStatementRefused rest next)
 
 -- and this is what all of them make of it
-abbrev pub AreCarriedOut : List Statement → Database → Database → Type 0
-AreCarriedOut [] db after = after ≡ db
-AreCarriedOut (st ∷ rest) db after = (next : Database) × IsCarriedOut st db next × AreCarriedOut rest next after
+abbrev pub StatementsExecuteTo : List Statement → Database → Database → Type 0
+StatementsExecuteTo [] db after = after ≡ db
+StatementsExecuteTo (st ∷ rest) db after = (next : Database) × StatementExecutesTo st db next × StatementsExecuteTo rest next after
 
 -- what makes the tables in an empty database, in the order in which it is done
-abbrev pub first_statements : List Statement
-first_statements = making_version ∷ making_lists ∷ making_persons ∷ []
+abbrev pub first_create_statements : List Statement
+first_create_statements = create_version_statement ∷ create_list_statement ∷ create_person_statement ∷ []
 
-abbrev pub second_statements : List Statement
-second_statements = making_grants ∷ making_messages ∷ []
+abbrev pub second_create_statements : List Statement
+second_create_statements = create_grant_statement ∷ create_message_statement ∷ []
 
-abbrev pub index_statements : List Statement
-index_statements = indexing_months ∷ indexing_authors ∷ []
+abbrev pub create_index_statements : List Statement
+create_index_statements = create_month_index_statement ∷ create_author_index_statement ∷ []
 
-abbrev pub later_statements : List Statement
-later_statements = making_options ∷ making_addresses ∷ adding_version ∷ []
+abbrev pub last_create_statements : List Statement
+last_create_statements = create_option_statement ∷ create_address_statement ∷ insert_version_statement ∷ []
 
-abbrev pub making_statements : List Statement
-making_statements = first_statements ++ second_statements ++ index_statements ++ later_statements
+abbrev pub all_create_statements : List Statement
+all_create_statements = first_create_statements ++ second_create_statements ++ create_index_statements ++ last_create_statements
 
 -- what brings tables of version 1 to 2
-abbrev pub option_statements : (number : ℕ) → List Statement
-option_statements number = if number == 1 then making_options ∷ copying_options ∷ [] else []
+abbrev pub option_migration_statements : (number : ℕ) → List Statement
+option_migration_statements number = if number == 1 then create_option_statement ∷ backfill_options_statement ∷ [] else []
 
 -- what brings tables of an older version to the newest
-abbrev pub moving_statements : (number : ℕ) → List Statement
-moving_statements number = option_statements number ++ making_addresses ∷ changing_version ∷ []
+abbrev pub migration_statements : (number : ℕ) → List Statement
+migration_statements number = option_migration_statements number ++ create_address_statement ∷ update_version_statement ∷ []

@@ -1,9 +1,9 @@
 //! Rows of the tables as values, each read column by column.
 
 ghost use Rattle.std.specs.Prelude.{◌≡◌, ◌∷◌, string_bytes, IfOk, IfErr};
-ghost use Rattle.archive_machine.specs.Records.{Grant, Message, ListOption};
-ghost use Rattle.archive_tables.specs.Rows.{name_shown, place_shown, message_shown, message_in, marks_shown, marks_of, dated_marks_shown};
-ghost use Rattle.archive_tables.specs.Rows.{dated_marks_of, merge_shown, grant_shown, grant_in, no_memory, IsTextFault};
+ghost use Rattle.archive_model.specs.Records.{Grant, Message, ListOption};
+ghost use Rattle.archive_tables.specs.Rows.{name_result_row, rowid_result_row, message_result_row, message_from_result_row, marks_result_row, decoded_marks, dated_marks_result_row};
+ghost use Rattle.archive_tables.specs.Rows.{decoded_dated_marks, merge_result_row, grant_result_row, grant_from_result_row, out_of_memory_error, IsTextReadError};
 
 use sqlite::{Error, Row};
 
@@ -58,16 +58,16 @@ pub struct GrantRow {
 
 /// The name in a row that shows one.
 pub fn read_name(row: &Row) -> Result<String, Error>
-    ensures read { IfOk result (λ name. (n : _) → row.now ≡ name_shown n → string_bytes name ≡ n) }
-    ensures fault { IfErr result (λ e. (n : _) → row.now ≡ name_shown n → IsTextFault n e) }
+    ensures read { IfOk result (λ name. (n : _) → row.now ≡ name_result_row n → string_bytes name ≡ n) }
+    ensures fault { IfErr result (λ e. (n : _) → row.now ≡ name_result_row n → IsTextReadError n e) }
 {
     row.get(0)
 }
 
 /// The number in a row that shows one.
 pub fn read_place(row: &Row) -> Result<i64, Error>
-    ensures read { IfOk result (λ place. (n : _) → row.now ≡ place_shown n → place ≡ n) }
-    ensures fault { IfErr result (λ e. (n : _) → row.now ≡ place_shown n → e ≡ no_memory) }
+    ensures read { IfOk result (λ place. (n : _) → row.now ≡ rowid_result_row n → place ≡ n) }
+    ensures fault { IfErr result (λ e. (n : _) → row.now ≡ rowid_result_row n → e ≡ out_of_memory_error) }
 {
     let place: i64 = row.get(0)?;
     Ok(place)
@@ -75,10 +75,10 @@ pub fn read_place(row: &Row) -> Result<i64, Error>
 
 /// The message in a row that shows one.
 pub fn read_message(row: &Row) -> Result<MessageRow, Error>
-    ensures read { IfOk result (λ r. (m : Message) → row.now ≡ message_shown m
-        → message_in m.list r ≡ m) }
-    ensures fault { IfErr result (λ e. (m : Message) → row.now ≡ message_shown m
-        → IsTextFault m.key e) }
+    ensures read { IfOk result (λ r. (m : Message) → row.now ≡ message_result_row m
+        → message_from_result_row m.list r ≡ m) }
+    ensures fault { IfErr result (λ e. (m : Message) → row.now ≡ message_result_row m
+        → IsTextReadError m.key e) }
 {
     Ok(MessageRow {
         key: row.get(0)?,
@@ -92,8 +92,8 @@ pub fn read_message(row: &Row) -> Result<MessageRow, Error>
 
 /// The marks in a row that shows those of a message.
 pub fn read_marks(row: &Row) -> Result<MarksRow, Error>
-    ensures read { IfOk result (λ r. (m : Message) → row.now ≡ marks_shown m → r ≡ marks_of m) }
-    ensures fault { IfErr result (λ e. (m : Message) → row.now ≡ marks_shown m → e ≡ no_memory) }
+    ensures read { IfOk result (λ r. (m : Message) → row.now ≡ marks_result_row m → r ≡ decoded_marks m) }
+    ensures fault { IfErr result (λ e. (m : Message) → row.now ≡ marks_result_row m → e ≡ out_of_memory_error) }
 {
     Ok(MarksRow {
         withdrawn: row.get(0)?,
@@ -103,10 +103,10 @@ pub fn read_marks(row: &Row) -> Result<MarksRow, Error>
 
 /// The arrival and the marks in a row that shows those of a message.
 pub fn read_dated_marks(row: &Row) -> Result<DatedMarksRow, Error>
-    ensures read { IfOk result (λ r. (m : Message) → row.now ≡ dated_marks_shown m
-        → r ≡ dated_marks_of m) }
-    ensures fault { IfErr result (λ e. (m : Message) → row.now ≡ dated_marks_shown m
-        → e ≡ no_memory) }
+    ensures read { IfOk result (λ r. (m : Message) → row.now ≡ dated_marks_result_row m
+        → r ≡ decoded_dated_marks m) }
+    ensures fault { IfErr result (λ e. (m : Message) → row.now ≡ dated_marks_result_row m
+        → e ≡ out_of_memory_error) }
 {
     Ok(DatedMarksRow {
         arrival: row.get(0)?,
@@ -117,9 +117,9 @@ pub fn read_dated_marks(row: &Row) -> Result<DatedMarksRow, Error>
 
 /// What is said of the threads of a list, in a row that shows it: whether they are gathered by subject.
 pub fn read_merge(row: &Row) -> Result<bool, Error>
-    ensures read { IfOk result (λ merge. (o : ListOption) → row.now ≡ merge_shown o
+    ensures read { IfOk result (λ merge. (o : ListOption) → row.now ≡ merge_result_row o
         → merge ≡ o.merge) }
-    ensures fault { IfErr result (λ e. (o : ListOption) → row.now ≡ merge_shown o → e ≡ no_memory) }
+    ensures fault { IfErr result (λ e. (o : ListOption) → row.now ≡ merge_result_row o → e ≡ out_of_memory_error) }
 {
     let number: i64 = row.get(0)?;
     Ok(number == 1)
@@ -127,9 +127,9 @@ pub fn read_merge(row: &Row) -> Result<bool, Error>
 
 /// The grant in a row that shows one.
 pub fn read_grant(row: &Row) -> Result<GrantRow, Error>
-    ensures read { IfOk result (λ r. (g : Grant) → row.now ≡ grant_shown g
-        → grant_in g.person g.list r ≡ g) }
-    ensures fault { IfErr result (λ e. (g : Grant) → row.now ≡ grant_shown g → e ≡ no_memory) }
+    ensures read { IfOk result (λ r. (g : Grant) → row.now ≡ grant_result_row g
+        → grant_from_result_row g.person g.list r ≡ g) }
+    ensures fault { IfErr result (λ e. (g : Grant) → row.now ≡ grant_result_row g → e ≡ out_of_memory_error) }
 {
     Ok(GrantRow {
         rank: row.get(0)?,

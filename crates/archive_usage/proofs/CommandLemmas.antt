@@ -4,17 +4,17 @@ use Rattle.clap.specs.Words.{AddsArg, AddsSubcommand, App, Rule, rule_of, shape_
 use Rattle.clap.specs.declared.builder.Arg.{Arg}
 use Rattle.clap.specs.declared.builder.Command.{Command}
 use Rattle.clap.specs.declared.builder.Command.TheViews.{out-Command}
-use Rattle.archive_usage.specs.Program.{IsArg, IsCommand}
+use Rattle.archive_usage.specs.Program.{ArgParsesByRule, CommandParsesAsApp}
 
 pub with_rule_added : {command more : Command} {arg : Arg} → AddsArg command arg more
-    → (app : App) (rule : Rule) → IsCommand app command → IsArg rule arg → IsCommand (with_rule app rule) more
+    → (app : App) (rule : Rule) → CommandParsesAsApp app command → ArgParsesByRule rule arg → CommandParsesAsApp (with_rule app rule) more
 with_rule_added {command} {more} {arg} adds app rule is of = record {
   reads = adds.shape of.local ∙ (ap (λ old. with_rule old (rule_of arg)) is.reads ∙ ap (λ new. with_rule app new) of.reads);
   local = adds.globals ∙ (ap (λ old. old || arg.global) is.local ∙ of.local);
 }
 
 pub with_subcommand_added : {program command more : Command} → AddsSubcommand program command more
-    → (app sub : App) → IsCommand app program → IsCommand sub command → IsCommand (with_subcommand app sub.top) more
+    → (app sub : App) → CommandParsesAsApp app program → CommandParsesAsApp sub command → CommandParsesAsApp (with_subcommand app sub.top) more
 with_subcommand_added {program} {command} adds app sub is of = record {
   reads = adds.shape of.local ∙ (ap (λ old. with_subcommand old (shape_of command)) is.reads ∙ ap (λ new. with_subcommand app new.top) of.reads);
   local = adds.globals ∙ (ap (λ old. old || (out-Command command).has_globals) is.local ∙ of.local);

@@ -1,12 +1,13 @@
 //! The command line, as `clap` reads it.
 ghost use Rattle.std.specs.Prelude.{IfOk};
 ghost use Rattle.clap.specs.Words.{App, Rule, with_rule};
-ghost use Rattle.archive_usage.specs.Program.{IsArg, IsCommand, valued_rule, option_rule, required_rule, empty_app};
-ghost use Rattle.archive_usage.specs.Program.{with_option, with_needed, with_word, with_command, versioned};
-ghost use Rattle.archive_usage.specs.Program.{table_app, message_app, grant_of_app, dated_app};
+ghost use Rattle.archive_usage.specs.Program.{ArgParsesByRule, CommandParsesAsApp, valued_rule, option_rule, required_rule, empty_app};
+ghost use Rattle.archive_usage.specs.Program.{with_option, with_required_option, with_positional, with_command, with_version_flag};
+ghost use Rattle.archive_usage.specs.Program.{database_app, message_app, grant_target_app, sift_dates_app};
 ghost use Rattle.archive_usage.specs.Program.{sift_app, list_add_app, merge_app, person_add_app};
 ghost use Rattle.archive_usage.specs.Program.{person_address_app, grant_app, revoke_app, import_app, withdraw_app, restore_app, embargo_app, lift_app};
-ghost use Rattle.archive_usage.specs.Program.{ruled_app, ask_app, get_app, export_app, check_app, serve_app, bare_app, list_app, person_app, mail_app, archive_app, app_named};
+ghost use Rattle.archive_usage.specs.Program.{policy_app, reader_query_app, get_app, export_app, check_app, serve_app};
+ghost use Rattle.archive_usage.specs.Program.{bare_app, app_with_list_commands, app_with_person_commands, app_with_message_commands, archive_app, app_named};
 
 use crate::help::{self, Help};
 use clap::{Arg, Command};
@@ -16,29 +17,29 @@ const VERSION: &str = "0.3.0";
 
 /// An argument with one value, with its line in the help.
 fn valued<'a>(alloc: Global, name: &'a str, value: &'a str, help: &'a str) -> Arg<'a>
-    ensures { IsArg (valued_rule name.entry.now) result }
+    ensures { ArgParsesByRule (valued_rule name.entry.now) result }
 {
     Arg::new(alloc, name).value_name(value).help(help)
 }
 
 /// An option `--NAME VALUE`.
 fn option<'a>(alloc: Global, name: &'a str, value: &'a str, help: &'a str) -> Arg<'a>
-    ensures { IsArg (option_rule name.entry.now) result }
+    ensures { ArgParsesByRule (option_rule name.entry.now) result }
 {
     valued(alloc, name, value, help).long(name)
 }
 
 /// The argument, which has to be given.
 fn required<'a>(arg: Arg<'a>) -> Arg<'a>
-    ensures { (rule : Rule) → IsArg rule arg.entry → IsArg (required_rule rule) result }
+    ensures { (rule : Rule) → ArgParsesByRule rule arg.entry → ArgParsesByRule (required_rule rule) result }
 {
     arg.required(true)
 }
 
 /// The command with an argument more.
 fn with_arg<'a>(command: Command<'a>, arg: Arg<'a>) -> Result<Command<'a>, AllocError>
-    ensures { (app : App) → (rule : Rule) → IsCommand app command.entry → IsArg rule arg.entry
-        → IfOk result (IsCommand (with_rule app rule)) }
+    ensures { (app : App) → (rule : Rule) → CommandParsesAsApp app command.entry → ArgParsesByRule rule arg.entry
+        → IfOk result (CommandParsesAsApp (with_rule app rule)) }
 {
     let more = command.arg(arg)?;
     Ok(more)
@@ -52,7 +53,7 @@ fn with_option<'a>(
     value: &'a str,
     help: &'a str,
 ) -> Result<Command<'a>, AllocError>
-    ensures { (app : App) → IsCommand app command.entry → IfOk result (IsCommand (with_option app name.entry.now)) }
+    ensures { (app : App) → CommandParsesAsApp app command.entry → IfOk result (CommandParsesAsApp (with_option app name.entry.now)) }
 {
     with_arg(command, option(alloc, name, value, help))
 }
@@ -65,7 +66,7 @@ fn with_needed<'a>(
     value: &'a str,
     help: &'a str,
 ) -> Result<Command<'a>, AllocError>
-    ensures { (app : App) → IsCommand app command.entry → IfOk result (IsCommand (with_needed app name.entry.now)) }
+    ensures { (app : App) → CommandParsesAsApp app command.entry → IfOk result (CommandParsesAsApp (with_required_option app name.entry.now)) }
 {
     with_arg(command, required(option(alloc, name, value, help)))
 }
@@ -78,7 +79,7 @@ fn with_word<'a>(
     value: &'a str,
     help: &'a str,
 ) -> Result<Command<'a>, AllocError>
-    ensures { (app : App) → IsCommand app command.entry → IfOk result (IsCommand (with_word app name.entry.now)) }
+    ensures { (app : App) → CommandParsesAsApp app command.entry → IfOk result (CommandParsesAsApp (with_positional app name.entry.now)) }
 {
     with_arg(command, required(valued(alloc, name, value, help)))
 }
@@ -86,21 +87,21 @@ fn with_word<'a>(
 /// The command with its line in the help and what stands at the end of its help, which change nothing in how words are
 /// read.
 fn described<'a>(command: Command<'a>, help: Help) -> Command<'a>
-    ensures { (app : App) → IsCommand app command.entry → IsCommand app result }
+    ensures { (app : App) → CommandParsesAsApp app command.entry → CommandParsesAsApp app result }
 {
     command.about(help.about).after_help(help.end)
 }
 
 /// A command with no argument yet.
 fn new_command<'a>(alloc: Global, name: &'a str, help: Help) -> Command<'a>
-    ensures { IsCommand (empty_app name.entry.now) result }
+    ensures { CommandParsesAsApp (empty_app name.entry.now) result }
 {
     described(Command::new(alloc, name), help)
 }
 
 /// A command over the tables of a database.
 fn table_command<'a>(alloc: Global, name: &'a str, help: Help) -> Result<Command<'a>, AllocError>
-    ensures { IfOk result (IsCommand (table_app name.entry.now)) }
+    ensures { IfOk result (CommandParsesAsApp (database_app name.entry.now)) }
 {
     let command = new_command(alloc, name, help);
     with_needed(alloc, command, "db", "FILE", help::DATABASE)
@@ -108,7 +109,7 @@ fn table_command<'a>(alloc: Global, name: &'a str, help: Help) -> Result<Command
 
 /// A command on a message.
 fn message_command<'a>(alloc: Global, name: &'a str, help: Help) -> Result<Command<'a>, AllocError>
-    ensures { IfOk result (IsCommand (message_app name.entry.now)) }
+    ensures { IfOk result (CommandParsesAsApp (message_app name.entry.now)) }
 {
     let command = table_command(alloc, name, help)?;
     let listed = with_word(alloc, command, "list", "LIST", help::LIST)?;
@@ -117,7 +118,7 @@ fn message_command<'a>(alloc: Global, name: &'a str, help: Help) -> Result<Comma
 
 /// A command on what a person is granted on a list.
 fn grant_of_command<'a>(alloc: Global, name: &'a str, help: Help) -> Result<Command<'a>, AllocError>
-    ensures { IfOk result (IsCommand (grant_of_app name.entry.now)) }
+    ensures { IfOk result (CommandParsesAsApp (grant_target_app name.entry.now)) }
 {
     let command = table_command(alloc, name, help)?;
     let named = with_word(alloc, command, "person", "PERSON", help::PERSON)?;
@@ -127,7 +128,7 @@ fn grant_of_command<'a>(alloc: Global, name: &'a str, help: Help) -> Result<Comm
 
 /// `sift` with the options of the day and of the age.
 fn dated_command<'a>(alloc: Global) -> Result<Command<'a>, AllocError>
-    ensures { IfOk result (IsCommand dated_app) }
+    ensures { IfOk result (CommandParsesAsApp sift_dates_app) }
 {
     let command = new_command(alloc, "sift", help::SIFT);
     let dated = with_option(alloc, command, "day", "DAY", help::DAY)?;
@@ -135,7 +136,7 @@ fn dated_command<'a>(alloc: Global) -> Result<Command<'a>, AllocError>
 }
 
 fn sift_command<'a>(alloc: Global) -> Result<Command<'a>, AllocError>
-    ensures { IfOk result (IsCommand sift_app) }
+    ensures { IfOk result (CommandParsesAsApp sift_app) }
 {
     let dated = dated_command(alloc)?;
     let ruled = with_option(alloc, dated, "policy", "FILE", help::POLICY)?;
@@ -144,14 +145,14 @@ fn sift_command<'a>(alloc: Global) -> Result<Command<'a>, AllocError>
 }
 
 fn list_add_command<'a>(alloc: Global) -> Result<Command<'a>, AllocError>
-    ensures { IfOk result (IsCommand list_add_app) }
+    ensures { IfOk result (CommandParsesAsApp list_add_app) }
 {
     let command = table_command(alloc, "list-add", help::LIST_ADD)?;
     with_word(alloc, command, "name", "NAME", help::NAME)
 }
 
 fn merge_command<'a>(alloc: Global) -> Result<Command<'a>, AllocError>
-    ensures { IfOk result (IsCommand merge_app) }
+    ensures { IfOk result (CommandParsesAsApp merge_app) }
 {
     let command = table_command(alloc, "merge", help::MERGE)?;
     let listed = with_word(alloc, command, "list", "LIST", help::LIST)?;
@@ -159,7 +160,7 @@ fn merge_command<'a>(alloc: Global) -> Result<Command<'a>, AllocError>
 }
 
 fn person_add_command<'a>(alloc: Global) -> Result<Command<'a>, AllocError>
-    ensures { IfOk result (IsCommand person_add_app) }
+    ensures { IfOk result (CommandParsesAsApp person_add_app) }
 {
     let command = table_command(alloc, "person-add", help::PERSON_ADD)?;
     let named = with_word(alloc, command, "name", "NAME", help::NAME)?;
@@ -167,7 +168,7 @@ fn person_add_command<'a>(alloc: Global) -> Result<Command<'a>, AllocError>
 }
 
 fn person_address_command<'a>(alloc: Global) -> Result<Command<'a>, AllocError>
-    ensures { IfOk result (IsCommand person_address_app) }
+    ensures { IfOk result (CommandParsesAsApp person_address_app) }
 {
     let command = table_command(alloc, "person-address", help::PERSON_ADDRESS)?;
     let named = with_word(alloc, command, "person", "PERSON", help::PERSON)?;
@@ -175,7 +176,7 @@ fn person_address_command<'a>(alloc: Global) -> Result<Command<'a>, AllocError>
 }
 
 fn grant_command<'a>(alloc: Global) -> Result<Command<'a>, AllocError>
-    ensures { IfOk result (IsCommand grant_app) }
+    ensures { IfOk result (CommandParsesAsApp grant_app) }
 {
     let command = grant_of_command(alloc, "grant", help::GRANT)?;
     let from = with_word(alloc, command, "from", "FROM", help::FROM)?;
@@ -183,13 +184,13 @@ fn grant_command<'a>(alloc: Global) -> Result<Command<'a>, AllocError>
 }
 
 fn revoke_command<'a>(alloc: Global) -> Result<Command<'a>, AllocError>
-    ensures { IfOk result (IsCommand revoke_app) }
+    ensures { IfOk result (CommandParsesAsApp revoke_app) }
 {
     grant_of_command(alloc, "revoke", help::REVOKE)
 }
 
 fn import_command<'a>(alloc: Global) -> Result<Command<'a>, AllocError>
-    ensures { IfOk result (IsCommand import_app) }
+    ensures { IfOk result (CommandParsesAsApp import_app) }
 {
     let command = table_command(alloc, "import", help::IMPORT)?;
     let listed = with_word(alloc, command, "list", "LIST", help::LIST)?;
@@ -197,34 +198,34 @@ fn import_command<'a>(alloc: Global) -> Result<Command<'a>, AllocError>
 }
 
 fn withdraw_command<'a>(alloc: Global) -> Result<Command<'a>, AllocError>
-    ensures { IfOk result (IsCommand withdraw_app) }
+    ensures { IfOk result (CommandParsesAsApp withdraw_app) }
 {
     let command = message_command(alloc, "withdraw", help::WITHDRAW)?;
     with_word(alloc, command, "by", "BY", help::BY)
 }
 
 fn restore_command<'a>(alloc: Global) -> Result<Command<'a>, AllocError>
-    ensures { IfOk result (IsCommand restore_app) }
+    ensures { IfOk result (CommandParsesAsApp restore_app) }
 {
     message_command(alloc, "restore", help::RESTORE)
 }
 
 fn embargo_command<'a>(alloc: Global) -> Result<Command<'a>, AllocError>
-    ensures { IfOk result (IsCommand embargo_app) }
+    ensures { IfOk result (CommandParsesAsApp embargo_app) }
 {
     let command = message_command(alloc, "embargo", help::EMBARGO)?;
     with_word(alloc, command, "until", "UNTIL", help::EMBARGO_UNTIL)
 }
 
 fn lift_command<'a>(alloc: Global) -> Result<Command<'a>, AllocError>
-    ensures { IfOk result (IsCommand lift_app) }
+    ensures { IfOk result (CommandParsesAsApp lift_app) }
 {
     message_command(alloc, "lift", help::LIFT)
 }
 
 /// A command over a database by a policy, on a day.
 fn ruled_command<'a>(alloc: Global, name: &'a str, help: Help) -> Result<Command<'a>, AllocError>
-    ensures { IfOk result (IsCommand (ruled_app name.entry.now)) }
+    ensures { IfOk result (CommandParsesAsApp (policy_app name.entry.now)) }
 {
     let command = table_command(alloc, name, help)?;
     let ruled = with_needed(alloc, command, "policy", "POLICY", help::RULES)?;
@@ -233,7 +234,7 @@ fn ruled_command<'a>(alloc: Global, name: &'a str, help: Help) -> Result<Command
 
 /// A question of a reader on a list.
 fn ask_command<'a>(alloc: Global, name: &'a str, help: Help) -> Result<Command<'a>, AllocError>
-    ensures { IfOk result (IsCommand (ask_app name.entry.now)) }
+    ensures { IfOk result (CommandParsesAsApp (reader_query_app name.entry.now)) }
 {
     let command = ruled_command(alloc, name, help)?;
     let asked = with_option(alloc, command, "person", "PERSON", help::ASKING)?;
@@ -241,26 +242,26 @@ fn ask_command<'a>(alloc: Global, name: &'a str, help: Help) -> Result<Command<'
 }
 
 fn get_command<'a>(alloc: Global) -> Result<Command<'a>, AllocError>
-    ensures { IfOk result (IsCommand get_app) }
+    ensures { IfOk result (CommandParsesAsApp get_app) }
 {
     let command = ask_command(alloc, "get", help::GET)?;
     with_word(alloc, command, "key", "KEY", help::KEY)
 }
 
 fn export_command<'a>(alloc: Global) -> Result<Command<'a>, AllocError>
-    ensures { IfOk result (IsCommand export_app) }
+    ensures { IfOk result (CommandParsesAsApp export_app) }
 {
     ask_command(alloc, "export", help::EXPORT)
 }
 
 fn check_command<'a>(alloc: Global) -> Result<Command<'a>, AllocError>
-    ensures { IfOk result (IsCommand check_app) }
+    ensures { IfOk result (CommandParsesAsApp check_app) }
 {
     table_command(alloc, "check", help::CHECK)
 }
 
 fn serve_command<'a>(alloc: Global) -> Result<Command<'a>, AllocError>
-    ensures { IfOk result (IsCommand serve_app) }
+    ensures { IfOk result (CommandParsesAsApp serve_app) }
 {
     let command = ruled_command(alloc, "serve", help::SERVE)?;
     let ported = with_needed(alloc, command, "port", "PORT", help::PORT)?;
@@ -269,8 +270,8 @@ fn serve_command<'a>(alloc: Global) -> Result<Command<'a>, AllocError>
 
 /// The program with a command more.
 fn with_command<'a>(program: Command<'a>, command: Command<'a>) -> Result<Command<'a>, AllocError>
-    ensures { (app : App) → (sub : App) → IsCommand app program.entry → IsCommand sub command.entry
-        → IfOk result (IsCommand (with_command app sub)) }
+    ensures { (app : App) → (sub : App) → CommandParsesAsApp app program.entry → CommandParsesAsApp sub command.entry
+        → IfOk result (CommandParsesAsApp (with_command app sub)) }
 {
     let more = program.subcommand(command)?;
     Ok(more)
@@ -278,14 +279,14 @@ fn with_command<'a>(program: Command<'a>, command: Command<'a>) -> Result<Comman
 
 /// The command with the version, whose words do not begin with the program's name.
 fn versioned<'a>(command: Command<'a>) -> Command<'a>
-    ensures { (app : App) → IsCommand app command.entry → IsCommand (versioned app) result }
+    ensures { (app : App) → CommandParsesAsApp app command.entry → CommandParsesAsApp (with_version_flag app) result }
 {
     command.version(VERSION).no_binary_name(true)
 }
 
 /// The command with the name that its usage begins with.
 fn named<'a>(command: Command<'a>, name: &'a str) -> Result<Command<'a>, AllocError>
-    ensures { (app : App) → IsCommand app command.entry → IfOk result (IsCommand app) }
+    ensures { (app : App) → CommandParsesAsApp app command.entry → IfOk result (CommandParsesAsApp app) }
 {
     let named = command.bin_name(name)?;
     Ok(named)
@@ -293,7 +294,7 @@ fn named<'a>(command: Command<'a>, name: &'a str) -> Result<Command<'a>, AllocEr
 
 /// The program without its commands.
 fn bare_program<'a>(alloc: Global) -> Result<Command<'a>, AllocError>
-    ensures { IfOk result (IsCommand bare_app) }
+    ensures { IfOk result (CommandParsesAsApp bare_app) }
 {
     let command = new_command(alloc, "archive", help::ARCHIVE);
     named(versioned(command), "archive")
@@ -301,7 +302,7 @@ fn bare_program<'a>(alloc: Global) -> Result<Command<'a>, AllocError>
 
 /// The program with `sift` and the commands on lists.
 fn list_program<'a>(alloc: Global) -> Result<Command<'a>, AllocError>
-    ensures { IfOk result (IsCommand list_app) }
+    ensures { IfOk result (CommandParsesAsApp app_with_list_commands) }
 {
     let sifting = with_command(bare_program(alloc)?, sift_command(alloc)?)?;
     let listing = with_command(sifting, list_add_command(alloc)?)?;
@@ -310,7 +311,7 @@ fn list_program<'a>(alloc: Global) -> Result<Command<'a>, AllocError>
 
 /// The same, with the commands on persons.
 fn person_program<'a>(alloc: Global) -> Result<Command<'a>, AllocError>
-    ensures { IfOk result (IsCommand person_app) }
+    ensures { IfOk result (CommandParsesAsApp app_with_person_commands) }
 {
     let naming = with_command(list_program(alloc)?, person_add_command(alloc)?)?;
     let addressing = with_command(naming, person_address_command(alloc)?)?;
@@ -320,7 +321,7 @@ fn person_program<'a>(alloc: Global) -> Result<Command<'a>, AllocError>
 
 /// The same, with the commands on messages.
 fn mail_program<'a>(alloc: Global) -> Result<Command<'a>, AllocError>
-    ensures { IfOk result (IsCommand mail_app) }
+    ensures { IfOk result (CommandParsesAsApp app_with_message_commands) }
 {
     let importing = with_command(person_program(alloc)?, import_command(alloc)?)?;
     let withdrawing = with_command(importing, withdraw_command(alloc)?)?;
@@ -330,8 +331,8 @@ fn mail_program<'a>(alloc: Global) -> Result<Command<'a>, AllocError>
 }
 
 /// The program with all of its commands. Its words do not begin with its name.
-pub fn program<'a>(alloc: Global) -> Result<Command<'a>, AllocError>
-    ensures { IfOk result (IsCommand archive_app) }
+pub fn program_usage<'a>(alloc: Global) -> Result<Command<'a>, AllocError>
+    ensures { IfOk result (CommandParsesAsApp archive_app) }
 {
     let getting = with_command(mail_program(alloc)?, get_command(alloc)?)?;
     let exporting = with_command(getting, export_command(alloc)?)?;
@@ -342,7 +343,7 @@ pub fn program<'a>(alloc: Global) -> Result<Command<'a>, AllocError>
 /// The command of this name alone, with the name that its usage begins with; else the program.
 #[tactic(auto, unfolding(crate::specs::Program::app_named))]
 pub fn command_named<'a>(alloc: Global, name: &str) -> Result<Command<'a>, AllocError>
-    ensures { IfOk result (IsCommand (app_named name.now)) }
+    ensures { IfOk result (CommandParsesAsApp (app_named name.now)) }
 {
     match name {
         "sift" => named(sift_command(alloc)?, "archive sift"),
@@ -361,6 +362,6 @@ pub fn command_named<'a>(alloc: Global, name: &str) -> Result<Command<'a>, Alloc
         "export" => named(export_command(alloc)?, "archive export"),
         "check" => named(check_command(alloc)?, "archive check"),
         "serve" => named(serve_command(alloc)?, "archive serve"),
-        _ => program(alloc),
+        _ => program_usage(alloc),
     }
 }

@@ -6,4 +6,4 @@
 mod building;
 mod help;
 
-pub use building::{command_named, program};
+pub use building::{command_named, program_usage};

@@ -2,10 +2,10 @@
 use Rattle.std.proofs.Common.{◌≡◌, ◌≢◌, ℕ, zero, suc, ◌+◌, ◌-◌, List, [], ◌∷◌, ◌++◌, length, take, drop, refl, arith, append_assoc, ◌∙◌, Ok}
 use Rattle.std.proofs.Math.Seq.{take-add}
 use Rattle.std.proofs.lemmas.Grind.{common_steps}
-use Rattle.byte_device.specs.Device.{written_faults}
+use Rattle.byte_device.specs.Device.{failures_of_write}
 
 -- a write that took some byte is no failure
-pub written_faults-some : (E : Type 0) (bytes : List ℕ) (n : ℕ) → n ≢ 0 → written_faults {E = E} bytes (Ok n) ≡ 0
+pub written_faults-some : (E : Type 0) (bytes : List ℕ) (n : ℕ) → n ≢ 0 → failures_of_write {E = E} bytes (Ok n) ≡ 0
 written_faults-some E [] n some = refl
 written_faults-some E (b ∷ bytes) zero some = absurd (some refl)
 written_faults-some E (b ∷ bytes) (suc n) some = refl

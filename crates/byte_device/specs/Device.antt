@@ -2,23 +2,23 @@
 use Rattle.std.specs.Prelude.{◌≡◌, ◌<◌, ℕ, zero, suc, List, [], ◌∷◌, length, Result, Ok, Err}
 
 -- what a read adds to the failures: one where it failed
-abbrev pub read_faults : {E : Type 0} → Result ℕ E → ℕ
-read_faults (Err e) = 1
-read_faults (Ok n) = 0
+abbrev pub failures_of_read : {E : Type 0} → Result ℕ E → ℕ
+failures_of_read (Err e) = 1
+failures_of_read (Ok n) = 0
 
 -- what a read adds to the ends that were met: one where it gave no byte for a buffer with room
-abbrev pub read_ends : {E : Type 0} → List ℕ → Result ℕ E → ℕ
-read_ends room (Err e) = 0
-read_ends [] (Ok n) = 0
-read_ends (b ∷ room) (Ok zero) = 1
-read_ends (b ∷ room) (Ok (suc n)) = 0
+abbrev pub ends_met_by_read : {E : Type 0} → List ℕ → Result ℕ E → ℕ
+ends_met_by_read room (Err e) = 0
+ends_met_by_read [] (Ok n) = 0
+ends_met_by_read (b ∷ room) (Ok zero) = 1
+ends_met_by_read (b ∷ room) (Ok (suc n)) = 0
 
 -- what a write adds to the failures: one where it failed, or took no byte of some
-abbrev pub written_faults : {E : Type 0} → List ℕ → Result ℕ E → ℕ
-written_faults bytes (Err e) = 1
-written_faults [] (Ok n) = 0
-written_faults (b ∷ bytes) (Ok zero) = 1
-written_faults (b ∷ bytes) (Ok (suc n)) = 0
+abbrev pub failures_of_write : {E : Type 0} → List ℕ → Result ℕ E → ℕ
+failures_of_write bytes (Err e) = 1
+failures_of_write [] (Ok n) = 0
+failures_of_write (b ∷ bytes) (Ok zero) = 1
+failures_of_write (b ∷ bytes) (Ok (suc n)) = 0
 
 -- a reader or a writer, with what it told and what was counted
 pub record CountedState (D : Type 0) : Type 0 where
@@ -43,5 +43,5 @@ pub record TapState : Type 0 where
   pub ends : ℕ
 
 -- a call that asks for some byte while none may pass
-abbrev pub IsStopped : TapState → List ℕ → Type 0
-IsStopped t asked = (t.left ≡ 0) × (0 < length asked)
+abbrev pub ExceedsByteLimit : TapState → List ℕ → Type 0
+ExceedsByteLimit t asked = (t.left ≡ 0) × (0 < length asked)

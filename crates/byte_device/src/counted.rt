@@ -1,9 +1,9 @@
 //! A reader or a writer of std as a device.
 ghost use Rattle.std.specs.Prelude.{◌≡◌, ◌≤◌, ◌+◌, ◌++◌, [], length, take, IfOk, OnErr, MatchResult};
 ghost use Rattle.std.specs.Io.KnownBytes.{ReadConsumes, WriteAppends};
-ghost use Rattle.byte_device.specs.Device.{read_ends, read_faults, written_faults};
+ghost use Rattle.byte_device.specs.Device.{ends_met_by_read, failures_of_read, failures_of_write};
 
-use crate::{DeviceFailure, Sink, Source, Told};
+use crate::{DeviceFailure, Sink, Source, Transcript};
 use std::io::{ErrorKind, Read, Write};
 use std::marker::Model;
 
@@ -12,9 +12,9 @@ use std::marker::Model;
 #[derive(Drop)]
 pub struct Counted<D> {
     inner: D,
-    told: Told,
-    ends: Told,
-    faults: Told,
+    told: Transcript,
+    ends: Transcript,
+    faults: Transcript,
 }
 
 impl<D> Model for Counted<D> {
@@ -38,9 +38,9 @@ impl<D> Counted<D> {
     {
         Counted {
             inner,
-            told: Told::new(),
-            ends: Told::new(),
-            faults: Told::new(),
+            told: Transcript::new(),
+            ends: Transcript::new(),
+            faults: Transcript::new(),
         }
     }
 }
@@ -88,8 +88,8 @@ impl<D: Read> Source for Counted<D> {
         ensures bytes { MatchResult result
             (λ n. self.new.told ≡ self.old.told ++ take n buffer.new)
             (λ _. self.new.told ≡ self.old.told) }
-        ensures faults { self.new.failures ≡ self.old.failures + read_faults result }
-        ensures end { self.new.ends ≡ self.old.ends + read_ends buffer.old result }
+        ensures faults { self.new.failures ≡ self.old.failures + failures_of_read result }
+        ensures end { self.new.ends ≡ self.old.ends + ends_met_by_read buffer.old result }
         ensures inner { ReadConsumes (D.remaining self.old.inner) (D.remaining self.new.inner) result buffer.new }
     {
         match read_through(&mut self.inner, buffer) {
@@ -119,7 +119,7 @@ impl<D: Write> Sink for Counted<D> {
         ensures bytes { MatchResult result
             (λ n. self.new.told ≡ self.old.told ++ take n bytes.now)
             (λ _. self.new.told ≡ self.old.told) }
-        ensures faults { self.new.failures ≡ self.old.failures + written_faults bytes.now result }
+        ensures faults { self.new.failures ≡ self.old.failures + failures_of_write bytes.now result }
         ensures inner { WriteAppends (D.contents self.old.inner) (D.contents self.new.inner) result bytes.now }
     {
         match write_through(&mut self.inner, bytes) {

@@ -1,6 +1,6 @@
 //! What is read from and what is written to.
 ghost use Rattle.std.specs.Prelude.{◌≡◌, ◌≤◌, ◌+◌, ◌++◌, ℕ, List, length, take, IfOk, MatchResult};
-ghost use Rattle.byte_device.specs.Device.{read_ends, read_faults, written_faults};
+ghost use Rattle.byte_device.specs.Device.{ends_met_by_read, failures_of_read, failures_of_write};
 
 /// A device failed.
 #[derive(Debug, Clone, Copy, PartialEq, Eq, Drop)]
@@ -23,8 +23,8 @@ pub trait Source {
         ensures bytes { MatchResult result
             (λ n. told self.new ≡ told self.old ++ take n buffer.new)
             (λ _. told self.new ≡ told self.old) }
-        ensures faults { failures self.new ≡ failures self.old + read_faults result }
-        ensures end { ends self.new ≡ ends self.old + read_ends buffer.old result };
+        ensures faults { failures self.new ≡ failures self.old + failures_of_read result }
+        ensures end { ends self.new ≡ ends self.old + ends_met_by_read buffer.old result };
 }
 
 /// What is written to.
@@ -41,5 +41,5 @@ pub trait Sink {
         ensures bytes { MatchResult result
             (λ n. told self.new ≡ told self.old ++ take n bytes.now)
             (λ _. told self.new ≡ told self.old) }
-        ensures faults { failures self.new ≡ failures self.old + written_faults bytes.now result };
+        ensures faults { failures self.new ≡ failures self.old + failures_of_write bytes.now result };
 }

@@ -4,9 +4,9 @@
 
 pub use counted::Counted;
 pub use devices::{DeviceFailure, Sink, Source};
-pub use reading::{ReadStop, read_all};
+pub use reading::{ReadError, read_all};
 pub use tap::Tap;
-pub use told::Told;
+pub use told::Transcript;
 pub use writing::{WriteFault, write_bytes, write_two};
 
 mod counted;

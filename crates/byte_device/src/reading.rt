@@ -12,7 +12,7 @@ const MOST_ROOM: usize = 33_554_432;
 
 /// Why a text was not read to its end.
 #[derive(Debug, Clone, Copy, PartialEq, Eq, Drop)]
-pub enum ReadStop {
+pub enum ReadError {
     /// A read failed.
     Read,
     /// No memory was left for the text.
@@ -31,28 +31,28 @@ fn append(text: &mut Vec<u8>, bytes: &[u8]) -> Result<(), AllocError>
 
 /// Reads to the source's end, which is the first read that gives no byte. Read: a read failed. Memory: the
 /// text's growth was refused. After either, what was read is lost.
-pub fn read_all<R: Source>(alloc: Global, input: &mut R) -> Result<Vec<u8>, ReadStop>
+pub fn read_all<R: Source>(alloc: Global, input: &mut R) -> Result<Vec<u8>, ReadError>
     ensures text { IfOk result (λ text. R.told input.new ≡ R.told input.old ++ text.items) }
     ensures end { OnOk result (R.ends input.new ≡ R.ends input.old + 1) }
     ensures quiet { OnOk result (R.failures input.new ≡ R.failures input.old) }
 
     ensures part { OnErr result ((xs : List ℕ) × (R.told input.new ≡ R.told input.old ++ xs)) }
-    ensures read { result ≡ Err ReadStop.Read → R.failures input.old < R.failures input.new }
-    ensures memory { result ≡ Err ReadStop.Memory → R.failures input.new ≡ R.failures input.old }
+    ensures read { result ≡ Err ReadError.Read → R.failures input.old < R.failures input.new }
+    ensures memory { result ≡ Err ReadError.Memory → R.failures input.new ≡ R.failures input.old }
 {
     let mut text = Vec::new(alloc);
     let mut piece = [0u8; PIECE];
     for _ in 0..u64::MAX {
         let count = match input.read(&mut piece) {
             Ok(count) => count,
-            Err(_) => return Err(ReadStop::Read),
+            Err(_) => return Err(ReadError::Read),
         };
         if count == 0 {
             return Ok(text);
         }
         if append(&mut text, &piece[..count]).is_err() {
-            return Err(ReadStop::Memory);
+            return Err(ReadError::Memory);
         }
     }
-    Err(ReadStop::Read)
+    Err(ReadError::Read)
 }

@@ -1,8 +1,8 @@
 //! The failing device of tests.
 ghost use Rattle.std.specs.Prelude.{◌≡◌, ◌≤◌, ◌+◌, ◌-◌, ◌++◌, ◌↔◌, [], length, take, drop, min, vec_len, vec_capacity, IsErr, IfOk, MatchResult};
-ghost use Rattle.byte_device.specs.Device.{IsStopped, read_ends, read_faults, written_faults};
+ghost use Rattle.byte_device.specs.Device.{ExceedsByteLimit, ends_met_by_read, failures_of_read, failures_of_write};
 
-use crate::{DeviceFailure, Sink, Source, Told};
+use crate::{DeviceFailure, Sink, Source, Transcript};
 use mail_core::Memory;
 use std::alloc::Global;
 use std::marker::Model;
@@ -14,10 +14,10 @@ pub struct Tap {
     held: Vec<u8>,
     at: usize,
     left: usize,
-    read: Told,
-    written: Told,
-    faults: Told,
-    ends: Told,
+    read: Transcript,
+    written: Transcript,
+    faults: Transcript,
+    ends: Transcript,
 }
 
 impl Model for Tap {
@@ -60,10 +60,10 @@ impl Tap {
             held,
             at: 0,
             left: passes,
-            read: Told::new(),
-            written: Told::new(),
-            faults: Told::new(),
-            ends: Told::new(),
+            read: Transcript::new(),
+            written: Transcript::new(),
+            faults: Transcript::new(),
+            ends: Transcript::new(),
         })
     }
 
@@ -88,10 +88,10 @@ impl Source for Tap {
         ensures bytes { MatchResult result
             (λ n. self.new.read ≡ self.old.read ++ take n buffer.new)
             (λ _. self.new.read ≡ self.old.read) }
-        ensures faults { self.new.failures ≡ self.old.failures + read_faults result }
-        ensures end { self.new.ends ≡ self.old.ends + read_ends buffer.old result }
+        ensures faults { self.new.failures ≡ self.old.failures + failures_of_read result }
+        ensures end { self.new.ends ≡ self.old.ends + ends_met_by_read buffer.old result }
 
-        ensures stopped { IsErr result ↔ IsStopped self.old buffer.old }
+        ensures stopped { IsErr result ↔ ExceedsByteLimit self.old buffer.old }
         ensures most { IfOk result (λ n. n ≡ min (min (length buffer.old) (length self.old.text - self.old.at)) self.old.left) }
         ensures given { IfOk result (λ n. take n buffer.new ≡ take n (drop self.old.at self.old.text)) }
         ensures at { MatchResult result (λ n. self.new.at ≡ self.old.at + n) (λ _. self.new.at ≡ self.old.at) }
@@ -127,9 +127,9 @@ impl Sink for Tap {
         ensures bytes { MatchResult result
             (λ n. self.new.written ≡ self.old.written ++ take n bytes.now)
             (λ _. self.new.written ≡ self.old.written) }
-        ensures faults { self.new.failures ≡ self.old.failures + written_faults bytes.now result }
+        ensures faults { self.new.failures ≡ self.old.failures + failures_of_write bytes.now result }
 
-        ensures stopped { IsErr result ↔ IsStopped self.old bytes.now }
+        ensures stopped { IsErr result ↔ ExceedsByteLimit self.old bytes.now }
         ensures most { IfOk result (λ n. n ≡ min (length bytes.now) self.old.left) }
         ensures text { MatchResult result
             (λ n. self.new.text ≡ self.old.text ++ take n bytes.now)

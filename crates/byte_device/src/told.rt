@@ -6,21 +6,21 @@ use std::marker::{Model, PhantomData};
 
 /// The bytes that a device gave or took so far. It takes no room, and its calls do nothing when they run.
 #[derive(Drop)]
-pub struct Told {
+pub struct Transcript {
     marker: PhantomData<u8>,
     pub ghost bytes: { List ℕ },
 }
 
-impl Model for Told {
+impl Model for Transcript {
     ghost also_owns = { λ _. ftrue };
 }
 
-impl Told {
+impl Transcript {
     /// No byte yet.
-    pub fn new() -> Told
+    pub fn new() -> Transcript
         ensures { result.bytes ≡ [] }
     {
-        Told {
+        Transcript {
             marker: PhantomData,
         }
     }

@@ -5,19 +5,20 @@ use Rattle.std.proofs.lemmas.Bool.{le-leb, cases_lt}
 use Rattle.std.proofs.lemmas.Bool.Decides.{nat_tests}
 use Rattle.std.proofs.lemmas.Int.{ints}
 use Rattle.std.specs.Int.{int_rem_euclid}
-use Rattle.civil_time.specs.Calendar.{is_leap, year_days, month_days, days_before_year, days_of_months, days_before, day_number, is_date, day_number_of, day_of_date, is_instant, day_of_instant}
-use Rattle.civil_time.specs.Dates.{Date, year_after, month_after, date_after, days_since_1900}
+use Rattle.civil_time.specs.Calendar.{is_leap, year_days, month_days, days_before_year, days_in_first_months, days_before_date}
+use Rattle.civil_time.specs.Calendar.{day_number, is_date, checked_day_number, day_of_date, is_instant, day_of_instant}
+use Rattle.civil_time.specs.Dates.{Date, year_and_day_after, month_and_day_after, date_of_days_since_1900, days_since_1900}
 
 next_days : (y : ℕ) → days_before_year (suc y) ≡ days_before_year y + year_days y
 unfolding days_before_year
 next_days y = refl
 
-next_month : (y m : ℕ) → days_of_months y (suc m) ≡ days_of_months y m + month_days y (suc m)
-unfolding days_of_months
+next_month : (y m : ℕ) → days_in_first_months y (suc m) ≡ days_in_first_months y m + month_days y (suc m)
+unfolding days_in_first_months
 next_month y m = refl
 
-no_month : (y : ℕ) → days_of_months y 0 ≡ 0
-unfolding days_of_months
+no_month : (y : ℕ) → days_in_first_months y 0 ≡ 0
+unfolding days_in_first_months
 no_month y = refl
 
 -- what comes n days after 1 January of the year y
@@ -33,8 +34,8 @@ less a b h = grind (arith, nat_tests)
 no_less : (a b : ℕ) → nat_lt a b ≡ false → b ≤ a
 no_less a b h = grind (arith, nat_tests)
 
-pub year_is : (k y n : ℕ) → days_before_year y + n < days_before_year (suc (y + k)) → IsYear y k n (year_after k y n)
-unfolding year_after
+pub year_is : (k y n : ℕ) → days_before_year y + n < days_before_year (suc (y + k)) → IsYear y k n (year_and_day_after k y n)
+unfolding year_and_day_after
 year_is zero y n h =
     let e : suc (y + zero) ≡ suc y = omega arith in
     let g : days_before_year y + n < days_before_year y + year_days y = rw (ap days_before_year e, next_days y) at h in
@@ -49,8 +50,8 @@ year_is (suc k) y n h = cases (nat_lt n (year_days y)) refl (λ g. year_is k (su
         omega (arith, next_days y, g, low)
 
     cases : (t : Bool) → nat_lt n (year_days y) ≡ t → (days_before_year (suc y) + (n - year_days y) < days_before_year (suc (suc y + k))
-        → IsYear (suc y) k (n - year_days y) (year_after k (suc y) (n - year_days y)))
-        → IsYear y (suc k) n (if t then (y, n) else year_after k (suc y) (n - year_days y))
+        → IsYear (suc y) k (n - year_days y) (year_and_day_after k (suc y) (n - year_days y)))
+        → IsYear y (suc k) n (if t then (y, n) else year_and_day_after k (suc y) (n - year_days y))
     cases true t later = record { low = omega arith; high = omega arith; same = refl; within = less n (year_days y) t }
     cases false t later =
         let r = later (further t) in
@@ -68,27 +69,27 @@ pub record IsMonth (y m k n : ℕ) (p : ℕ × ℕ) : Type 0 where
   pub is : p.0 ≡ suc before
   pub low : m ≤ before
   pub high : before ≤ m + k
-  pub same : days_of_months y before + p.1 ≡ days_of_months y m + n
+  pub same : days_in_first_months y before + p.1 ≡ days_in_first_months y m + n
   pub within : p.1 < month_days y (suc before)
 
-pub month_is : (k y m n : ℕ) → days_of_months y m + n < days_of_months y (suc (m + k)) → IsMonth y m k n (month_after k y (suc m) n)
-unfolding month_after
+pub month_is : (k y m n : ℕ) → days_in_first_months y m + n < days_in_first_months y (suc (m + k)) → IsMonth y m k n (month_and_day_after k y (suc m) n)
+unfolding month_and_day_after
 month_is zero y m n h =
     let e : suc (m + zero) ≡ suc m = omega arith in
-    let g : days_of_months y m + n < days_of_months y m + month_days y (suc m) = rw (ap (days_of_months y) e, next_month y m) at h in
+    let g : days_in_first_months y m + n < days_in_first_months y m + month_days y (suc m) = rw (ap (days_in_first_months y) e, next_month y m) at h in
     record { before = m; is = refl; low = omega arith; high = omega arith; same = refl; within = omega (arith, g) }
 month_is (suc k) y m n h = cases (nat_lt n (month_days y (suc m))) refl (λ g. month_is k y (suc m) (n - month_days y (suc m)) g)
   where
-    further : nat_lt n (month_days y (suc m)) ≡ false → days_of_months y (suc m) + (n - month_days y (suc m)) < days_of_months y (suc (suc m + k))
+    further : nat_lt n (month_days y (suc m)) ≡ false → days_in_first_months y (suc m) + (n - month_days y (suc m)) < days_in_first_months y (suc (suc m + k))
     further t =
         let e : suc (m + suc k) ≡ suc (suc m + k) = omega arith in
         let low = no_less n (month_days y (suc m)) t in
-        let g = rw (ap (days_of_months y) e) at h in
+        let g = rw (ap (days_in_first_months y) e) at h in
         omega (arith, next_month y m, g, low)
 
-    cases : (t : Bool) → nat_lt n (month_days y (suc m)) ≡ t → (days_of_months y (suc m) + (n - month_days y (suc m)) < days_of_months y (suc (suc m + k))
-        → IsMonth y (suc m) k (n - month_days y (suc m)) (month_after k y (suc (suc m)) (n - month_days y (suc m))))
-        → IsMonth y m (suc k) n (if t then (suc m, n) else month_after k y (suc (suc m)) (n - month_days y (suc m)))
+    cases : (t : Bool) → nat_lt n (month_days y (suc m)) ≡ t → (days_in_first_months y (suc m) + (n - month_days y (suc m)) < days_in_first_months y (suc (suc m + k))
+        → IsMonth y (suc m) k (n - month_days y (suc m)) (month_and_day_after k y (suc (suc m)) (n - month_days y (suc m))))
+        → IsMonth y m (suc k) n (if t then (suc m, n) else month_and_day_after k y (suc (suc m)) (n - month_days y (suc m)))
     cases true t later = record { before = m; is = refl; low = omega arith; high = omega arith; same = refl; within = less n (month_days y (suc m)) t }
     cases false t later =
         let r = later (further t) in
@@ -103,11 +104,11 @@ month_is (suc k) y m n h = cases (nat_lt n (month_days y (suc m))) refl (λ g. m
         }
 
 -- a year's months are the year
-pub all_months : (y : ℕ) → days_of_months y 12 ≡ year_days y
-unfolding days_of_months
+pub all_months : (y : ℕ) → days_in_first_months y 12 ≡ year_days y
+unfolding days_in_first_months
 all_months y = cases (is_leap y) refl
   where
-    cases : (t : Bool) → is_leap y ≡ t → days_of_months y 12 ≡ (if is_leap y then 366 else 365)
+    cases : (t : Bool) → is_leap y ≡ t → days_in_first_months y 12 ≡ (if is_leap y then 366 else 365)
     cases true t = rw t refl
     cases false t = rw t refl
 
@@ -119,8 +120,8 @@ past_years : days_before_year 9999 ≡ 3652060
 unfolding days_before_year
 past_years = refl
 
-epoch : days_before 1970 1 1 ≡ 719528
-unfolding days_before_year days_of_months
+epoch : days_before_date 1970 1 1 ≡ 719528
+unfolding days_before_year days_in_first_months
 epoch = refl
 
 all_true : (b c d e f : Bool) → b ≡ true → c ≡ true → d ≡ true → e ≡ true → f ≡ true → (b && (c && d) && (e && f)) ≡ true
@@ -134,18 +135,18 @@ pub record IsFound (n : ℕ) (date : Date) : Type 0 where
   pub in_year : date.month ≤ 12
   pub some_day : 1 ≤ date.day
   pub in_month : date.day ≤ month_days date.year date.month
-  pub number : days_before date.year date.month date.day ≡ 693961 + n
+  pub number : days_before_date date.year date.month date.day ≡ 693961 + n
 
-pub date_is : (n : ℕ) → 693961 + n < 3652060 → IsFound n (date_after n)
-unfolding date_after
+pub date_is : (n : ℕ) → 693961 + n < 3652060 → IsFound n (date_of_days_since_1900 n)
+unfolding date_of_days_since_1900
 date_is n h =
     let y = year_is 8098 1900 n (rw (first_year, past_years) h) in
-    let year = (year_after 8098 1900 n).0 in
-    let rest = (year_after 8098 1900 n).1 in
+    let year = (year_and_day_after 8098 1900 n).0 in
+    let rest = (year_and_day_after 8098 1900 n).1 in
     let m = month_is 11 year 0 rest (rw (no_month year, all_months year) (omega (arith, y.within))) in
-    let month = (month_after 11 year 1 rest).0 in
-    let day = (month_after 11 year 1 rest).1 in
-    let months : days_of_months year (month - 1) ≡ days_of_months year m.before = ap (days_of_months year) (omega (arith, m.is)) in
+    let month = (month_and_day_after 11 year 1 rest).0 in
+    let day = (month_and_day_after 11 year 1 rest).1 in
+    let months : days_in_first_months year (month - 1) ≡ days_in_first_months year m.before = ap (days_in_first_months year) (omega (arith, m.is)) in
     record {
       first = y.low;
       last = omega (arith, y.high);
@@ -157,7 +158,7 @@ date_is n h =
     }
 
 -- the number of the date is the day
-pub found_number : (n : ℕ) (day : ℤ) (date : Date) → IsFound n date → pos n ≡ day +ℤ pos 25567 → day_number_of date.year date.month date.day ≡ Some day
+pub found_number : (n : ℕ) (day : ℤ) (date : Date) → IsFound n date → pos n ≡ day +ℤ pos 25567 → checked_day_number date.year date.month date.day ≡ Some day
 found_number n day date f e =
     let is : is_date date.year date.month date.day ≡ true = all_true _ _ _ _ _
     (le-leb date.year 9999 (omega (arith, f.last))) (le-leb 1 date.month f.some_month) (le-leb date.month 12 f.in_year)
@@ -172,11 +173,11 @@ more_days (suc k) y =
     let e : y + suc k ≡ suc (y + k) = omega arith in
     omega (arith, ap days_before_year e, next_days (y + k), more_days k y)
 
-more_months : (k y m : ℕ) → days_of_months y m ≤ days_of_months y (m + k)
-more_months zero y m = omega (arith, ap (days_of_months y) (let z : m + zero ≡ m = omega arith in z))
+more_months : (k y m : ℕ) → days_in_first_months y m ≤ days_in_first_months y (m + k)
+more_months zero y m = omega (arith, ap (days_in_first_months y) (let z : m + zero ≡ m = omega arith in z))
 more_months (suc k) y m =
     let e : m + suc k ≡ suc (m + k) = omega arith in
-    omega (arith, ap (days_of_months y) e, next_month y (m + k), more_months k y m)
+    omega (arith, ap (days_in_first_months y) e, next_month y (m + k), more_months k y m)
 
 cases_eq : (a b : ℕ) → (a < b) ⊎ ((b < a) ⊎ (a ≡ b))
 cases_eq a b = first (cases_lt a b)
@@ -195,10 +196,10 @@ below_year y z r s lt w e =
     let d : suc y + (z - suc y) ≡ z = omega (arith, lt) in
     omega (arith, w, e, next_days y, more_days (z - suc y) (suc y), ap days_before_year d)
 
-below_month : (y l m r s : ℕ) → l < m → r < month_days y (suc l) → days_of_months y l + r ≡ days_of_months y m + s → ⊥
+below_month : (y l m r s : ℕ) → l < m → r < month_days y (suc l) → days_in_first_months y l + r ≡ days_in_first_months y m + s → ⊥
 below_month y l m r s lt w e =
     let d : suc l + (m - suc l) ≡ m = omega (arith, lt) in
-    omega (arith, w, e, next_month y l, more_months (m - suc l) y (suc l), ap (days_of_months y) d)
+    omega (arith, w, e, next_month y l, more_months (m - suc l) y (suc l), ap (days_in_first_months y) d)
 
 same_year : (y z r s : ℕ) → r < year_days y → s < year_days z → days_before_year y + r ≡ days_before_year z + s → y ≡ z
 same_year y z r s w v e = cases (cases_eq y z)
@@ -208,7 +209,7 @@ same_year y z r s w v e = cases (cases_eq y z)
     cases (inr (inl lt)) = absurd (below_year z y s r lt v (sym e))
     cases (inr (inr same)) = same
 
-same_month : (y l m r s : ℕ) → r < month_days y (suc l) → s < month_days y (suc m) → days_of_months y l + r ≡ days_of_months y m + s → l ≡ m
+same_month : (y l m r s : ℕ) → r < month_days y (suc l) → s < month_days y (suc m) → days_in_first_months y l + r ≡ days_in_first_months y m + s → l ≡ m
 same_month y l m r s w v e = cases (cases_eq l m)
   where
     cases : (l < m) ⊎ ((m < l) ⊎ (l ≡ m)) → l ≡ m
@@ -252,12 +253,12 @@ split_is (negsuc a) h =
 -- ---- the date of a day is the one with its number
 
 -- the days of a year before a date
-in_year : (y m d : ℕ) → 1 ≤ m → m ≤ 12 → 1 ≤ d → d ≤ month_days y m → days_of_months y (m - 1) + d - 1 < year_days y
+in_year : (y m d : ℕ) → 1 ≤ m → m ≤ 12 → 1 ≤ d → d ≤ month_days y m → days_in_first_months y (m - 1) + d - 1 < year_days y
 in_year y m d some last one in_month =
     let s : suc (m - 1) ≡ m = omega arith in
     let k : m + (12 - m) ≡ 12 = omega arith in
-    let n : days_of_months y m ≡ days_of_months y (m - 1) + month_days y m = rw s at (next_month y (m - 1)) in
-    let all : days_of_months y m ≤ days_of_months y 12 = rw k at (more_months (12 - m) y m) in
+    let n : days_in_first_months y m ≡ days_in_first_months y (m - 1) + month_days y m = rw s at (next_month y (m - 1)) in
+    let all : days_in_first_months y m ≤ days_in_first_months y 12 = rw k at (more_months (12 - m) y m) in
     omega (arith, n, all, all_months y)
 
 same_parts : (y m d y' m' d' : ℕ) → y ≡ y' → m ≡ m' → d ≡ d'
@@ -268,7 +269,7 @@ same_date : (a b : Date) (n : ℕ) → IsFound n a → IsFound n b → a ≡ b
 same_date a b n f g =
     let ra = in_year a.year a.month a.day f.some_month f.in_year f.some_day f.in_month in
     let rb = in_year b.year b.month b.day g.some_month g.in_year g.some_day g.in_month in
-    let years = same_year a.year b.year (days_of_months a.year (a.month - 1) + a.day - 1) (days_of_months b.year (b.month - 1) + b.day - 1) ra rb (f.number ∙ sym g.number) in
+    let years = same_year a.year b.year (days_in_first_months a.year (a.month - 1) + a.day - 1) (days_in_first_months b.year (b.month - 1) + b.day - 1) ra rb (f.number ∙ sym g.number) in
     by_year a b n f g years
   where
     by_day : (a b : Date) (n : ℕ) → IsFound n a → IsFound n b → a.year ≡ b.year → a.month ≡ b.month → a ≡ b
@@ -309,7 +310,7 @@ at_most a b h = grind (arith, nat_tests)
 
 read_is : (y m d : ℕ) (day : ℤ) → day_of_date (pos y) m d ≡ Some day → IsRead y m d day
 read_is y m d day h =
-    let a = guard (nat_le 1900 y && nat_le y 9998) (day_number_of y m d) day h in
+    let a = guard (nat_le 1900 y && nat_le y 9998) (checked_day_number y m d) day h in
     let years = both (nat_le 1900 y) (nat_le y 9998) a.0 in
     let b = guard (is_date y m d) (Some (day_number y m d)) day a.1 in
     let c = both (nat_le y 9999 && (nat_le 1 m && nat_le m 12)) (nat_le 1 d && nat_le d (month_days y m)) b.0 in
@@ -326,7 +327,7 @@ read_is y m d day h =
       same = let e : day_number y m d ≡ day = cc (b.1) in e;
     }
 
-back : (y m d : ℕ) (day : ℤ) → IsRead y m d day → date_after (days_since_1900 day) ≡ record { year = y; month = m; day = d }
+back : (y m d : ℕ) (day : ℤ) → IsRead y m d day → date_of_days_since_1900 (days_since_1900 day) ≡ record { year = y; month = m; day = d }
 back y m d day r =
     let n = days_since_1900 day in
     let inside = in_year y m d r.some_month r.in_year r.some_day r.in_month in
@@ -334,8 +335,8 @@ back y m d day r =
     let low : days_before_year 1900 ≤ days_before_year y = rw k at (more_days (y - 1900) 1900) in
     let l : suc y + (9999 - suc y) ≡ 9999 = omega (arith, r.last) in
     let high : days_before_year (suc y) ≤ days_before_year 9999 = rw l at (more_days (9999 - suc y) (suc y)) in
-    let at : pos (days_before y m d) -ℤ pos 719528 ≡ day = rw (ap (λ e. pos (days_before y m d) -ℤ pos e) (sym epoch)) r.same in
-    let number : days_before y m d ≡ 693961 + n = rw (← at) (omega (arith, ints, low, first_year)) in
+    let at : pos (days_before_date y m d) -ℤ pos 719528 ≡ day = rw (ap (λ e. pos (days_before_date y m d) -ℤ pos e) (sym epoch)) r.same in
+    let number : days_before_date y m d ≡ 693961 + n = rw (← at) (omega (arith, ints, low, first_year)) in
     let found : IsFound n (record { year = y; month = m; day = d }) = record {
       first = r.first;
       last = r.last;
@@ -345,9 +346,9 @@ back y m d day r =
       in_month = r.in_month;
       number = number;
     } in
-    same_date (date_after n) (record { year = y; month = m; day = d }) n (date_is n (omega (arith, number, inside, high, past_years, next_days y))) found
+    same_date (date_of_days_since_1900 n) (record { year = y; month = m; day = d }) n (date_is n (omega (arith, number, inside, high, past_years, next_days y))) found
 
 -- the date of a day
-pub date_back : (y : ℤ) (m d : ℕ) (day : ℤ) → day_of_date y m d ≡ Some day → date_after (days_since_1900 day) ≡ record { year = unsigned_abs y; month = m; day = d }
+pub date_back : (y : ℤ) (m d : ℕ) (day : ℤ) → day_of_date y m d ≡ Some day → date_of_days_since_1900 (days_since_1900 day) ≡ record { year = unsigned_abs y; month = m; day = d }
 date_back (pos y) m d day h = back y m d day (read_is y m d day h)
 date_back (negsuc y) m d day h = absurd (let e : None ≡ Some day = h in cc)

@@ -6,7 +6,7 @@ use Rattle.jiff_core.specs.Calendar.{day_count, days_from_civil, IsYear, IsCivil
 use Rattle.jiff_core.proofs.SignedLemmas.{signed_arith}
 use Rattle.jiff_core.proofs.CalendarLemmas.{days_from_civil-day_count, day_count-day_of_year, day_count-later_year, day_count-lt_year}
 use Rattle.jiff_core.proofs.MarchLemmas.{day_count-early}
-use Rattle.civil_time.specs.Calendar.{month_days, is_date, day_number, day_number_of, is_day, day_of_date}
+use Rattle.civil_time.specs.Calendar.{month_days, is_date, day_number, checked_day_number, is_day, day_of_date}
 use Rattle.civil_time.proofs.CalendarLemmas.{numbers, found}
 
 year_1899 : day_count (pos 1899) 1 1 ≡ 4_346_021
@@ -71,7 +71,7 @@ date_is_civil y m d h =
     )
 
 -- the number of a date of these years is a day
-pub number_is_day : (y m d : ℕ) (n : ℤ) → Some n ≡ day_number_of y m d → 1900 ≤ y → y ≤ 9998 → is_day n ≡ true
+pub number_is_day : (y m d : ℕ) (n : ℤ) → Some n ≡ checked_day_number y m d → 1900 ≤ y → y ≤ 9998 → is_day n ≡ true
 number_is_day y m d n e low high =
     let h = was_there (is_date y m d) n (day_number y m d) e in
     let civil = date_is_civil y m d h.0 in
@@ -90,7 +90,7 @@ date_of_day (pos y) m d z h e is =
     let low : 1900 ≤ y = omega (arith, signed_arith, year.0) in
     let high : y ≤ 9998 = omega (arith, signed_arith, year.1) in
     let same : day_number y m d ≡ z = sym (numbers y m d h.2.0) ∙ e in
-    both_low (nat_le 1900 y) (nat_le y 9998) (day_number_of y m d) (le-leb 1900 y low) (le-leb y 9998 high)
+    both_low (nat_le 1900 y) (nat_le y 9998) (checked_day_number y m d) (le-leb 1900 y low) (le-leb y 9998 high)
     ∙ sym (found y m d (omega arith) h.1.0 h.1.1 h.2.0 h.2.1) ∙ ap (λ n. Some n) same
 date_of_day (negsuc y) m d z h e is =
     let year = year_in (negsuc y) m d h (rw e (is_day-within z is)) in

@@ -4,33 +4,33 @@ use Rattle.std.proofs.Common.{pos, negsuc, nat_abs, ◌-ℤ◌, ◌<ℤ◌, ◌�
 use Rattle.std.proofs.lemmas.Int.{ints}
 use Rattle.jiff_core.proofs.SignedLemmas.{signed_arith}
 use Rattle.jiff_core.proofs.CalendarLemmas.{days_of_months_all}
-use Rattle.civil_time.specs.Calendar.{year_days, month_days, days_before_year, days_of_months, days_before, day_number, day_number_of}
+use Rattle.civil_time.specs.Calendar.{year_days, month_days, days_before_year, days_in_first_months, days_before_date, day_number, checked_day_number}
 use Rattle.civil_time.specs.Calendar.{is_date, day_of_date, month_start, is_in_month, last_begun, month_of_day}
 use Rattle.civil_time.proofs.CalendarLemmas.{months}
 use Rattle.civil_time.proofs.DayLemmas.{was_there, date_is_civil}
 
-all_months : (y : ℕ) → days_of_months y 12 ≡ year_days y
+all_months : (y : ℕ) → days_in_first_months y 12 ≡ year_days y
 all_months y = sym (months y 12) ∙ days_of_months_all (pos y)
 
-months-more : (y m : ℕ) → days_of_months y (suc m) ≡ days_of_months y m + month_days y (suc m)
-unfolding days_of_months
+months-more : (y m : ℕ) → days_in_first_months y (suc m) ≡ days_in_first_months y m + month_days y (suc m)
+unfolding days_in_first_months
 months-more y m = refl
 
 years-more : (y : ℕ) → days_before_year (suc y) ≡ days_before_year y + year_days y
 unfolding days_before_year
 years-more y = refl
 
-months-none : (y : ℕ) → days_of_months y 0 ≡ 0
-unfolding days_of_months
+months-none : (y : ℕ) → days_in_first_months y 0 ≡ 0
+unfolding days_in_first_months
 months-none y = refl
 
 -- the days before a month, as a natural number
 abbrev before : ℕ → ℕ
-before i = days_before_year (i / 12) + days_of_months (i / 12) (i % 12)
+before i = days_before_year (i / 12) + days_in_first_months (i / 12) (i % 12)
 
-start_is : (i : ℕ) → month_start i ≡ pos (before i) -ℤ pos (days_before 1970 1 1)
-start_is i = ap (λ (n : ℕ). pos (days_before_year (i / 12) + n) -ℤ pos (days_before 1970 1 1))
-    (ends (days_of_months (i / 12) (i % 12 + 1 - 1)) (days_of_months (i / 12) (i % 12)) (ap (days_of_months (i / 12)) (let e : i % 12 + 1 - 1 ≡ i % 12 = omega arith in e)))
+start_is : (i : ℕ) → month_start i ≡ pos (before i) -ℤ pos (days_before_date 1970 1 1)
+start_is i = ap (λ (n : ℕ). pos (days_before_year (i / 12) + n) -ℤ pos (days_before_date 1970 1 1))
+    (ends (days_in_first_months (i / 12) (i % 12 + 1 - 1)) (days_in_first_months (i / 12) (i % 12)) (ap (days_in_first_months (i / 12)) (let e : i % 12 + 1 - 1 ≡ i % 12 = omega arith in e)))
   where
     ends : (a b : ℕ) → a ≡ b → a + 1 - 1 ≡ b
     ends a b e = omega (arith, e)
@@ -39,18 +39,19 @@ start_is i = ap (λ (n : ℕ). pos (days_before_year (i / 12) + n) -ℤ pos (day
 before-next : (i : ℕ) → before (i + 1) ≡ before i + month_days (i / 12) (i % 12 + 1)
 before-next i = go (let c : (i % 12 < 11) ⊎ (i % 12 ≡ 11) = grind arith in c)
   where
-    inner : (y r s : ℕ) → s ≡ suc r → days_before_year y + days_of_months y s ≡ days_before_year y + days_of_months y r + month_days y (r + 1)
+    inner : (y r s : ℕ) → s ≡ suc r → days_before_year y + days_in_first_months y s ≡ days_before_year y + days_in_first_months y r + month_days y (r + 1)
     inner y r s e =
         let n : r + 1 ≡ suc r = omega arith in
-        let more : days_of_months y s ≡ days_of_months y r + month_days y (r + 1) = ap (days_of_months y) e ∙ months-more y r ∙ ap (λ (k : ℕ). days_of_months y r + month_days y k) (sym n) in
+        let more : days_in_first_months y s ≡ days_in_first_months y r + month_days y (r + 1) = ap (days_in_first_months y) e ∙ months-more y r ∙ ap
+        (λ (k : ℕ). days_in_first_months y r + month_days y k) (sym n) in
         omega (arith, more)
 
-    last : (y r z s : ℕ) → r ≡ 11 → z ≡ suc y → s ≡ 0 → days_before_year z + days_of_months z s ≡ days_before_year y + days_of_months y r + month_days y (r + 1)
+    last : (y r z s : ℕ) → r ≡ 11 → z ≡ suc y → s ≡ 0 → days_before_year z + days_in_first_months z s ≡ days_before_year y + days_in_first_months y r + month_days y (r + 1)
     last y r z s e f g =
-        let none : days_of_months z s ≡ 0 = ap (days_of_months z) g ∙ months-none z in
+        let none : days_in_first_months z s ≡ 0 = ap (days_in_first_months z) g ∙ months-none z in
         let year : days_before_year z ≡ days_before_year y + year_days y = ap days_before_year f ∙ years-more y in
-        let twelve : days_of_months y 12 ≡ days_of_months y 11 + month_days y 12 = months-more y 11 in
-        let eleven : days_of_months y r ≡ days_of_months y 11 = ap (days_of_months y) e in
+        let twelve : days_in_first_months y 12 ≡ days_in_first_months y 11 + month_days y 12 = months-more y 11 in
+        let eleven : days_in_first_months y r ≡ days_in_first_months y 11 = ap (days_in_first_months y) e in
         let december : month_days y (r + 1) ≡ month_days y 12 = ap (month_days y) (let k : r + 1 ≡ 12 = omega (arith, e) in k) in
         omega (arith, none, year, twelve, eleven, december, all_months y)
 
@@ -58,7 +59,7 @@ before-next i = go (let c : (i % 12 < 11) ⊎ (i % 12 ≡ 11) = grind arith in c
     go (inl lt) =
         let y : (i + 1) / 12 ≡ i / 12 = omega (arith, lt) in
         let r : (i + 1) % 12 ≡ suc (i % 12) = omega (arith, lt) in
-        ap (λ (k : ℕ). days_before_year k + days_of_months k ((i + 1) % 12)) y ∙ inner (i / 12) (i % 12) ((i + 1) % 12) r
+        ap (λ (k : ℕ). days_before_year k + days_in_first_months k ((i + 1) % 12)) y ∙ inner (i / 12) (i % 12) ((i + 1) % 12) r
     go (inr eq) = last (i / 12) (i % 12) ((i + 1) / 12) ((i + 1) % 12) eq (omega (arith, eq)) (omega (arith, eq))
 
 pub before-later : (i k : ℕ) → before i ≤ before (i + k)
@@ -123,19 +124,19 @@ month_is i z h e =
 
 lies : (y m d i : ℕ) → y ≡ i / 12 → m ≡ i % 12 + 1 → 1 ≤ d → d ≤ month_days y m → is_in_month i (day_number y m d) ≡ true
 lies y m d i ey em low high =
-    let month : days_of_months y (m - 1) ≡ days_of_months (i / 12) (i % 12) = ap (λ (k : ℕ). days_of_months k (m - 1)) ey ∙ ap (days_of_months (i / 12))
+    let month : days_in_first_months y (m - 1) ≡ days_in_first_months (i / 12) (i % 12) = ap (λ (k : ℕ). days_in_first_months k (m - 1)) ey ∙ ap (days_in_first_months (i / 12))
     (let k : m - 1 ≡ i % 12 = omega (arith, em) in k) in
     let year : days_before_year y ≡ days_before_year (i / 12) = ap days_before_year ey in
     let days : month_days y m ≡ month_days (i / 12) (i % 12 + 1) = ap (λ (k : ℕ). month_days k m) ey ∙ ap (month_days (i / 12)) em in
     let next = before-next i in
-    let a : before i ≤ days_before y m d = omega (arith, month, year, low) in
-    let b : days_before y m d < before (i + 1) = omega (arith, month, year, days, next, low, high) in
+    let a : before i ≤ days_before_date y m d = omega (arith, month, year, low) in
+    let b : days_before_date y m d < before (i + 1) = omega (arith, month, year, days, next, low, high) in
     let first : month_start i ≤ℤ day_number y m d = rw (start_is i) (omega (arith, signed_arith, a)) in
     let last : day_number y m d <ℤ month_start (i + 1) = rw (start_is (i + 1)) (omega (arith, signed_arith, b)) in
     both_true _ _ (of_le (month_start i) (day_number y m d) first) (of_lt (day_number y m d) (month_start (i + 1)) last)
 
 -- a day with a date lies in the month of that date
-pub date_in_month : (y m d i : ℕ) (z : ℤ) → day_number_of y m d ≡ Some z → i ≡ 12 * y + (m - 1) → is_in_month i z ≡ true
+pub date_in_month : (y m d i : ℕ) (z : ℤ) → checked_day_number y m d ≡ Some z → i ≡ 12 * y + (m - 1) → is_in_month i z ≡ true
 date_in_month y m d i z e ei =
     let w = was_there (is_date y m d) z (day_number y m d) (sym e) in
     let civil = date_is_civil y m d w.0 in
@@ -148,6 +149,6 @@ there true o z h = h
 there false o z h = cc
 
 -- the date of a day, with its year as a natural number
-pub date_number : (y : ℤ) (m d : ℕ) (z : ℤ) → day_of_date y m d ≡ Some z → day_number_of (nat_abs y) m d ≡ Some z
-date_number (pos y) m d z h = there (nat_le 1900 y && nat_le y 9998) (day_number_of y m d) z h
+pub date_number : (y : ℤ) (m d : ℕ) (z : ℤ) → day_of_date y m d ≡ Some z → checked_day_number (nat_abs y) m d ≡ Some z
+date_number (pos y) m d z h = there (nat_le 1900 y && nat_le y 9998) (checked_day_number y m d) z h
 date_number (negsuc y) m d z h = cc

@@ -4,9 +4,9 @@ use Rattle.std.proofs.Common.{refl, sym, ap, ◌∙◌, arith, ℤ, pos, negsuc,
 use Rattle.std.proofs.lemmas.Bool.{le-leb, leb-true}
 use Rattle.std.proofs.lemmas.Bool.Decides.{nat_tests}
 use Rattle.std.proofs.lemmas.Int.{ints}
-use Rattle.civil_time.specs.Calendar.{is_day, is_month, is_instant, month_days, day_number_of, day_of_date, day_of_instant, day_of_text, month_of_text, month_of_numbers, month_of_instant}
+use Rattle.civil_time.specs.Calendar.{is_day, is_month, is_instant, month_days, checked_day_number, day_of_date, day_of_instant, day_of_text, month_of_text, month_of_parsed_parts, month_of_instant}
 use Rattle.civil_time.specs.Clock.{second_of_day}
-use Rattle.civil_time.specs.Dates.{date_after, date_of_day, date_of_instant, days_since_1900}
+use Rattle.civil_time.specs.Dates.{date_of_days_since_1900, date_of_day, date_of_instant, days_since_1900}
 use Rattle.civil_time.specs.Texts.{day_text, full_date_text, hour_minute_text, instant_text, instant_month_text, month_text}
 use Rattle.civil_time.proofs.DateLemmas.{both, date_is, found_number, split_is}
 use Rattle.civil_time.proofs.DayLemmas.{IsWithin, is_day-within}
@@ -20,19 +20,19 @@ begins_with_month z = refl
 
 -- the text of a day, from its date
 pub day_text_is : (r : List ℕ) (day : ℤ) (y m d y' : ℕ) → r ≡ full_date_text (record { year = y'; month = m; day = d })
-    → date_after (days_since_1900 day) ≡ record { year = y; month = m; day = d } → y' ≡ y → r ≡ day_text day
+    → date_of_days_since_1900 (days_since_1900 day) ≡ record { year = y; month = m; day = d } → y' ≡ y → r ≡ day_text day
 day_text_is r day y m d y' is date year = rw (is, year, date) refl
 
 -- the text of an instant, from its day, its date and the seconds in the day
 pub text_is : (r : List ℕ) (z day : ℤ) (y m d s y' : ℕ) → r ≡ full_date_text (record { year = y'; month = m; day = d }) ++ 32 ∷ hour_minute_text s
-    → day ≡ day_of_instant z → date_after (days_since_1900 day) ≡ record { year = y; month = m; day = d } → s ≡ second_of_day z
+    → day ≡ day_of_instant z → date_of_days_since_1900 (days_since_1900 day) ≡ record { year = y; month = m; day = d } → s ≡ second_of_day z
     → y' ≡ y → r ≡ instant_text z
 unfolding instant_text
 text_is r z day y m d s y' is e date seconds year = rw (is, year, seconds, ← e, date) refl
 
 -- ---- read
 
-numbers_are : (y m : ℕ) → 1900 ≤ y → y ≤ 9998 → 1 ≤ m → m ≤ 12 → month_of_numbers (Some y) (Some m) ≡ Some (12 * y + (m - 1))
+numbers_are : (y m : ℕ) → 1900 ≤ y → y ≤ 9998 → 1 ≤ m → m ≤ 12 → month_of_parsed_parts (Some y) (Some m) ≡ Some (12 * y + (m - 1))
 numbers_are y m first last low high = rw (le-leb 1900 y first, le-leb y 9998 last, le-leb 1 m low, le-leb m 12 high) refl
 
 -- days since 1900, of a day
@@ -50,7 +50,7 @@ date_found day h =
     let n = days_since_1900 day in
     let date = date_of_day day in
     let found = date_is n since.1 in
-    in_years (nat_le 1900 date.year) (nat_le date.year 9998) (day_number_of date.year date.month date.day) (le-leb 1900 date.year found.first) (le-leb date.year 9998 found.last)
+    in_years (nat_le 1900 date.year) (nat_le date.year 9998) (checked_day_number date.year date.month date.day) (le-leb 1900 date.year found.first) (le-leb date.year 9998 found.last)
     ∙ found_number n day date found since.0
 
 month_short : (y m : ℕ) → month_days y m ≤ 31

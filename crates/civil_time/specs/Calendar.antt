@@ -3,7 +3,7 @@ use Rattle.std.specs.Prelude.{ℕ, zero, suc, ◌+◌, ◌-◌, ◌*◌, ◌/◌
 use Rattle.std.specs.Prelude.{neg_ℤ, ◌+ℤ◌, ◌-ℤ◌, int_le, int_lt, unsigned_abs, List, [], ◌∷◌, Option, Some, None}
 use Rattle.std.specs.Int.{int_div_euclid, int_rem_euclid}
 use Rattle.civil_time.specs.Bytes.{hyphen}
-use Rattle.civil_time.specs.Digits.{two_digits, four_digits}
+use Rattle.civil_time.specs.Digits.{two_digit_number, four_digit_number}
 
 -- every fourth year, but of the centuries only every fourth
 abbrev pub is_leap : ℕ → Bool
@@ -23,17 +23,17 @@ days_before_year zero = 0
 days_before_year (suc y) = days_before_year y + year_days y
 
 -- the days of the first m months of the year y
-unfoldable pub days_of_months : ℕ → ℕ → ℕ
-days_of_months y zero = 0
-days_of_months y (suc m) = days_of_months y m + month_days y (suc m)
+unfoldable pub days_in_first_months : ℕ → ℕ → ℕ
+days_in_first_months y zero = 0
+days_in_first_months y (suc m) = days_in_first_months y m + month_days y (suc m)
 
 -- the days before a date, from 1 January of the year 0
-abbrev pub days_before : ℕ → ℕ → ℕ → ℕ
-days_before y m d = days_before_year y + (days_of_months y (m - 1) + d - 1)
+abbrev pub days_before_date : ℕ → ℕ → ℕ → ℕ
+days_before_date y m d = days_before_year y + (days_in_first_months y (m - 1) + d - 1)
 
 -- days since 1970-01-01
 abbrev pub day_number : ℕ → ℕ → ℕ → ℤ
-day_number y m d = pos (days_before y m d) -ℤ pos (days_before 1970 1 1)
+day_number y m d = pos (days_before_date y m d) -ℤ pos (days_before_date 1970 1 1)
 
 -- the years of the archive's days, and the last year of all dates
 abbrev pub first_year : ℕ
@@ -42,17 +42,17 @@ first_year = 1900
 abbrev pub last_year : ℕ
 last_year = 9998
 
-abbrev pub last_of_four_digits : ℕ
-last_of_four_digits = 9999
+abbrev pub last_four_digit_year : ℕ
+last_four_digit_year = 9999
 
 -- the date exists, in the years 0 to 9999
 abbrev pub is_date : ℕ → ℕ → ℕ → Bool
 is_date y m d =
-    nat_le y last_of_four_digits && (nat_le 1 m && nat_le m 12) && (nat_le 1 d && nat_le d (month_days y m))
+    nat_le y last_four_digit_year && (nat_le 1 m && nat_le m 12) && (nat_le 1 d && nat_le d (month_days y m))
 
 -- days from 1970-01-01 to a date in the years 0 to 9999; None where the calendar lacks it, as 30 February (RFC 3339 section 5.7)
-abbrev pub day_number_of : ℕ → ℕ → ℕ → Option ℤ
-day_number_of y m d = if is_date y m d then Some (day_number y m d) else None
+abbrev pub checked_day_number : ℕ → ℕ → ℕ → Option ℤ
+checked_day_number y m d = if is_date y m d then Some (day_number y m d) else None
 
 -- The days of the archive: 1900-01-01 to 9998-12-31, as numbers of days since 1970-01-01.
 abbrev pub first_day : ℤ
@@ -67,17 +67,17 @@ is_day z = int_le first_day z && int_le z last_day
 
 -- the day of a date that the calendar has, in the years 1900 to 9998
 abbrev pub day_of_date : ℤ → ℕ → ℕ → Option ℤ
-day_of_date (pos y) m d = if nat_le first_year y && nat_le y last_year then day_number_of y m d else None
+day_of_date (pos y) m d = if nat_le first_year y && nat_le y last_year then checked_day_number y m d else None
 day_of_date (negsuc y) m d = None
 
-abbrev pub day_of_numbers : Option ℕ → Option ℕ → Option ℕ → Option ℤ
-day_of_numbers (Some y) (Some m) (Some d) = day_of_date (pos y) m d
-day_of_numbers _ _ _ = None
+abbrev pub day_of_parsed_parts : Option ℕ → Option ℕ → Option ℕ → Option ℤ
+day_of_parsed_parts (Some y) (Some m) (Some d) = day_of_date (pos y) m d
+day_of_parsed_parts _ _ _ = None
 
 -- the day that a text writes as `yyyy-mm-dd` (RFC 3339 section 5.6, `full-date`)
 abbrev pub day_of_text : List ℕ → Option ℤ
 day_of_text (a ∷ b ∷ c ∷ d ∷ dash ∷ e ∷ f ∷ dash' ∷ g ∷ h ∷ []) =
-    if (dash == hyphen) && (dash' == hyphen) then day_of_numbers (four_digits a b c d) (two_digits e f) (two_digits g h)
+    if (dash == hyphen) && (dash' == hyphen) then day_of_parsed_parts (four_digit_number a b c d) (two_digit_number e f) (two_digit_number g h)
     else None
 day_of_text _ = None
 
@@ -97,8 +97,8 @@ abbrev pub is_instant : ℤ → Bool
 is_instant z = int_le first_instant z && int_le z last_instant
 
 -- the instant so many seconds from 1970-01-01 00:00:00 UTC; None outside the archive's years, 1900 to 9998 (Profile)
-abbrev pub instant_at : ℤ → Option ℤ
-instant_at z = if is_instant z then Some z else None
+abbrev pub checked_instant : ℤ → Option ℤ
+checked_instant z = if is_instant z then Some z else None
 
 abbrev pub seconds_of_a_day : ℕ
 seconds_of_a_day = 86_400
@@ -139,13 +139,13 @@ month_of_day z = last_begun last_month z
 abbrev pub month_of_instant : ℤ → ℕ
 month_of_instant z = month_of_day (day_of_instant z)
 
-abbrev pub month_of_numbers : Option ℕ → Option ℕ → Option ℕ
-month_of_numbers (Some y) (Some m) =
+abbrev pub month_of_parsed_parts : Option ℕ → Option ℕ → Option ℕ
+month_of_parsed_parts (Some y) (Some m) =
     if (nat_le first_year y && nat_le y last_year) && (nat_le 1 m && nat_le m 12) then Some (12 * y + (m - 1)) else None
-month_of_numbers _ _ = None
+month_of_parsed_parts _ _ = None
 
 -- the month that a text writes as `yyyy-mm`
 abbrev pub month_of_text : List ℕ → Option ℕ
 month_of_text (a ∷ b ∷ c ∷ d ∷ dash ∷ e ∷ f ∷ []) =
-    if dash == hyphen then month_of_numbers (four_digits a b c d) (two_digits e f) else None
+    if dash == hyphen then month_of_parsed_parts (four_digit_number a b c d) (two_digit_number e f) else None
 month_of_text _ = None

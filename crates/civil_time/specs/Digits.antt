@@ -8,34 +8,34 @@ abbrev pub is_digit : ℕ → Bool
 is_digit b = nat_le 48 b && nat_le b 57
 
 -- the number that two digits write
-abbrev pub two_digits : ℕ → ℕ → Option ℕ
-two_digits a b = if is_digit a && is_digit b then Some (10 * (a - 48) + (b - 48)) else None
+abbrev pub two_digit_number : ℕ → ℕ → Option ℕ
+two_digit_number a b = if is_digit a && is_digit b then Some (10 * (a - 48) + (b - 48)) else None
 
 -- the number that four digits write
-abbrev pub four_digits : ℕ → ℕ → ℕ → ℕ → Option ℕ
-four_digits a b c d =
+abbrev pub four_digit_number : ℕ → ℕ → ℕ → ℕ → Option ℕ
+four_digit_number a b c d =
     if (is_digit a && is_digit b) && (is_digit c && is_digit d)
     then Some (1000 * (a - 48) + 100 * (b - 48) + 10 * (c - 48) + (d - 48)) else None
 
 -- the value of one ASCII digit, 0 to 9; None for any other byte
-abbrev pub one_digit : ℕ → Option ℕ
-one_digit a = if is_digit a then Some (a - 48) else None
+abbrev pub decimal_digit_value : ℕ → Option ℕ
+decimal_digit_value a = if is_digit a then Some (a - 48) else None
 
 -- a number of one digit or two
-abbrev pub one_or_two : List ℕ → Option ℕ
-one_or_two (a ∷ []) = one_digit a
-one_or_two (a ∷ b ∷ []) = two_digits a b
-one_or_two _ = None
+abbrev pub parsed_one_or_two_digits : List ℕ → Option ℕ
+parsed_one_or_two_digits (a ∷ []) = decimal_digit_value a
+parsed_one_or_two_digits (a ∷ b ∷ []) = two_digit_number a b
+parsed_one_or_two_digits _ = None
 
 -- a number of two digits
-abbrev pub just_two : List ℕ → Option ℕ
-just_two (a ∷ b ∷ []) = two_digits a b
-just_two _ = None
+abbrev pub parsed_two_digits : List ℕ → Option ℕ
+parsed_two_digits (a ∷ b ∷ []) = two_digit_number a b
+parsed_two_digits _ = None
 
 -- a number of four digits
-abbrev pub just_four : List ℕ → Option ℕ
-just_four (a ∷ b ∷ c ∷ d ∷ []) = four_digits a b c d
-just_four _ = None
+abbrev pub parsed_four_digits : List ℕ → Option ℕ
+parsed_four_digits (a ∷ b ∷ c ∷ d ∷ []) = four_digit_number a b c d
+parsed_four_digits _ = None
 
 -- ---- written
 

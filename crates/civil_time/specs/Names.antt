@@ -5,31 +5,31 @@ use Rattle.std.specs.List.{list_any}
 use Rattle.std.specs.Str.{bytes_eq}
 
 -- whether a text is this name, but for ASCII case
-abbrev pub is_name : List ℕ → List ℕ → Bool
-is_name text name = bytes_eq (map to_ascii_lowercase text) (map to_ascii_lowercase name)
+abbrev pub equals_ignoring_case : List ℕ → List ℕ → Bool
+equals_ignoring_case text name = bytes_eq (map to_ascii_lowercase text) (map to_ascii_lowercase name)
 
 -- the month of its name of three letters, in any case
-unfoldable pub month_of : List ℕ → Option ℕ
-month_of name =
-    if is_name name (codes "jan") then Some 1
-    else (if is_name name (codes "feb") then Some 2
-    else (if is_name name (codes "mar") then Some 3
-    else (if is_name name (codes "apr") then Some 4
-    else (if is_name name (codes "may") then Some 5
-    else (if is_name name (codes "jun") then Some 6
-    else (if is_name name (codes "jul") then Some 7
-    else (if is_name name (codes "aug") then Some 8
-    else (if is_name name (codes "sep") then Some 9
-    else (if is_name name (codes "oct") then Some 10
-    else (if is_name name (codes "nov") then Some 11
-    else (if is_name name (codes "dec") then Some 12 else None)))))))))))
+unfoldable pub month_of_name : List ℕ → Option ℕ
+month_of_name name =
+    if equals_ignoring_case name (codes "jan") then Some 1
+    else (if equals_ignoring_case name (codes "feb") then Some 2
+    else (if equals_ignoring_case name (codes "mar") then Some 3
+    else (if equals_ignoring_case name (codes "apr") then Some 4
+    else (if equals_ignoring_case name (codes "may") then Some 5
+    else (if equals_ignoring_case name (codes "jun") then Some 6
+    else (if equals_ignoring_case name (codes "jul") then Some 7
+    else (if equals_ignoring_case name (codes "aug") then Some 8
+    else (if equals_ignoring_case name (codes "sep") then Some 9
+    else (if equals_ignoring_case name (codes "oct") then Some 10
+    else (if equals_ignoring_case name (codes "nov") then Some 11
+    else (if equals_ignoring_case name (codes "dec") then Some 12 else None)))))))))))
 
-abbrev pub weekdays : List (List ℕ)
-weekdays = codes "mon" ∷ codes "tue" ∷ codes "wed" ∷ codes "thu" ∷ codes "fri" ∷ codes "sat" ∷ codes "sun" ∷ []
+abbrev pub lowercase_weekday_names : List (List ℕ)
+lowercase_weekday_names = codes "mon" ∷ codes "tue" ∷ codes "wed" ∷ codes "thu" ∷ codes "fri" ∷ codes "sat" ∷ codes "sun" ∷ []
 
 -- whether a text is the name of a weekday, in any case
-unfoldable pub is_weekday : List ℕ → Bool
-is_weekday name = list_any (is_name name) weekdays
+unfoldable pub is_day_name : List ℕ → Bool
+is_day_name name = list_any (equals_ignoring_case name) lowercase_weekday_names
 
 -- the n-th of some names of three letters
 abbrev pub name_at : ℕ → List ℕ → List ℕ

@@ -1,12 +1,12 @@
 //! The Gregorian calendar: from year, month and day to the number of the day.
 ghost use Rattle.std.specs.Prelude.{◌≡◌};
-ghost use Rattle.civil_time.specs.Calendar.{day_number_of};
+ghost use Rattle.civil_time.specs.Calendar.{checked_day_number};
 
 use jiff::civil::Date;
 
 /// The day number of a date in the years 0 to 9999, from 1970-01-01. `None` where the month lacks that day.
 pub fn day_number(year: u16, month: u8, day: u8) -> Option<i32>
-    ensures { result ≡ day_number_of year month day }
+    ensures { result ≡ checked_day_number year month day }
 {
     if year > 9999 || month > 12 || day > 31 {
         return None;

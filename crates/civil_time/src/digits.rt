@@ -1,10 +1,10 @@
 //! Decimal digits, one, two and four of them, to numbers and back.
 ghost use Rattle.std.specs.Prelude.{◌≡◌, ◌<◌, ◌≤◌, IfSome};
-ghost use Rattle.civil_time.specs.Digits.{one_digit, two_digits, four_digits, one_or_two, just_two, just_four, as_two_digits};
+ghost use Rattle.civil_time.specs.Digits.{decimal_digit_value, two_digit_number, four_digit_number, parsed_one_or_two_digits, parsed_two_digits, parsed_four_digits, as_two_digits};
 
 /// The number that a digit writes. `None` where it is no ASCII digit.
 pub fn digit(a: u8) -> Option<u8>
-    ensures value { result ≡ one_digit a }
+    ensures value { result ≡ decimal_digit_value a }
     ensures small { IfSome result (λ n. n ≤ 9) }
 {
     if a.is_ascii_digit() {
@@ -15,7 +15,7 @@ pub fn digit(a: u8) -> Option<u8>
 
 /// The number that two digits write. `None` where one is no ASCII digit.
 pub fn two_digits(a: u8, b: u8) -> Option<u8>
-    ensures value { result ≡ two_digits a b }
+    ensures value { result ≡ two_digit_number a b }
     ensures small { IfSome result (λ n. n ≤ 99) }
 {
     if a.is_ascii_digit() && b.is_ascii_digit() {
@@ -26,7 +26,7 @@ pub fn two_digits(a: u8, b: u8) -> Option<u8>
 
 /// The number that four digits write. `None` where one is no ASCII digit.
 pub fn four_digits(a: u8, b: u8, c: u8, d: u8) -> Option<u16>
-    ensures value { result ≡ four_digits a b c d }
+    ensures value { result ≡ four_digit_number a b c d }
     ensures small { IfSome result (λ n. n ≤ 9999) }
 {
     let high = two_digits(a, b)?;
@@ -36,7 +36,7 @@ pub fn four_digits(a: u8, b: u8, c: u8, d: u8) -> Option<u16>
 
 /// A number of one digit or two. `None` for any other text.
 pub fn read_one_or_two(digits: &[u8]) -> Option<u8>
-    ensures { result ≡ one_or_two digits.now }
+    ensures { result ≡ parsed_one_or_two_digits digits.now }
 {
     match digits {
         [a] => digit(*a),
@@ -46,7 +46,7 @@ pub fn read_one_or_two(digits: &[u8]) -> Option<u8>
 
 /// A number of two digits. `None` for any other text.
 pub fn read_two(digits: &[u8]) -> Option<u8>
-    ensures { result ≡ just_two digits.now }
+    ensures { result ≡ parsed_two_digits digits.now }
 {
     match digits {
         [a, b] => two_digits(*a, *b),
@@ -56,7 +56,7 @@ pub fn read_two(digits: &[u8]) -> Option<u8>
 
 /// A number of four digits. `None` for any other text.
 pub fn read_four(digits: &[u8]) -> Option<u16>
-    ensures { result ≡ just_four digits.now }
+    ensures { result ≡ parsed_four_digits digits.now }
 {
     match digits {
         [a, b, c, d] => four_digits(*a, *b, *c, *d),

@@ -1,6 +1,6 @@
 //! Instants, in whole seconds.
 ghost use Rattle.std.specs.Prelude.{◌≡◌, true};
-ghost use Rattle.civil_time.specs.Calendar.{is_instant, instant_at, day_of_instant, month_of_instant, is_in_month};
+ghost use Rattle.civil_time.specs.Calendar.{is_instant, checked_instant, day_of_instant, month_of_instant, is_in_month};
 
 use crate::days::Day;
 use crate::months::Month;
@@ -30,7 +30,7 @@ impl Instant {
     /// The instant that many seconds after 1970-01-01 00:00:00 UTC. `None` where it lies outside the years 1900 to
     /// 9998.
     pub fn new(seconds: i64) -> Option<Instant>
-        ensures { result ≡ instant_at seconds }
+        ensures { result ≡ checked_instant seconds }
     {
         if seconds < -2_208_988_800 || seconds > 253_370_764_799 {
             return None;

@@ -1,6 +1,6 @@
 //! Months of the civil calendar.
 ghost use Rattle.std.specs.Prelude.{◌≡◌, true, Some};
-ghost use Rattle.civil_time.specs.Calendar.{is_month, is_in_month, month_of_day, month_of_numbers, month_of_text};
+ghost use Rattle.civil_time.specs.Calendar.{is_month, is_in_month, month_of_day, month_of_parsed_parts, month_of_text};
 
 use crate::days::Day;
 use crate::digits::{four_digits, two_digits};
@@ -42,7 +42,7 @@ impl Month {
 
     /// The month of a year and a number from 1 to 12.
     fn of_numbers(year: u16, month: u8) -> Option<Month>
-        ensures { result ≡ month_of_numbers (Some year) (Some month) }
+        ensures { result ≡ month_of_parsed_parts (Some year) (Some month) }
     {
         if year < 1900 || year > 9998 {
             return None;

@@ -1,70 +1,70 @@
 //! Names of months and of weekdays (RFC 5322 section 3.3).
 ghost use Rattle.std.specs.Prelude.{◌≡◌, ◌+◌, ◌*◌, ◌-◌, ◌<◌, ◌≤◌, length};
-ghost use Rattle.civil_time.specs.Names.{is_name, month_of, is_weekday, name_at, weekday_names, month_names};
+ghost use Rattle.civil_time.specs.Names.{equals_ignoring_case, month_of_name, is_day_name, name_at, weekday_names, month_names};
 
 /// Whether a text is a name, but for ASCII case.
-pub fn is_called(text: &[u8], name: &[u8]) -> bool
-    ensures { result ≡ is_name text.now name.now }
+pub fn matches_ignoring_case(text: &[u8], name: &[u8]) -> bool
+    ensures { result ≡ equals_ignoring_case text.now name.now }
 {
     text.eq_ignore_ascii_case(name)
 }
 
 /// The month, from 1, of its name of three letters.
-#[tactic(auto, unfolding(crate::specs::Names::month_of))]
+#[tactic(auto, unfolding(crate::specs::Names::month_of_name))]
 pub fn read_month(name: &[u8]) -> Option<u8>
-    ensures { result ≡ month_of name.now }
+    ensures { result ≡ month_of_name name.now }
 {
-    if is_called(name, b"jan") {
+    if matches_ignoring_case(name, b"jan") {
         return Some(1);
     }
-    if is_called(name, b"feb") {
+    if matches_ignoring_case(name, b"feb") {
         return Some(2);
     }
-    if is_called(name, b"mar") {
+    if matches_ignoring_case(name, b"mar") {
         return Some(3);
     }
-    if is_called(name, b"apr") {
+    if matches_ignoring_case(name, b"apr") {
         return Some(4);
     }
-    if is_called(name, b"may") {
+    if matches_ignoring_case(name, b"may") {
         return Some(5);
     }
-    if is_called(name, b"jun") {
+    if matches_ignoring_case(name, b"jun") {
         return Some(6);
     }
-    if is_called(name, b"jul") {
+    if matches_ignoring_case(name, b"jul") {
         return Some(7);
     }
-    if is_called(name, b"aug") {
+    if matches_ignoring_case(name, b"aug") {
         return Some(8);
     }
-    if is_called(name, b"sep") {
+    if matches_ignoring_case(name, b"sep") {
         return Some(9);
     }
-    if is_called(name, b"oct") {
+    if matches_ignoring_case(name, b"oct") {
         return Some(10);
     }
-    if is_called(name, b"nov") {
+    if matches_ignoring_case(name, b"nov") {
         return Some(11);
     }
-    if is_called(name, b"dec") {
+    if matches_ignoring_case(name, b"dec") {
         return Some(12);
     }
     None
 }
 
 /// Whether this is a weekday's name of three letters.
-#[tactic(auto, unfolding(crate::specs::Names::is_weekday))]
-pub fn names_weekday(name: &[u8]) -> bool
-    ensures { result ≡ is_weekday name.now }
+#[tactic(auto, unfolding(crate::specs::Names::is_day_name))]
+pub fn is_weekday_name(name: &[u8]) -> bool
+    ensures { result ≡ is_day_name name.now }
 {
-    is_called(name, b"mon")
-        || is_called(name, b"tue")
-        || is_called(name, b"wed")
-        || is_called(name, b"thu")
-        || is_called(name, b"fri")
-        || is_called(name, b"sat")
-        || is_called(name, b"sun")
+    matches_ignoring_case(name, b"mon")
+        || matches_ignoring_case(name, b"tue")
+        || matches_ignoring_case(name, b"wed")
+        || matches_ignoring_case(name, b"thu")
+        || matches_ignoring_case(name, b"fri")
+        || matches_ignoring_case(name, b"sat")
+        || matches_ignoring_case(name, b"sun")
 }
 
 const WEEKDAYS: &[u8] = b"MonTueWedThuFriSatSun";

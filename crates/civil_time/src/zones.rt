@@ -1,10 +1,10 @@
 //! Zones (RFC 5322 sections 3.3 and 4.3).
 ghost use Rattle.std.specs.Prelude.{◌≡◌, ◌≤◌, pos, neg_ℤ, ◌≤ℤ◌, IfSome};
-ghost use Rattle.civil_time.specs.Zones.{offset_of, signed_zone, hours_west, is_word, named_zone, zone_of};
-ghost use Rattle.civil_time.specs.Names.{is_name};
+ghost use Rattle.civil_time.specs.Zones.{offset_of, signed_zone, hours_west, is_ascii_letters, named_zone, zone_of};
+ghost use Rattle.civil_time.specs.Names.{equals_ignoring_case};
 
 use crate::digits::two_digits;
-use crate::names::is_called;
+use crate::names::matches_ignoring_case;
 
 /// Seconds east of UTC of a sign and `hhmm`. `None` where there are other digits than these, or more than 59 minutes.
 pub fn read_signed_zone(sign: u8, digits: &[u8]) -> Option<i32>
@@ -46,28 +46,28 @@ fn read_hours_west(name: &[u8]) -> u8
     ensures value { result ≡ hours_west name.now }
     ensures small { result ≤ 8 }
 {
-    if is_called(name, b"edt") {
+    if matches_ignoring_case(name, b"edt") {
         return 4;
     }
-    if is_called(name, b"est") {
+    if matches_ignoring_case(name, b"est") {
         return 5;
     }
-    if is_called(name, b"cdt") {
+    if matches_ignoring_case(name, b"cdt") {
         return 5;
     }
-    if is_called(name, b"cst") {
+    if matches_ignoring_case(name, b"cst") {
         return 6;
     }
-    if is_called(name, b"mdt") {
+    if matches_ignoring_case(name, b"mdt") {
         return 6;
     }
-    if is_called(name, b"mst") {
+    if matches_ignoring_case(name, b"mst") {
         return 7;
     }
-    if is_called(name, b"pdt") {
+    if matches_ignoring_case(name, b"pdt") {
         return 7;
     }
-    if is_called(name, b"pst") {
+    if matches_ignoring_case(name, b"pst") {
         return 8;
     }
     0
@@ -75,7 +75,7 @@ fn read_hours_west(name: &[u8]) -> u8
 
 /// Whether a text is one ASCII letter or more.
 fn is_word_text(text: &[u8]) -> bool
-    ensures { result ≡ is_word text.now }
+    ensures { result ≡ is_ascii_letters text.now }
 {
     !text.is_empty() && text.iter().all(|byte| byte.is_ascii_alphabetic())
 }

@@ -1,12 +1,12 @@
 //! What the questions on threads ask a threader: once, and of the messages of the view alone.
 use crate::cases::{WITHDRAWN, day};
 use crate::noting::Noting;
-use archive_desk::{DeskFault, import, thread, threads};
+use archive_desk::{DeskError, import, thread, threads};
 use archive_results::{Ask, Reader, TreeLine};
 use archive_store::{Key, Store};
 use civil_time::Day;
 use mbox_core::cut;
-use policy_core::{Kind, Party, Policy};
+use policy_core::{GrantKind, Policy, WithdrawnBy};
 use sqlite::Alter;
 use std::alloc::Global;
 use std::process::Abort;
@@ -63,7 +63,7 @@ fn shape<T: Threader, S: Alter>(
     let key = Key::of(&cut(MBOX)?.nth(at).ok_or("a message")?);
     match thread(store, alloc, ask, threader, &key) {
         Ok(rows) => shape_of(alloc, &rows),
-        Err(DeskFault::NotInView) => Ok(Vec::new(alloc)),
+        Err(DeskError::NotInView) => Ok(Vec::new(alloc)),
         Err(fault) => Err(Fail::from(fault)),
     }
 }
@@ -104,10 +104,10 @@ fn fill<S: Alter>(alloc: Global, store: &mut Store<S>) -> Result<(), Fail> {
     let today = day("2003-03-20")?;
     store.list_add("soc")?;
     store.person_add("mo", "0123456789abcdef")?;
-    store.grant("mo", "soc", Kind::Moderator, today, today)?;
+    store.grant("mo", "soc", GrantKind::Moderator, today, today)?;
     import(store, alloc, "soc", MBOX)?;
     let first = Key::of(&cut(MBOX)?.next().ok_or("a message")?);
-    store.withdraw("soc", &first, Party::Author)?;
+    store.withdraw("soc", &first, WithdrawnBy::Author)?;
     Ok(())
 }
 

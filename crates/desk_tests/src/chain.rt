@@ -1,9 +1,9 @@
 //! Calls of the desk that follow one another, with what they say together proved by their contracts alone.
 ghost use Rattle.std.specs.Prelude.{◌≡◌, OnOk, IfErr};
-ghost use Rattle.archive_store.specs.Told.{Calls};
-ghost use Rattle.desk_tests.specs.Chain.{HasTold, HasWrittenPart, IsBroken, IsChainStop, IsRefused, why_stopped};
+ghost use Rattle.archive_store.specs.Told.{CallsReadyStore};
+ghost use Rattle.desk_tests.specs.Chain.{ImportsListsAndExports, WritesExportPrefix, IsChainSystemError, WritesUntilChainStop, IsChainRefused, chain_refusal_of};
 
-use archive_desk::{DeskFault, ExportStop, ImportStop, Report, export, import, month};
+use archive_desk::{DeskError, ExportStop, ImportStop, Report, export, import, month};
 use archive_results::{Ask, Line};
 use archive_store::Store;
 use civil_time::Month;
@@ -26,7 +26,7 @@ pub struct Told {
 #[derive(Clone, Copy, Debug, PartialEq, Eq, Drop)]
 pub enum ChainStop {
     Import(ImportStop),
-    Month(DeskFault),
+    Month(DeskError),
     Export(ExportStop),
 }
 
@@ -40,14 +40,14 @@ pub fn import_and_ask<S: Alter, W: Sink>(
     asked: Month,
     out: &mut W,
 ) -> Result<Told, ChainStop>
-    ensures chain { Calls S.Store store.old store.new why_stopped result
-        (λ a b told. HasTold ask.now mbox.now asked (W.told out.old) (W.told out.new) a b told)
-        (λ a b why. IsRefused ask.now mbox.now (W.told out.old) (W.told out.new) a b why)
-        (λ a b stop. IsBroken ask.now mbox.now a b stop) }
-    ensures part { IfErr result (λ stop. HasWrittenPart S.Store store.old store.new ask.now mbox.now
+    ensures chain { CallsReadyStore S.Store store.old store.new chain_refusal_of result
+        (λ a b told. ImportsListsAndExports ask.now mbox.now asked (W.told out.old) (W.told out.new) a b told)
+        (λ a b why. IsChainRefused ask.now mbox.now (W.told out.old) (W.told out.new) a b why)
+        (λ a b stop. IsChainSystemError ask.now mbox.now a b stop) }
+    ensures part { IfErr result (λ stop. WritesExportPrefix S.Store store.old store.new ask.now mbox.now
         (W.told out.old) (W.told out.new) stop) }
     ensures quiet { OnOk result (W.failures out.new ≡ W.failures out.old) }
-    ensures cause { IfErr result (λ stop. IsChainStop (W.told out.old) (W.told out.new)
+    ensures cause { IfErr result (λ stop. WritesUntilChainStop (W.told out.old) (W.told out.new)
         (W.failures out.old) (W.failures out.new) stop) }
 {
     let report = match import(store, alloc, ask.list, mbox) {

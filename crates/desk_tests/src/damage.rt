@@ -2,9 +2,9 @@
 //! meets a row that cannot be read is E15.
 use crate::cases::{TWO, WITHDRAWN, by_nobody};
 use crate::listings::are_subjects;
-use archive_desk::{DeskFault, ExportStop, author, export, import, month, threads};
+use archive_desk::{DeskError, ExportStop, author, export, import, month, threads};
 use archive_results::{Ask, Line, TreeLine};
-use archive_store::{CheckStop, Key, Store, StoreFault};
+use archive_store::{CheckError, Key, Store, StoreFault};
 use civil_time::Month;
 use mbox_core::cut;
 use mbox_core::device::Tap;
@@ -31,7 +31,7 @@ From bob@example.org Wed Mar  5 10:00:00 2003\nSubject: other\n\nx\n\n\
 From anna@example.org Tue Apr  1 10:00:00 2003\nFrom: anna@example.org\nSubject: three\n\n3\n\n";
 
 /// What is answered where a row cannot be read.
-const UNREADABLE: DeskFault = DeskFault::Store(StoreFault::Store);
+const UNREADABLE: DeskError = DeskError::Store(StoreFault::Store);
 
 /// The subjects of lines. None: E15.
 type Shown = Option<&'static [&'static [u8]]>;
@@ -188,18 +188,18 @@ fn is_named<S: Alter>(
 ) -> Result<(), Fail> {
     match store.check(alloc) {
         Ok(()) => assert!(rt; wanted.is_none()),
-        Err(CheckStop::Damaged { list, key }) => {
+        Err(CheckError::Damaged { list, key }) => {
             assert_eq!(rt; list.as_slice(), b"soc".as_slice());
             assert_eq!(rt; Some(key.as_slice()), wanted);
         }
-        Err(CheckStop::Failed(fault)) => return Err(Fail::from(fault)),
+        Err(CheckError::Failed(fault)) => return Err(Fail::from(fault)),
     }
     Ok(())
 }
 
 fn are_lines(
     rt: &impl Abort,
-    found: Result<Vec<Line>, DeskFault>,
+    found: Result<Vec<Line>, DeskError>,
     wanted: Shown,
 ) -> Result<(), Fail> {
     match (found, wanted) {
@@ -214,7 +214,7 @@ fn are_lines(
 
 fn are_rows(
     rt: &impl Abort,
-    found: Result<Vec<TreeLine>, DeskFault>,
+    found: Result<Vec<TreeLine>, DeskError>,
     wanted: Rows,
 ) -> Result<(), Fail> {
     match (found, wanted) {
@@ -265,7 +265,7 @@ fn month_of<S: Alter>(
     store: &mut Store<S>,
     ask: &Ask<'_>,
     text: &str,
-) -> Result<Result<Vec<Line>, DeskFault>, Fail> {
+) -> Result<Result<Vec<Line>, DeskError>, Fail> {
     let asked = Month::read(text.as_bytes()).ok_or("a month")?;
     Ok(month(store, alloc, ask, asked))
 }

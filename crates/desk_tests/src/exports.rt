@@ -2,7 +2,7 @@
 use crate::cases::{TWO, by_nobody};
 use crate::chain::{ChainStop, import_and_ask};
 use archive_desk::{
-    DeskFault, ExportStop, ImportFault, ImportStop, Report, export, export_after, import,
+    DeskError, ExportStop, ImportError, ImportStop, Report, export, export_after, import,
 };
 use archive_results::{Ask, Reader};
 use archive_store::{Store, StoreFault};
@@ -36,7 +36,7 @@ pub fn exports<S: Alter>(rt: &impl Abort, alloc: Global, store: &mut Store<S>) -
     let mut out = Tap::new(alloc, b"", 1000)?;
     let refused = ExportStop {
         written: 0,
-        fault: DeskFault::NoPerson,
+        fault: DeskError::NoPerson,
     };
     assert_eq!(rt;
         export_after(store, alloc, &ask, HEAD, &mut out),
@@ -57,7 +57,7 @@ fn stops<S: Alter>(
     let mut out = Tap::new(alloc, b"", passes)?;
     let stopped = ExportStop {
         written: passes as u64,
-        fault: DeskFault::Write,
+        fault: DeskError::Write,
     };
     assert_eq!(rt; export(store, alloc, ask, &mut out), Err(stopped));
     assert_eq!(rt; Some(out.bytes()), TWO.get(..passes));
@@ -99,14 +99,14 @@ pub fn chain<S: Alter>(rt: &impl Abort, alloc: Global, store: &mut Store<S>) -> 
     let mut out = Tap::new(alloc, b"", 10)?;
     let no_list = ChainStop::Import(ImportStop {
         done: 0,
-        fault: ImportFault::Store(StoreFault::NoList),
+        fault: ImportError::Store(StoreFault::NoList),
     });
     let came = import_and_ask(store, alloc, &ask, TWO, march, &mut out);
     assert_eq!(rt; came.err(), Some(no_list));
     store.list_add("soc")?;
     let stopped = ChainStop::Export(ExportStop {
         written: 10,
-        fault: DeskFault::Write,
+        fault: DeskError::Write,
     });
     let came = import_and_ask(store, alloc, &ask, TWO, march, &mut out);
     assert_eq!(rt; came.err(), Some(stopped));

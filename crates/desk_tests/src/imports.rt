@@ -1,6 +1,6 @@
 //! Files that are taken into a list.
 use crate::cases::TWO;
-use archive_desk::{ImportFault, ImportStop, Report, import};
+use archive_desk::{ImportError, ImportStop, Report, import};
 use archive_store::{Key, Store, StoreFault};
 use mbox_core::{MboxFault, cut};
 use sqlite::Alter;
@@ -23,15 +23,15 @@ fn counted(new: u64, known: u64, too_large: u64) -> Result<Report, ImportStop> {
     })
 }
 
-fn stopped(fault: ImportFault) -> Result<Report, ImportStop> {
+fn stopped(fault: ImportError) -> Result<Report, ImportStop> {
     Err(ImportStop { done: 0, fault })
 }
 
 /// Imports that follow one another on an empty archive.
 pub fn imports<S: Alter>(rt: &impl Abort, alloc: Global, store: &mut Store<S>) -> Result<(), Fail> {
     store.list_add("soc")?;
-    let no_list = stopped(ImportFault::Store(StoreFault::NoList));
-    let no_mbox = stopped(ImportFault::Mbox(MboxFault::Preamble(1)));
+    let no_list = stopped(ImportError::Store(StoreFault::NoList));
+    let no_mbox = stopped(ImportError::Mbox(MboxFault::Preamble(1)));
     for (list, mbox, wanted) in [
         ("soc", b"".as_slice(), counted(0, 0, 0)),
         ("soc", b"\n\n".as_slice(), counted(0, 0, 0)),

@@ -1,11 +1,11 @@
 //! Lists of months and of authors, and threads.
 use crate::cases::{TWO, WITHDRAWN, by_nobody, day};
-use archive_desk::{DeskFault, author, import, month, thread, threads};
+use archive_desk::{DeskError, author, import, month, thread, threads};
 use archive_results::{Ask, Line, Reader, TreeLine};
 use archive_store::{Key, Store};
 use civil_time::Month;
 use mbox_core::cut;
-use policy_core::{Party, Policy};
+use policy_core::{Policy, WithdrawnBy};
 use sqlite::Alter;
 use std::alloc::Global;
 use std::process::Abort;
@@ -189,7 +189,7 @@ fn by_month<S: Alter>(
         list: "xyz",
         day: ask.day,
     };
-    assert!(rt; matches!(month(store, alloc, &unknown, march), Err(DeskFault::NoList)));
+    assert!(rt; matches!(month(store, alloc, &unknown, march), Err(DeskError::NoList)));
     Ok(())
 }
 
@@ -221,11 +221,11 @@ fn withheld<S: Alter>(rt: &impl Abort, alloc: Global, store: &mut Store<S>) -> R
     let second = Key::of(&cut(TWO)?.nth(1).ok_or("a second message")?);
     let rows = thread(store, alloc, &ask, &PlainThreader, &second)?;
     are_rows(rt, &rows, &[(0, Some(b'a')), (1, None)])?;
-    store.withdraw("soc", &first, Party::Board)?;
+    store.withdraw("soc", &first, WithdrawnBy::Board)?;
     assert!(rt;
         matches!(
             thread(store, alloc, &ask, &PlainThreader, &first),
-            Err(DeskFault::NotInView)
+            Err(DeskError::NotInView)
         )
     );
     let rows = thread(store, alloc, &ask, &PlainThreader, &second)?;

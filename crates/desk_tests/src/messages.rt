@@ -1,11 +1,11 @@
 //! Messages that are asked for by their keys, and views.
 use crate::cases::{TWO, WITHDRAWN, day};
-use archive_desk::{DeskFault, import, message, view};
+use archive_desk::{DeskError, import, message, view};
 use archive_results::{Ask, Asked, Reader};
 use archive_store::{Key, Store};
 use civil_time::Day;
 use mbox_core::{Item, cut};
-use policy_core::{Kind, Party, Policy};
+use policy_core::{GrantKind, Policy, WithdrawnBy};
 use sqlite::Alter;
 use std::alloc::Global;
 use std::process::Abort;
@@ -33,7 +33,7 @@ enum Wanted {
     Text(&'static [u8]),
     Rule(&'static str),
     Nothing,
-    Fault(DeskFault),
+    Fault(DeskError),
 }
 
 /// The text of the first message.
@@ -46,7 +46,7 @@ type Case = (
     &'static str,
     &'static str,
     Wanted,
-    Result<usize, DeskFault>,
+    Result<usize, DeskError>,
 );
 
 const CASES: [Case; 12] = [
@@ -127,24 +127,24 @@ const CASES: [Case; 12] = [
         Reader::Person("who"),
         "soc",
         "2003-03-20",
-        Wanted::Fault(DeskFault::NoPerson),
-        Err(DeskFault::NoPerson),
+        Wanted::Fault(DeskError::NoPerson),
+        Err(DeskError::NoPerson),
     ),
     (
         WITHDRAWN,
         Reader::Nobody,
         "xyz",
         "2003-03-20",
-        Wanted::Fault(DeskFault::NoList),
-        Err(DeskFault::NoList),
+        Wanted::Fault(DeskError::NoList),
+        Err(DeskError::NoList),
     ),
     (
         WITHDRAWN,
         Reader::Person("who"),
         "xyz",
         "2003-03-20",
-        Wanted::Fault(DeskFault::NoList),
-        Err(DeskFault::NoList),
+        Wanted::Fault(DeskError::NoList),
+        Err(DeskError::NoList),
     ),
 ];
 
@@ -157,12 +157,12 @@ fn held_back<S: Alter>(alloc: Global, store: &mut Store<S>) -> Result<Key, Fail>
     store.grant(
         "mo",
         "soc",
-        Kind::Moderator,
+        GrantKind::Moderator,
         day("2003-03-01")?,
         day("2003-03-31")?,
     )?;
     import(store, alloc, "soc", TWO)?;
-    store.withdraw("soc", &key, Party::Author)?;
+    store.withdraw("soc", &key, WithdrawnBy::Author)?;
     store.embargo("soc", &key, day("2003-04-01")?)?;
     Ok(key)
 }
@@ -210,7 +210,7 @@ fn asked<S: Alter>(
     ask: &Ask<'_>,
     key: &Key,
     wanted: Wanted,
-    count: Result<usize, DeskFault>,
+    count: Result<usize, DeskError>,
 ) -> Result<(), Fail> {
     match (message(store, alloc, ask, key), wanted) {
         (Ok(Asked::Served(text)), Wanted::Text(want)) => assert_eq!(rt; text.as_slice(), want),

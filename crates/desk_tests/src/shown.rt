@@ -6,7 +6,7 @@ use archive_results::{Ask, Reader};
 use archive_store::{Key, Store};
 use civil_time::Month;
 use mbox_core::cut;
-use policy_core::{Kind, Party, Policy};
+use policy_core::{GrantKind, Policy, WithdrawnBy};
 use sqlite::Alter;
 use std::alloc::Global;
 use std::process::Abort;
@@ -64,10 +64,10 @@ fn fill<S: Alter>(alloc: Global, store: &mut Store<S>) -> Result<(), Fail> {
     let today = day("2003-03-20")?;
     store.list_add("soc")?;
     store.person_add("mo", "0123456789abcdef")?;
-    store.grant("mo", "soc", Kind::Moderator, today, today)?;
+    store.grant("mo", "soc", GrantKind::Moderator, today, today)?;
     import(store, alloc, "soc", FOUR)?;
     let first = Key::of(&cut(FOUR)?.next().ok_or("a message")?);
-    store.withdraw("soc", &first, Party::Author)?;
+    store.withdraw("soc", &first, WithdrawnBy::Author)?;
     Ok(())
 }
 

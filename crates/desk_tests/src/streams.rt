@@ -1,5 +1,5 @@
 //! Mboxes that are read piece by piece into a list.
-use archive_desk::{ImportFault, ImportStop, Report, import};
+use archive_desk::{ImportError, ImportStop, Report, import};
 use archive_import::import_from;
 use archive_store::{Store, StoreFault};
 use mbox_core::MboxFault;
@@ -55,7 +55,7 @@ fn stops<S: Alter>(
     let done = if passes < SECOND { 0 } else { 1 };
     let stopped = ImportStop {
         done,
-        fault: ImportFault::Mbox(MboxFault::Read),
+        fault: ImportError::Mbox(MboxFault::Read),
     };
     assert_eq!(rt; import_from(store, alloc, "soc", &mut input), Err(stopped));
     assert_eq!(rt; store.rows(alloc, "soc")?.len() as u64, done);
@@ -84,8 +84,8 @@ fn streams<S: Alter>(rt: &impl Abort, alloc: Global, store: &mut Store<S>) -> Re
 fn refused<S: Alter>(rt: &impl Abort, alloc: Global, store: &mut Store<S>) -> Result<(), Fail> {
     store.list_add("bad")?;
     for (list, fault) in [
-        ("bad", ImportFault::Mbox(MboxFault::Preamble(1))),
-        ("xyz", ImportFault::Store(StoreFault::NoList)),
+        ("bad", ImportError::Mbox(MboxFault::Preamble(1))),
+        ("xyz", ImportError::Store(StoreFault::NoList)),
     ] {
         let mut input = Tap::new(alloc, BROKEN, 1000)?;
         let stopped = ImportStop { done: 0, fault };
@@ -94,7 +94,7 @@ fn refused<S: Alter>(rt: &impl Abort, alloc: Global, store: &mut Store<S>) -> Re
     let mut failing = Tap::new(alloc, TWO, 0)?;
     let no_list = ImportStop {
         done: 0,
-        fault: ImportFault::Store(StoreFault::NoList),
+        fault: ImportError::Store(StoreFault::NoList),
     };
     assert_eq!(rt;
         import_from(store, alloc, "xyz", &mut failing),

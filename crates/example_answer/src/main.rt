@@ -2,7 +2,7 @@
 #![tactic(auto)]
 
 use anyhow::bail;
-use archive_pages::{Peer, run_and_answer_in_memory};
+use archive_pages::{Client, run_and_answer_in_memory};
 use archive_store::Command;
 use civil_time::Day;
 use mbox_core::cut;
@@ -32,7 +32,7 @@ fn main(rt: HostRuntime) -> anyhow::Result<()> {
         &Policy::open(),
         &NodeThreader::new(RandomState::new(&rt)?),
         day,
-        &mut Peer {
+        &mut Client {
             input: Counted::new(rt.reader()),
             output: Counted::new(io::writer(&rt)),
         },

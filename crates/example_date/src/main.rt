@@ -3,7 +3,7 @@
 
 ghost use Rattle.std.specs.Prelude.{◌≡◌};
 ghost use Rattle.civil_time.specs.Texts.{instant_text};
-ghost use Rattle.mail_core.specs.Sent.{sent_of};
+ghost use Rattle.mail_core.specs.Sent.{sent_date_of_body};
 
 use anyhow::bail;
 use civil_time::Instant;
@@ -12,7 +12,7 @@ use mbox_core::device::{Counted, read_all};
 
 /// When a mail was sent, as `yyyy-mm-dd hh:mm` in UTC; when it arrived, where the text is no date.
 fn sent_text(date: &[u8], arrival: Instant) -> [u8; 16]
-    ensures { result ≡ instant_text (sent_of date.now arrival) }
+    ensures { result ≡ instant_text (sent_date_of_body date.now arrival) }
 {
     sent(date, arrival).text()
 }

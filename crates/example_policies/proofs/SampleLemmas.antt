@@ -12,8 +12,8 @@ use Rattle.policy_core.specs.Rules.{standings, withdrawn, embargo, age_min, Rule
 use Rattle.policy_core.specs.Verdict.{verdict_of}
 use Rattle.policy_core.specs.Written.{written_policy}
 use Rattle.policy_core.proofs.OnTrees.{on_trees}
-use Rattle.archive_results.specs.Access.{Ask, ReaderMarks, facts_of, is_allowance, ruling_on}
-use Rattle.archive_results.specs.Promise.{DeniesWithdrawn, DeniesHeldBack}
+use Rattle.archive_results.specs.Access.{Ask, ReaderFacts, policy_facts_of, is_allowed_ruling, ruling_on}
+use Rattle.archive_results.specs.Promise.{DeniesWithdrawn, DeniesEmbargoed}
 use Rattle.example_policies.specs.Samples.{HidesFromAllButModerators, members_text, seeds_text}
 
 -- these rules behind those that let moderators read all, and nobody else what is withheld
@@ -26,11 +26,11 @@ hiding rest =
 
 -- ---- whom they deny what is withheld
 
-withdrawn_hidden : (rest : List Rule) (f : Facts) → f.standing ≢ Moderator → f.withdrawn ≢ No → is_allowance (verdict_of (hiding rest) f) ≡ false
+withdrawn_hidden : (rest : List Rule) (f : Facts) → f.standing ≢ Moderator → f.withdrawn ≢ No → is_allowed_ruling (verdict_of (hiding rest) f) ≡ false
 withdrawn_hidden rest f = by f.standing f.withdrawn
   where
     by : (standing : Standing) (who : Withdrawn) → standing ≢ Moderator → who ≢ No
-        → is_allowance (verdict_of (hiding rest) (record f { standing = standing; withdrawn = who })) ≡ false
+        → is_allowed_ruling (verdict_of (hiding rest) (record f { standing = standing; withdrawn = who })) ≡ false
     by Moderator who none some = absurd (none refl)
     by Public No none some = absurd (some refl)
     by Public Author none some = refl
@@ -42,11 +42,11 @@ withdrawn_hidden rest f = by f.standing f.withdrawn
     by Subscriber Author none some = refl
     by Subscriber Board none some = refl
 
-held_back_hidden : (rest : List Rule) (f : Facts) → f.standing ≢ Moderator → is_embargoed f ≡ true → is_allowance (verdict_of (hiding rest) f) ≡ false
+held_back_hidden : (rest : List Rule) (f : Facts) → f.standing ≢ Moderator → is_embargoed f ≡ true → is_allowed_ruling (verdict_of (hiding rest) f) ≡ false
 held_back_hidden rest f none on = by f.standing f.withdrawn none
   where
     by : (standing : Standing) (who : Withdrawn) → standing ≢ Moderator
-        → is_allowance (verdict_of (hiding rest) (record f { standing = standing; withdrawn = who })) ≡ false
+        → is_allowed_ruling (verdict_of (hiding rest) (record f { standing = standing; withdrawn = who })) ≡ false
     by Moderator who none = absurd (none refl)
     by Public No none = rw on refl
     by Public Author none = refl
@@ -64,9 +64,9 @@ hides rest text is = record {
   rules = hiding rest;
   is_policy = is;
   withdrawn = λ ask reader marks by none some.
-      subst (λ (rules : List Rule). is_allowance (verdict_of rules (facts_of ask reader marks)) ≡ false) (sym by) (withdrawn_hidden rest (facts_of ask reader marks) none some);
+      subst (λ (rules : List Rule). is_allowed_ruling (verdict_of rules (policy_facts_of ask reader marks)) ≡ false) (sym by) (withdrawn_hidden rest (policy_facts_of ask reader marks) none some);
   held_back = λ ask reader marks by none on.
-      subst (λ (rules : List Rule). is_allowance (verdict_of rules (facts_of ask reader marks)) ≡ false) (sym by) (held_back_hidden rest (facts_of ask reader marks) none on);
+      subst (λ (rules : List Rule). is_allowed_ruling (verdict_of rules (policy_facts_of ask reader marks)) ≡ false) (sym by) (held_back_hidden rest (policy_facts_of ask reader marks) none on);
 }
 
 -- ---- the samples
@@ -86,11 +86,11 @@ abbrev rules_in : Result (List Rule) PolicyFault → List Rule
 rules_in (Ok rules) = rules
 rules_in (Err fault) = []
 
-pub promised : (text : List ℕ) (ask : Ask) (reader : ReaderMarks) → HidesFromAllButModerators text → written_policy text ≡ Ok ask.rules
+pub promised : (text : List ℕ) (ask : Ask) (reader : ReaderFacts) → HidesFromAllButModerators text → written_policy text ≡ Ok ask.rules
     → reader.standing ≢ Moderator → DeniesWithdrawn ask reader
 promised text ask reader hidden is none = λ marks some other. hidden.withdrawn ask reader marks (ap rules_in (sym is ∙ hidden.is_policy)) none some
 
-pub held_back : (text : List ℕ) (ask : Ask) (reader : ReaderMarks) (until : ℤ) → HidesFromAllButModerators text → written_policy text ≡ Ok ask.rules
-    → reader.standing ≢ Moderator → int_lt ask.day until ≡ true → DeniesHeldBack until ask reader
+pub held_back : (text : List ℕ) (ask : Ask) (reader : ReaderFacts) (until : ℤ) → HidesFromAllButModerators text → written_policy text ≡ Ok ask.rules
+    → reader.standing ≢ Moderator → int_lt ask.day until ≡ true → DeniesEmbargoed until ask reader
 held_back text ask reader until hidden is none early =
     λ marks marked other. hidden.held_back ask reader marks (ap rules_in (sym is ∙ hidden.is_policy)) none (ap (is_before_until ask.day) marked ∙ early)

@@ -5,7 +5,7 @@ use Rattle.policy_core.specs.declared.access.Withdrawn.TheVariants.{No}
 use Rattle.policy_core.specs.Facts.{is_embargoed}
 use Rattle.policy_core.specs.Rules.{Rule}
 use Rattle.policy_core.specs.Written.{written_policy}
-use Rattle.archive_results.specs.Access.{Ask, Marks, ReaderMarks, allows, facts_of}
+use Rattle.archive_results.specs.Access.{Ask, MessageFacts, ReaderFacts, policy_allows, policy_facts_of}
 
 -- `samples/seeds.toml`
 abbrev pub seeds_text : List ℕ
@@ -29,7 +29,7 @@ members_text =
 pub record HidesFromAllButModerators (text : List ℕ) : Type 0 where
   pub rules : List Rule
   pub is_policy : written_policy text ≡ Ok rules
-  pub withdrawn : (ask : Ask) (reader : ReaderMarks) (marks : Marks) → ask.rules ≡ rules → reader.standing ≢ Moderator
-      → marks.withdrawn ≢ No → allows ask reader marks ≡ false
-  pub held_back : (ask : Ask) (reader : ReaderMarks) (marks : Marks) → ask.rules ≡ rules → reader.standing ≢ Moderator
-      → is_embargoed (facts_of ask reader marks) ≡ true → allows ask reader marks ≡ false
+  pub withdrawn : (ask : Ask) (reader : ReaderFacts) (marks : MessageFacts) → ask.rules ≡ rules → reader.standing ≢ Moderator
+      → marks.withdrawn ≢ No → policy_allows ask reader marks ≡ false
+  pub held_back : (ask : Ask) (reader : ReaderFacts) (marks : MessageFacts) → ask.rules ≡ rules → reader.standing ≢ Moderator
+      → is_embargoed (policy_facts_of ask reader marks) ≡ true → policy_allows ask reader marks ≡ false

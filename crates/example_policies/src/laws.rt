@@ -2,8 +2,8 @@
 ghost use Rattle.std.specs.Prelude.{◌≡◌, ◌≢◌, ℕ, ℤ, int_lt, true, List, Ok};
 ghost use Rattle.policy_core.specs.declared.access.Standing.TheVariants.{Moderator};
 ghost use Rattle.policy_core.specs.Written.{written_policy};
-ghost use Rattle.archive_results.specs.Access.{Ask, ReaderMarks};
-ghost use Rattle.archive_results.specs.Promise.{DeniesWithdrawn, DeniesHeldBack};
+ghost use Rattle.archive_results.specs.Access.{Ask, ReaderFacts};
+ghost use Rattle.archive_results.specs.Promise.{DeniesWithdrawn, DeniesEmbargoed};
 ghost use Rattle.example_policies.specs.Samples.{HidesFromAllButModerators, members_text, seeds_text};
 
 /// Under each sample policy a message that was withdrawn, or is held back on the day, is denied to everybody but the moderators of
@@ -11,8 +11,8 @@ ghost use Rattle.example_policies.specs.Samples.{HidesFromAllButModerators, memb
 pub fn the_sample_policies_hide_what_is_withheld()
     ensures seeds { HidesFromAllButModerators seeds_text }
     ensures members { HidesFromAllButModerators members_text }
-    ensures promised { (text : List ℕ) (ask : Ask) (reader : ReaderMarks) → HidesFromAllButModerators text
+    ensures promised { (text : List ℕ) (ask : Ask) (reader : ReaderFacts) → HidesFromAllButModerators text
         → written_policy text ≡ Ok ask.rules → reader.standing ≢ Moderator → DeniesWithdrawn ask reader }
-    ensures held_back { (text : List ℕ) (ask : Ask) (reader : ReaderMarks) (until : ℤ) → HidesFromAllButModerators text
-        → written_policy text ≡ Ok ask.rules → reader.standing ≢ Moderator → int_lt ask.day until ≡ true → DeniesHeldBack until ask reader }
+    ensures held_back { (text : List ℕ) (ask : Ask) (reader : ReaderFacts) (until : ℤ) → HidesFromAllButModerators text
+        → written_policy text ≡ Ok ask.rules → reader.standing ≢ Moderator → int_lt ask.day until ≡ true → DeniesEmbargoed until ask reader }
 {}

@@ -6,25 +6,25 @@ use Rattle.sqlite.proofs.Callers.{memory_is_clean}
 use Rattle.sqlite_trees.specs.declared.memory.MemStore.{MemStore}
 use Rattle.byte_device.specs.declared.devices.Sink.{Ghosts as Takes}
 use Rattle.byte_device.specs.declared.devices.Source.{Ghosts as Gives}
-use Rattle.mbox_core.specs.Division.{Item, Divides}
+use Rattle.mbox_core.specs.Division.{Item, DividesIntoItems}
 use Rattle.mbox_core.specs.Written.{IsItem}
 use Rattle.policy_core.specs.Rules.{Rule}
-use Rattle.archive_machine.specs.Records.{Archive}
-use Rattle.archive_machine.specs.Commands.{Command as Told}
-use Rattle.archive_machine.specs.Machine.{Outcome, step}
-use Rattle.archive_machine.specs.Runs.{taken}
-use Rattle.archive_store.specs.Held.{held_of, wants_of}
-use Rattle.archive_store.specs.Told.{HasNoLimit, HoldsTables, IsReady, WasRefused, archive_in}
+use Rattle.archive_model.specs.Records.{Archive}
+use Rattle.archive_model.specs.Commands.{Command as Told}
+use Rattle.archive_model.specs.Machine.{StepOutcome, step}
+use Rattle.archive_model.specs.Runs.{taken}
+use Rattle.archive_store.specs.Held.{store_connection, memory_refusal_count}
+use Rattle.archive_store.specs.Told.{HasNoStepLimit, HoldsTables, IsReady, MemoryWasRefused, archive_in}
 use Rattle.archive_store.specs.declared.store.Store.{Store}
-use Rattle.archive_desk.specs.Holding.{GoesHeld}
-use Rattle.archive_desk.specs.Readable.{CanBeRead, IsSaid}
+use Rattle.archive_desk.specs.Holding.{RelatesTableArchives}
+use Rattle.archive_desk.specs.Readable.{CanBeRead, IsWellFormedCommand}
 use Rattle.archive_desk.specs.declared.importing.Report.{Report}
-use Rattle.archive_pages.specs.Causes.{IsUnreadIn, IsUnserved, ServesOr}
-use Rattle.archive_pages.specs.Serving.{Stays}
+use Rattle.archive_pages.specs.Causes.{IsInputDataUnreadable, Sent503OrBrokeOff, ServesOr503}
+use Rattle.archive_pages.specs.Serving.{StoreKeepsArchive}
 use Rattle.archive_pages.specs.declared.faults.ServeFault.{ServeFault}
-use Rattle.archive_pages.specs.declared.pages.Peer.{Peer}
-use Rattle.example_reopened.specs.Withdrawing.{EndsBehind, IsWithdrawn, withdrawal_of}
-use Rattle.example_reopened.specs.declared.withdrawing.Answered.{Answered}
+use Rattle.archive_pages.specs.declared.pages.Client.{Client}
+use Rattle.example_reopened.specs.Withdrawing.{EndsAnswersAfterWithdrawal, ImportsAndWithdraws, withdraw_command_of}
+use Rattle.example_reopened.specs.declared.withdrawing.TwoAnswers.{TwoAnswers}
 use Rattle.example_reopened.specs.declared.withdrawing.Withdrawal.{Withdrawal}
 
 -- ---- what was withdrawn can be read
@@ -34,44 +34,44 @@ abbrev pub TakesIn : Type 0
 TakesIn = (a : Archive) (list : List ℕ) (items : List Item) → All IsItem items → CanBeRead a → CanBeRead (taken a list items).archive
 
 abbrev pub StepsOn : Type 0
-StepsOn = (a : Archive) (command : Told) → IsSaid command → CanBeRead a → CanBeRead (step a command).0
+StepsOn = (a : Archive) (command : Told) → IsWellFormedCommand command → CanBeRead a → CanBeRead (step a command).0
 
 abbrev pub AreItems : Type 0
-AreItems = (bytes : List ℕ) (items : List Item) → Divides bytes items → All IsItem items
+AreItems = (bytes : List ℕ) (items : List Item) → DividesIntoItems bytes items → All IsItem items
 
-pub can_be_read : TakesIn → StepsOn → AreItems → (it : Withdrawal) (a b : Archive) (report : Report) → IsWithdrawn it a b report → CanBeRead a → CanBeRead b
+pub can_be_read : TakesIn → StepsOn → AreItems → (it : Withdrawal) (a b : Archive) (report : Report) → ImportsAndWithdraws it a b report → CanBeRead a → CanBeRead b
 can_be_read takes steps items it a b report made can =
     let here = subst CanBeRead (sym made.is_imported.added.archive_is)
     (takes a it.list.now made.is_imported.items (items it.mbox.now made.is_imported.items made.is_imported.divided) can) in
-    subst CanBeRead (sym (ap (λ (o : Outcome). o.0) made.withdrawn)) (steps made.imported (withdrawal_of it) (it.by, refl) here)
+    subst CanBeRead (sym (ap (λ (o : StepOutcome). o.0) made.withdrawn)) (steps made.imported (withdraw_command_of it) (it.by, refl) here)
 
 -- ---- 503
 
 abbrev pub IsRefused : Type 0
 IsRefused = (old new : Store MemStore) (result : Result ℕ ServeFault) (told_before told_after : List ℕ) (rules : List Rule) (day : ℤ)
-    → HoldsTables over_memory old → HasNoLimit over_memory old → CanBeRead (archive_in over_memory old)
-    → ServesOr over_memory old new result (IsUnreadIn told_before told_after rules day) → IsUnserved result → WasRefused old new
+    → HoldsTables over_memory old → HasNoStepLimit over_memory old → CanBeRead (archive_in over_memory old)
+    → ServesOr503 over_memory old new result (IsInputDataUnreadable told_before told_after rules day) → Sent503OrBrokeOff result → MemoryWasRefused old new
 
 abbrev pub IsFollowed : Type 0
-IsFollowed = (old new : Store MemStore) (result : Result ℕ ServeFault) → Stays over_memory old new result → GoesHeld over_memory old new (λ a b. b ≡ a)
+IsFollowed = (old new : Store MemStore) (result : Result ℕ ServeFault) → StoreKeepsArchive over_memory old new result → RelatesTableArchives over_memory old new (λ a b. b ≡ a)
 
 module _ (refused : IsRefused) (followed : IsFollowed) (takes : TakesIn) (steps : StepsOn) (items : AreItems) where
-  module _ {R W : Type 0} (gives : Gives R) (sinks : Takes W) (rules : List Rule) (day : ℤ) (old new : Store MemStore) (it : Withdrawal) (first first' second second' : Peer R W)
-      (report : Report) (answered : Answered) where
-    pub wanting : IsReady over_memory old → HasNoLimit over_memory old → CanBeRead (archive_in over_memory old)
-        → EndsBehind gives sinks over_memory rules day old new it first first' second second' report answered
-        → IsUnserved answered.first ⊎ IsUnserved answered.second → 0 < wants_of new
+  module _ {R W : Type 0} (gives : Gives R) (sinks : Takes W) (rules : List Rule) (day : ℤ) (old new : Store MemStore) (it : Withdrawal) (first first' second second' : Client R W)
+      (report : Report) (answered : TwoAnswers) where
+    pub wanting : IsReady over_memory old → HasNoStepLimit over_memory old → CanBeRead (archive_in over_memory old)
+        → EndsAnswersAfterWithdrawal gives sinks over_memory rules day old new it first first' second second' report answered
+        → Sent503OrBrokeOff answered.first ⊎ Sent503OrBrokeOff answered.second → 0 < memory_refusal_count new
     wanting ready free can behind bad =
-        let made = behind.withdrawn.1 (memory_is_clean (held_of behind.found)) ready in
+        let made = behind.withdrawn.1 (memory_is_clean (store_connection behind.found)) ready in
         let readable = can_be_read takes steps items it (archive_in over_memory old) (archive_in over_memory behind.found) report made.1 can in
-        let unlimited : HasNoLimit over_memory behind.found = behind.withdrawn.0.limit ∙ free in
+        let unlimited : HasNoStepLimit over_memory behind.found = behind.withdrawn.0.limit ∙ free in
         let on = followed behind.found behind.ends.between answered.first behind.ends.first_ends.stays in
-        let later = on.1 (memory_is_clean (held_of behind.ends.between)) made.0.held in
-        let grown = behind.ends.second_caused.0 in
+        let later = on.1 (memory_is_clean (store_connection behind.ends.between)) made.0.held in
+        let grown = behind.ends.second_error_cause.0 in
         elim bad [
           | inl one ↦ let more = refused behind.found behind.ends.between answered.first (gives.told first.input) (gives.told first'.input) rules day made.0.held
-              unlimited readable behind.ends.first_caused one in omega (arith, more, grown)
+              unlimited readable behind.ends.first_error_cause one in omega (arith, more, grown)
           | inr other ↦ let more = refused behind.ends.between new answered.second (gives.told second.input) (gives.told second'.input) rules day later.0
               (on.0.limit ∙ unlimited) (subst CanBeRead (sym later.1) readable)
-              behind.ends.second_caused other in omega (arith, more)
+              behind.ends.second_error_cause other in omega (arith, more)
         ]

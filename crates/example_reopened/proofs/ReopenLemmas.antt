@@ -16,31 +16,32 @@ use Rattle.sqlite.specs.State.{HasCleanDisk, IsLive}
 use Rattle.sqlite.specs.Files.{over_files, file_state, Finds, IsOpened}
 use Rattle.sqlite.specs.Closing.{IsCopied}
 use Rattle.sqlite.proofs.Callers.{finds_again}
-use Rattle.archive_machine.specs.Records.{Archive}
-use Rattle.archive_tables.specs.Tables.{IsKnown, IsHeldAs, IsKept, AreTablesOf, form_of, newest_number, archive_by, archive_of}
-use Rattle.archive_store.specs.Held.{held_of}
-use Rattle.archive_store.specs.Told.{HoldsArchive, HoldsTables, HasReturned, IsReady, archive_in, Goes, GoesIfOpen, Asks}
+use Rattle.archive_model.specs.Records.{Archive}
+use Rattle.archive_tables.specs.Tables.{IsKnownVersion, IsOpenArchiveInFormat, IsArchiveAtRest, AreTablesOfVersion, format_of_version, newest_version, archive_of_version, archive_of}
+use Rattle.archive_store.specs.Held.{store_connection}
+use Rattle.archive_store.specs.Told.{HoldsArchive, HoldsTables, StoreHasCleanDisk, IsReady, archive_in, RelatesReadyArchives, RelatesReadyArchivesIfOpen, AnswersFromReadyStore}
 use Rattle.archive_store.specs.declared.store.Store.{Store}
 use Rattle.archive_store.proofs.Joins.{ready_with}
-use Rattle.archive_desk.specs.Holding.{GoesHeldIfOpen}
+use Rattle.archive_desk.specs.Holding.{RelatesTableArchivesIfOpen}
 use Rattle.archive_desk.proofs.CallLemmas.{calls_after}
-use Rattle.example_reopened.specs.Reopening.{HoldRows, TakesOver, LeadsTo, LeadsToIfOpen, WasReopened, Continues, ContinuesIfOpen, RemembersTheSame, AsksAgain}
+use Rattle.example_reopened.specs.Reopening.{FilesHoldClosedRows, StoreAdoptsFiles, RelatesFilesToStore, RelatesFilesToOpenStore}
+use Rattle.example_reopened.specs.Reopening.{WasReopened, RelatesAcrossReopen, RelatesAcrossReopenIfOpen, RemembersSameArchive, AnswersAfterReopen}
 
 -- the law of `archive_store`: a file that is closed and opened again holds the same archive
 abbrev AreAlike : {D : Type 0} → DiskGhosts D → Type 0
 AreAlike {D} g = (closed opened : Held (FileStore D g)) (files : Files D) (archive : Archive) → HoldsArchive over_files closed archive → IsLive (file_state closed)
     → (AreClean g files.log files.db → IsCopied closed files) → Finds files opened → IsOpened opened → HoldsArchive over_files opened archive
 
-newest_known : IsKnown newest_number
+newest_known : IsKnownVersion newest_version
 newest_known = record { least = omega (arith); most = omega (arith) }
 
 module _ {D : Type 0} {g : DiskGhosts D} where
   -- ---- closed, and opened again
 
   -- whatever the version, the tables are those that were there
-  tables_again : (number : ℕ) (closed opened : Held (FileStore D g)) (files : Files D) → IsHeldAs (form_of number) None (file_state closed) → IsLive (file_state closed)
+  tables_again : (number : ℕ) (closed opened : Held (FileStore D g)) (files : Files D) → IsOpenArchiveInFormat (format_of_version number) None (file_state closed) → IsLive (file_state closed)
       → (AreClean g files.log files.db → IsCopied closed files) → Finds files opened → IsOpened opened
-      → IsHeldAs (form_of number) None (file_state opened) × ((file_state opened).now.trees ≡ (file_state closed).now.trees)
+      → IsOpenArchiveInFormat (format_of_version number) None (file_state opened) × ((file_state opened).now.trees ≡ (file_state closed).now.trees)
   tables_again number closed opened files held live copied found opens =
       let trees : (file_state opened).now.trees ≡ (file_state closed).now.trees =
       ap (λ (db : Database). db.trees) opens.0.clean ∙ finds_again closed opened files copied found ∙ ap (λ (db : Database). db.trees) held.settled in
@@ -52,7 +53,7 @@ module _ {D : Type 0} {g : DiskGhosts D} where
           autocommit = opens.0.autocommit;
           settled = sym opens.0.clean;
           schema = schema ∙ held.schema;
-          tables = subst (AreTablesOf number) (sym trees) held.tables;
+          tables = subst (AreTablesOfVersion number) (sym trees) held.tables;
           whole = tt;
         },
         trees,
@@ -61,60 +62,60 @@ module _ {D : Type 0} {g : DiskGhosts D} where
   -- ---- opened and taken over
 
   pub takes_over : (files : Files D) (store : Store (FileStore D g)) (opened : Held (FileStore D g)) → (HasCleanDisk (file_state opened) → Finds files opened)
-      → (HasCleanDisk (file_state opened) → IsOpened opened) → (HasReturned over_files store → HasCleanDisk (file_state opened))
-      → (HasReturned over_files store → (number : ℕ) → IsKnown number → IsHeldAs (form_of number) None (file_state opened)
-      → IsKept (file_state (held_of store)) × (archive_of (file_state (held_of store)) ≡ archive_by number (file_state opened).now.trees))
-      → TakesOver files store
+      → (HasCleanDisk (file_state opened) → IsOpened opened) → (StoreHasCleanDisk over_files store → HasCleanDisk (file_state opened))
+      → (StoreHasCleanDisk over_files store → (number : ℕ) → IsKnownVersion number → IsOpenArchiveInFormat (format_of_version number) None (file_state opened)
+      → IsArchiveAtRest (file_state (store_connection store)) × (archive_of (file_state (store_connection store)) ≡ archive_of_version number (file_state opened).now.trees))
+      → StoreAdoptsFiles files store
   takes_over files store opened found opens clean brought returned = (opened, found (clean returned), opens (clean returned), brought returned)
 
   -- so it remembers what the rows of the files stood for
-  pub rows_to : (files : Files D) (store : Store (FileStore D g)) → TakesOver files store → HasReturned over_files store
-      → (archive : Archive) → HoldRows g files archive → HoldsTables over_files store × (archive_in over_files store ≡ archive)
+  pub rows_to : (files : Files D) (store : Store (FileStore D g)) → StoreAdoptsFiles files store → StoreHasCleanDisk over_files store
+      → (archive : Archive) → FilesHoldClosedRows g files archive → HoldsTables over_files store × (archive_in over_files store ≡ archive)
   rows_to files store takes returned archive held =
       let (opened, found, opens, brought) = takes returned in
       let again = tables_again held.number held.closed opened files held.tables held.live held.copied found opens in
       let it = brought held.number held.known again.0 in
-      (it.0, it.1 ∙ ap (archive_by held.number) again.1 ∙ held.stand_for)
+      (it.0, it.1 ∙ ap (archive_of_version held.number) again.1 ∙ held.rows_stand_for_archive)
 
   -- so it remembers what the files held
-  pub leads_to : (files : Files D) (store : Store (FileStore D g)) → TakesOver files store → LeadsTo files store (λ a b. b ≡ a)
+  pub leads_to : (files : Files D) (store : Store (FileStore D g)) → StoreAdoptsFiles files store → RelatesFilesToStore files store (λ a b. b ≡ a)
   leads_to files store takes returned archive held =
       let it = rows_to files store takes returned archive held.rows in
-      (ready_with over_files store archive it.0 it.1 held.filed_right, it.1)
+      (ready_with over_files store archive it.0 it.1 held.is_indexed_correctly, it.1)
 
   module _ (files : Files D) (mid new : Store (FileStore D g)) where
     -- after a call
-    pub leads_on : (R : Archive → Archive → Type 0) → LeadsTo files mid (λ a b. b ≡ a) → Goes over_files mid new R → LeadsTo files new R
+    pub leads_on : (R : Archive → Archive → Type 0) → RelatesFilesToStore files mid (λ a b. b ≡ a) → RelatesReadyArchives over_files mid new R → RelatesFilesToStore files new R
     leads_on R before goes returned archive held =
         let here = before (goes.0.returned returned) archive held in
         let there = goes.1 returned here.0 in
         (there.0, subst (λ a. R a (archive_in over_files new)) here.1 there.1)
 
-    pub leads_on_if_open : (R : Archive → Archive → Type 0) → LeadsTo files mid (λ a b. b ≡ a) → GoesIfOpen over_files mid new R → LeadsToIfOpen files new R
+    pub leads_on_if_open : (R : Archive → Archive → Type 0) → RelatesFilesToStore files mid (λ a b. b ≡ a) → RelatesReadyArchivesIfOpen over_files mid new R → RelatesFilesToOpenStore files new R
     leads_on_if_open R before goes returned archive held up =
         let here = before (goes.0.returned returned) archive held in
         let there = goes.1 returned here.0 up in
         (there.0, subst (λ a. R a (archive_in over_files new)) here.1 there.1)
 
     -- and after a close
-    pub leads_again : (R : Archive → Archive → Type 0) → LeadsTo files mid R → RemembersTheSame mid new → LeadsTo files new R
+    pub leads_again : (R : Archive → Archive → Type 0) → RelatesFilesToStore files mid R → RemembersSameArchive mid new → RelatesFilesToStore files new R
     leads_again R before same returned archive held =
         let here = before (same.0 returned) archive held in
         let there = same.1 returned here.0 in
         (there.0, subst (λ b. R archive b) (sym there.1) here.1)
 
     -- and after a request
-    pub leads_still : (R : Archive → Archive → Type 0) → LeadsTo files mid R → GoesHeldIfOpen over_files mid new (λ a b. b ≡ a) → LeadsToIfOpen files new R
+    pub leads_still : (R : Archive → Archive → Type 0) → RelatesFilesToStore files mid R → RelatesTableArchivesIfOpen over_files mid new (λ a b. b ≡ a) → RelatesFilesToOpenStore files new R
     leads_still R before goes returned archive held up =
         let here = before (goes.0.returned returned) archive held in
         let there = goes.1 returned here.0.held up in
-        (ready_with over_files new (archive_in over_files mid) there.0 there.1 here.0.filed_right, subst (λ b. R archive b) (sym there.1) here.1)
+        (ready_with over_files new (archive_in over_files mid) there.0 there.1 here.0.is_indexed_correctly, subst (λ b. R archive b) (sym there.1) here.1)
 
 -- ---- closed and opened again
 
 module _ {D : Type 0} {g : DiskGhosts D} (store again : Store (FileStore D g)) where
-  pub was_reopened : (files : Files D) → IsLive (file_state (held_of store)) → (AreClean g files.log files.db → IsCopied (held_of store) files)
-      → TakesOver files again → WasReopened store again
+  pub was_reopened : (files : Files D) → IsLive (file_state (store_connection store)) → (AreClean g files.log files.db → IsCopied (store_connection store) files)
+      → StoreAdoptsFiles files again → WasReopened store again
   was_reopened files live copied takes returned =
       let (opened, found, opens, brought) = takes returned in (
         opened,
@@ -124,26 +125,26 @@ module _ {D : Type 0} {g : DiskGhosts D} (store again : Store (FileStore D g)) w
           copied = copied;
           found = found;
           opens = opens;
-          adopted = λ archive holds now. let it = brought newest_number newest_known holds.0 in (it.0, it.1 ∙ holds.1);
+          adopted = λ archive holds now. let it = brought newest_version newest_known holds.0 in (it.0, it.1 ∙ holds.1);
         },
       )
 
   -- so it remembers the same archive
-  pub remembers : AreAlike g → WasReopened store again → RemembersTheSame store again
+  pub remembers : AreAlike g → WasReopened store again → RemembersSameArchive store again
   remembers law was = (
     λ returned. let it = (was returned).2 in (it.copied it.found.honest).was_clean,
     λ returned ready.
         let it = (was returned).2 in
-        let holds = law (held_of store) (was returned).0 (was returned).1 (archive_in over_files store) (ready.held, refl, ready.filed_right)
+        let holds = law (store_connection store) (was returned).0 (was returned).1 (archive_in over_files store) (ready.held, refl, ready.is_indexed_correctly)
         it.live it.copied it.found it.opens in
         let is = it.adopted (archive_in over_files store) holds returned in
-        (ready_with over_files again (archive_in over_files store) is.0 is.1 ready.filed_right, is.1),
+        (ready_with over_files again (archive_in over_files store) is.0 is.1 ready.is_indexed_correctly, is.1),
   )
 
 -- ---- asked
 
-module _ {D : Type 0} {g : DiskGhosts D} (old mid new : Store (FileStore D g)) (same : RemembersTheSame old mid) where
-  goes_again : (R : Archive → Archive → Type 0) → Goes over_files mid new R → Continues old new R
+module _ {D : Type 0} {g : DiskGhosts D} (old mid new : Store (FileStore D g)) (same : RemembersSameArchive old mid) where
+  goes_again : (R : Archive → Archive → Type 0) → RelatesReadyArchives over_files mid new R → RelatesAcrossReopen old new R
   goes_again R goes = (
     λ returned. same.0 (goes.0.returned returned),
     λ returned ready.
@@ -152,7 +153,7 @@ module _ {D : Type 0} {g : DiskGhosts D} (old mid new : Store (FileStore D g)) (
         (there.0, subst (λ a. R a (archive_in over_files new)) here.1 there.1),
   )
 
-  goes_again_if_open : (R : Archive → Archive → Type 0) → GoesIfOpen over_files mid new R → ContinuesIfOpen old new R
+  goes_again_if_open : (R : Archive → Archive → Type 0) → RelatesReadyArchivesIfOpen over_files mid new R → RelatesAcrossReopenIfOpen old new R
   goes_again_if_open R goes = (
     λ returned. same.0 (goes.0.returned returned),
     λ returned ready up.
@@ -163,21 +164,21 @@ module _ {D : Type 0} {g : DiskGhosts D} (old mid new : Store (FileStore D g)) (
 
   -- a question to a store that was closed and opened again
   pub asks_again : {A F R : Type 0} (reason : F → Option R) (refuses : Archive → Option R) (Says : Archive → A → Type 0) (result : Result A F)
-      → Asks over_files mid new reason result refuses Says → AsksAgain old new reason result refuses Says
+      → AnswersFromReadyStore over_files mid new reason result refuses Says → AnswersAfterReopen old new reason result refuses Says
   asks_again reason refuses Says (Ok answer) goes = goes_again (λ a b. (b ≡ a) × (refuses a ≡ None) × Says a answer) goes
   asks_again {R = R} reason refuses Says (Err fault) goes = by_reason (reason fault) goes
     where
       by_reason : (r : Option R)
-          → MatchOption r (GoesIfOpen over_files mid new (λ a b. b ≡ a)) (λ why. Goes over_files mid new (λ a b. (b ≡ a) × (refuses a ≡ Some why)))
-          → MatchOption r (ContinuesIfOpen old new (λ a b. b ≡ a)) (λ why. Continues old new (λ a b. (b ≡ a) × (refuses a ≡ Some why)))
+          → MatchOption r (RelatesReadyArchivesIfOpen over_files mid new (λ a b. b ≡ a)) (λ why. RelatesReadyArchives over_files mid new (λ a b. (b ≡ a) × (refuses a ≡ Some why)))
+          → MatchOption r (RelatesAcrossReopenIfOpen old new (λ a b. b ≡ a)) (λ why. RelatesAcrossReopen old new (λ a b. (b ≡ a) × (refuses a ≡ Some why)))
       by_reason None goes = goes_again_if_open (λ a b. b ≡ a) goes
       by_reason (Some why) goes = goes_again (λ a b. (b ≡ a) × (refuses a ≡ Some why)) goes
 
 -- a question behind another one that was answered, and is refused for the same reason
 pub both_asked : {S : Type 0} (g : Ghosts S) (old mid new : Store S) {A F R : Type 0} (reason : F → Option R) (refuses : Archive → Option R)
     (First : Archive → Type 0) (Says : Archive → A → Type 0) (result : Result A F)
-    → Goes g old mid (λ a b. (b ≡ a) × (refuses a ≡ None) × First a) → Asks g mid new reason result refuses Says
-    → Asks g old new reason result refuses (λ a answer. First a × Says a answer)
+    → RelatesReadyArchives g old mid (λ a b. (b ≡ a) × (refuses a ≡ None) × First a) → AnswersFromReadyStore g mid new reason result refuses Says
+    → AnswersFromReadyStore g old new reason result refuses (λ a answer. First a × Says a answer)
 both_asked g old mid new reason refuses First Says result before asks =
     calls_after g (IsReady g) old mid new reason (λ a b. (b ≡ a) × (refuses a ≡ None) × First a)
     (λ a b answer. (b ≡ a) × (refuses a ≡ None) × Says a answer) (λ a b answer. (b ≡ a) × (refuses a ≡ None) × (First a × Says a answer))

@@ -2,15 +2,15 @@
 use Rattle.std.specs.Prelude.{◌≡◌, List, map}
 use Rattle.sqlite_trees.specs.declared.memory.MemStore.{MemStore}
 use Rattle.sqlite.specs.Steps.{over_memory}
-use Rattle.archive_machine.specs.Runs.{run}
+use Rattle.archive_model.specs.Runs.{run}
 use Rattle.archive_tables.specs.Making.{empty_archive}
-use Rattle.archive_port.specs.Commands.{command_of}
-use Rattle.archive_store.specs.Told.{HasNoLimit, IsReady, archive_in}
+use Rattle.archive_port.specs.Commands.{spec_command}
+use Rattle.archive_store.specs.Told.{HasNoStepLimit, IsReady, archive_in}
 use Rattle.archive_port.specs.declared.commands.Command.{Command}
 use Rattle.archive_store.specs.declared.store.Store.{Store}
 
 -- It is ready, and remembers what the commands made of an empty archive; no limit is set on the steps of a query.
-pub record HoldsRun (commands : List Command) (store : Store MemStore) : Type 0 where
+pub record HoldsArchiveOfCommands (commands : List Command) (store : Store MemStore) : Type 0 where
   pub ready : IsReady over_memory store
-  pub remembers : archive_in over_memory store ≡ (run empty_archive (map command_of commands)).archive
-  pub unlimited : HasNoLimit over_memory store
+  pub remembers : archive_in over_memory store ≡ (run empty_archive (map spec_command commands)).archive
+  pub unlimited : HasNoStepLimit over_memory store

@@ -1,12 +1,12 @@
 //! Two questions of a reader, and the same of a store that was closed and opened again.
 ghost use Rattle.std.specs.Prelude.{◌≡◌, None, IfOk, IfErr};
-ghost use Rattle.archive_port.specs.Replies.{refusal};
-ghost use Rattle.archive_store.specs.Told.{Asks};
-ghost use Rattle.archive_desk.specs.Faults.{IsAskFault, ask_reason, reason};
-ghost use Rattle.example_reopened.specs.Reopening.{AsksAgain, ShowsBoth};
+ghost use Rattle.archive_port.specs.Replies.{refusal_of_fault};
+ghost use Rattle.archive_store.specs.Told.{AnswersFromReadyStore};
+ghost use Rattle.archive_desk.specs.Faults.{IsAskFault, ask_reason, refusal_reason};
+ghost use Rattle.example_reopened.specs.Reopening.{AnswersAfterReopen, ShowsMonthAndThreads};
 
 use crate::reopening::reopen;
-use archive_desk::{DeskFault, month, threads};
+use archive_desk::{DeskError, month, threads};
 use archive_results::{Ask, Line, TreeLine};
 use archive_store::{Store, StoreFault};
 use civil_time::Month;
@@ -17,7 +17,7 @@ use thread_core::Threader;
 
 /// What a reader is shown of a list: the messages of a month, and the threads of all.
 #[derive(Drop)]
-pub struct Shown {
+pub struct MonthAndThreads {
     /// The lines of the month, by the sent date.
     pub month: Vec<Line>,
     /// The rows of all threads.
@@ -32,9 +32,9 @@ pub fn month_and_threads<S: Alter, T: Threader>(
     ask: &Ask<'_>,
     asked: Month,
     threader: &T,
-) -> Result<Shown, DeskFault>
-    ensures listed { Asks S.Store store.old store.new reason result (λ a. ask_reason a ask.now)
-        (λ a shown. ShowsBoth a ask.now asked shown.month.items shown.threads.items) }
+) -> Result<MonthAndThreads, DeskError>
+    ensures listed { AnswersFromReadyStore S.Store store.old store.new refusal_reason result (λ a. ask_reason a ask.now)
+        (λ a shown. ShowsMonthAndThreads a ask.now asked shown.month.items shown.threads.items) }
     ensures fault { IfErr result (λ fault. IsAskFault fault) }
 {
     let lines = match month(store, alloc, ask, asked) {
@@ -42,7 +42,7 @@ pub fn month_and_threads<S: Alter, T: Threader>(
         Err(fault) => return Err(fault),
     };
     match threads(store, alloc, ask, threader) {
-        Ok(rows) => Ok(Shown {
+        Ok(rows) => Ok(MonthAndThreads {
             month: lines,
             threads: rows,
         }),
@@ -59,12 +59,12 @@ pub fn reopen_and_ask<D: Disk + Drop, T: Threader>(
     ask: &Ask<'_>,
     asked: Month,
     threader: &T,
-) -> Result<(Store<FileStore<D>>, Result<Shown, DeskFault>), StoreFault>
-    ensures answered { IfOk result (λ told. AsksAgain store told.0 reason told.1
+) -> Result<(Store<FileStore<D>>, Result<MonthAndThreads, DeskError>), StoreFault>
+    ensures answered { IfOk result (λ told. AnswersAfterReopen store told.0 refusal_reason told.1
         (λ a. ask_reason a ask.now)
-        (λ a shown. ShowsBoth a ask.now asked shown.month.items shown.threads.items)) }
+        (λ a shown. ShowsMonthAndThreads a ask.now asked shown.month.items shown.threads.items)) }
     ensures why { IfOk result (λ told. IfErr told.1 (λ fault. IsAskFault fault)) }
-    ensures fault { IfErr result (λ fault. refusal fault ≡ None) }
+    ensures fault { IfErr result (λ fault. refusal_of_fault fault ≡ None) }
 {
     let mut again = match reopen(store, alloc, options) {
         Ok(again) => again,

@@ -1,10 +1,10 @@
 //! An import into files that are then closed and opened again, and a request to them.
 ghost use Rattle.std.specs.Prelude.{◌≡◌, IfOk, IfErr, OnOk, IsTrue};
 ghost use Rattle.archive_desk.specs.Importing.{IsImported};
-ghost use Rattle.archive_pages.specs.Replies.{IsServeStop};
-ghost use Rattle.archive_pages.specs.Running.{AnswersFrom};
-ghost use Rattle.example_reopened.specs.Importing.{IsStopped, OfImported};
-ghost use Rattle.example_reopened.specs.Reopening.{LeadsTo, LeadsToIfOpen};
+ghost use Rattle.archive_pages.specs.Replies.{HasServeFaultCause};
+ghost use Rattle.archive_pages.specs.Headline.{AnswersRequestFromArchive};
+ghost use Rattle.example_reopened.specs.Importing.{IsReimportError, IsTrueOfImportedArchive};
+ghost use Rattle.example_reopened.specs.Reopening.{RelatesFilesToStore, RelatesFilesToOpenStore};
 
 use crate::reopening::{open, reopen};
 use archive_desk::{ImportStop, Report, import};
@@ -21,7 +21,7 @@ use thread_core::Threader;
 
 /// Why files were not imported into, and opened again.
 #[derive(Drop)]
-pub enum AgainStop<S: Alter> {
+pub enum ReimportError<S: Alter> {
     /// E14 or E15: they were not opened, not closed or not opened again.
     Store(StoreFault),
     /// The import stopped: the store that it left, and why.
@@ -36,24 +36,24 @@ pub fn import_and_reopen<D: Disk + Drop>(
     options: Options,
     list: &str,
     mbox: &[u8],
-) -> Result<(Store<FileStore<D>>, Report), AgainStop<FileStore<D>>>
+) -> Result<(Store<FileStore<D>>, Report), ReimportError<FileStore<D>>>
     requires log { IsTrue (D.Disk.is_usable files.log) }
     requires db { IsTrue (D.Disk.is_usable files.db) }
-    ensures imported { IfOk result (λ done. LeadsTo files done.0
+    ensures imported { IfOk result (λ done. RelatesFilesToStore files done.0
         (λ a b. IsImported list.now mbox.now a b done.1)) }
-    ensures stopped { IfErr result (λ stop. IsStopped files list.now mbox.now stop) }
+    ensures stopped { IfErr result (λ stop. IsReimportError files list.now mbox.now stop) }
 {
     let mut store = match open(alloc, files, options) {
         Ok(store) => store,
-        Err(fault) => return Err(AgainStop::Store(fault)),
+        Err(fault) => return Err(ReimportError::Store(fault)),
     };
     let report = match import(&mut store, alloc, list, mbox) {
         Ok(report) => report,
-        Err(stop) => return Err(AgainStop::Import(store, stop)),
+        Err(stop) => return Err(ReimportError::Import(store, stop)),
     };
     match reopen(store, alloc, options) {
         Ok(again) => Ok((again, report)),
-        Err(fault) => Err(AgainStop::Store(fault)),
+        Err(fault) => Err(ReimportError::Store(fault)),
     }
 }
 
@@ -70,22 +70,25 @@ pub fn import_reopen_and_answer<D: Disk + Drop, T: Threader, R: Source, W: Sink>
     day: Day,
     input: &mut R,
     output: &mut W,
-) -> Result<(Store<FileStore<D>>, Report, Result<StatusCode, ServeFault>), AgainStop<FileStore<D>>>
+) -> Result<
+    (Store<FileStore<D>>, Report, Result<StatusCode, ServeFault>),
+    ReimportError<FileStore<D>>,
+>
     requires log { IsTrue (D.Disk.is_usable files.log) }
     requires db { IsTrue (D.Disk.is_usable files.db) }
-    ensures answered { IfOk result (λ told. OfImported files told.0 list.now mbox.now told.1
-        (λ archive. AnswersFrom archive policy.now day
+    ensures answered { IfOk result (λ told. IsTrueOfImportedArchive files told.0 list.now mbox.now told.1
+        (λ archive. AnswersRequestFromArchive archive policy.now day
         (R.told input.old) (R.told input.new) (R.ends input.old) (R.ends input.new)
         (W.told output.old) (W.told output.new) told.2)) }
-    ensures stays { IfOk result (λ told. LeadsToIfOpen files told.0
+    ensures stays { IfOk result (λ told. RelatesFilesToOpenStore files told.0
         (λ a b. IsImported list.now mbox.now a b told.1)) }
     ensures quiet { IfOk result (λ told. OnOk told.2
         ((R.failures input.new ≡ R.failures input.old)
         × (W.failures output.new ≡ W.failures output.old))) }
-    ensures cause { IfOk result (λ told. IfErr told.2 (λ fault. IsServeStop
+    ensures cause { IfOk result (λ told. IfErr told.2 (λ fault. HasServeFaultCause
         (W.told output.old) (W.told output.new) (R.failures input.old) (R.failures input.new)
         (W.failures output.old) (W.failures output.new) fault)) }
-    ensures stopped { IfErr result (λ stop. IsStopped files list.now mbox.now stop
+    ensures stopped { IfErr result (λ stop. IsReimportError files list.now mbox.now stop
         × (input.new ≡ input.old) × (output.new ≡ output.old)) }
 {
     let (mut again, report) = match import_and_reopen(alloc, files, options, list, mbox) {

@@ -1,17 +1,17 @@
 //! Commands, an import, a withdrawal and two requests, over a store in memory: nothing is asked of a disk.
 ghost use Rattle.std.specs.Prelude.{◌≡◌, ◌⊎◌, ◌<◌, map, IfOk, IfErr};
-ghost use Rattle.archive_machine.specs.Runs.{run};
-ghost use Rattle.archive_pages.specs.Causes.{IsUnserved};
-ghost use Rattle.archive_store.specs.Held.{wants_of};
-ghost use Rattle.archive_port.specs.Commands.{command_of};
+ghost use Rattle.archive_model.specs.Runs.{run};
+ghost use Rattle.archive_pages.specs.Causes.{Sent503OrBrokeOff};
+ghost use Rattle.archive_store.specs.Held.{memory_refusal_count};
+ghost use Rattle.archive_port.specs.Commands.{spec_command};
 ghost use Rattle.archive_tables.specs.Making.{empty_archive};
-ghost use Rattle.example_reopened.specs.Memory.{HoldsRun};
-ghost use Rattle.example_reopened.specs.Withdrawing.{AnswersBehind};
+ghost use Rattle.example_reopened.specs.Memory.{HoldsArchiveOfCommands};
+ghost use Rattle.example_reopened.specs.Withdrawing.{AnswersAfterWithdrawal};
 
-use crate::withdrawing::{Answered, WithdrawStop, Withdrawal, import_withdraw_and_answer};
+use crate::withdrawing::{TwoAnswers, WithdrawError, Withdrawal, import_withdraw_and_answer};
 use archive_desk::Report;
 use archive_desk::laws::{the_commands_of_a_run_are_said, what_commands_write_can_be_read};
-use archive_pages::Peer;
+use archive_pages::Client;
 use archive_pages::laws::{
     in_memory_503_means_that_memory_was_refused, in_memory_each_request_is_followed_by_the_next,
 };
@@ -26,16 +26,16 @@ use thread_core::Threader;
 
 /// Why nobody was answered.
 #[derive(Drop)]
-pub enum MemoryStop {
+pub enum InMemoryError {
     /// E14 or E15: there is no store, or the commands were not carried out.
     Store(StoreFault),
     /// Nothing was withdrawn.
-    Withdraw(WithdrawStop),
+    Withdraw(WithdrawError),
 }
 
 /// A store in memory in which these commands were carried out.
 fn run_in_memory(alloc: Global, commands: &[Command<'_>]) -> Result<Store<MemStore>, StoreFault>
-    ensures { IfOk result (λ store. HoldsRun commands.now store) }
+    ensures { IfOk result (λ store. HoldsArchiveOfCommands commands.now store) }
 {
     let mut store = Store::open_in_memory(alloc)?;
     match store.run(alloc, commands) {
@@ -54,13 +54,13 @@ pub fn import_withdraw_and_answer_in_memory<T: Threader, R: Source, W: Sink>(
     policy: &Policy,
     threader: &T,
     day: Day,
-    first: &mut Peer<R, W>,
-    second: &mut Peer<R, W>,
-) -> Result<(Store<MemStore>, Report, Answered), MemoryStop>
-    ensures answered { IfOk result (λ told. AnswersBehind R.Source W.Sink withdrawal.now policy.now day
-        (run empty_archive (map command_of commands.now)).archive first.old first.new second.old second.new told.1 told.2) }
-    ensures caused { IfOk result (λ told. IsUnserved told.2.first ⊎ IsUnserved told.2.second
-        → 0 < wants_of told.0) }
+    first: &mut Client<R, W>,
+    second: &mut Client<R, W>,
+) -> Result<(Store<MemStore>, Report, TwoAnswers), InMemoryError>
+    ensures answered { IfOk result (λ told. AnswersAfterWithdrawal R.Source W.Sink withdrawal.now policy.now day
+        (run empty_archive (map spec_command commands.now)).archive first.old first.new second.old second.new told.1 told.2) }
+    ensures caused { IfOk result (λ told. Sent503OrBrokeOff told.2.first ⊎ Sent503OrBrokeOff told.2.second
+        → 0 < memory_refusal_count told.0) }
     ensures stopped { IfErr result (λ _. (first.new ≡ first.old) × (second.new ≡ second.old)) }
 {
     in_memory_503_means_that_memory_was_refused();
@@ -70,12 +70,12 @@ pub fn import_withdraw_and_answer_in_memory<T: Threader, R: Source, W: Sink>(
     divided_are_items();
     let mut store = match run_in_memory(alloc, commands) {
         Ok(store) => store,
-        Err(fault) => return Err(MemoryStop::Store(fault)),
+        Err(fault) => return Err(InMemoryError::Store(fault)),
     };
     match import_withdraw_and_answer(
         &mut store, alloc, withdrawal, policy, threader, day, first, second,
     ) {
         Ok((report, answered)) => Ok((store, report, answered)),
-        Err(stop) => Err(MemoryStop::Withdraw(stop)),
+        Err(stop) => Err(InMemoryError::Withdraw(stop)),
     }
 }

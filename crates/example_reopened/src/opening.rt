@@ -1,11 +1,11 @@
 //! Opening files of whatever version, and a request to them.
 ghost use Rattle.std.specs.Prelude.{◌≡◌, None, IfOk, IfErr, IsTrue};
-ghost use Rattle.archive_pages.specs.Calls.{AnswersPeer};
-ghost use Rattle.archive_port.specs.Replies.{refusal};
-ghost use Rattle.example_reopened.specs.Opening.{EndsOpened, OfHeld, OfRun};
+ghost use Rattle.archive_pages.specs.Calls.{AnswersClient};
+ghost use Rattle.archive_port.specs.Replies.{refusal_of_fault};
+ghost use Rattle.example_reopened.specs.Opening.{EndsAnswerAfterOpening, IsTrueOfArchiveInFiles, IsTrueOfArchiveByCommands};
 
 use crate::reopening::open;
-use archive_pages::{Peer, ServeFault, answer};
+use archive_pages::{Client, ServeFault, answer};
 use archive_store::{Store, StoreFault};
 use civil_time::Day;
 use http::StatusCode;
@@ -26,16 +26,16 @@ pub fn open_and_answer<D: Disk + Drop, T: Threader, R: Source, W: Sink>(
     policy: &Policy,
     threader: &T,
     day: Day,
-    peer: &mut Peer<R, W>,
+    peer: &mut Client<R, W>,
 ) -> Result<(Store<FileStore<D>>, Result<StatusCode, ServeFault>), StoreFault>
     requires log { IsTrue (D.Disk.is_usable files.log) }
     requires db { IsTrue (D.Disk.is_usable files.db) }
-    ensures answered { IfOk result (λ told. OfHeld files told.0
-        (λ archive. AnswersPeer R.Source W.Sink archive policy.now day peer.old peer.new told.1)) }
-    ensures commanded { IfOk result (λ told. OfRun files told.0
-        (λ archive. AnswersPeer R.Source W.Sink archive policy.now day peer.old peer.new told.1)) }
-    ensures ends { IfOk result (λ told. EndsOpened files told.0 R.Source W.Sink peer.old peer.new told.1) }
-    ensures stopped { IfErr result (λ fault. (refusal fault ≡ None) × (peer.new ≡ peer.old)) }
+    ensures answered { IfOk result (λ told. IsTrueOfArchiveInFiles files told.0
+        (λ archive. AnswersClient R.Source W.Sink archive policy.now day peer.old peer.new told.1)) }
+    ensures commanded { IfOk result (λ told. IsTrueOfArchiveByCommands files told.0
+        (λ archive. AnswersClient R.Source W.Sink archive policy.now day peer.old peer.new told.1)) }
+    ensures ends { IfOk result (λ told. EndsAnswerAfterOpening files told.0 R.Source W.Sink peer.old peer.new told.1) }
+    ensures stopped { IfErr result (λ fault. (refusal_of_fault fault ≡ None) × (peer.new ≡ peer.old)) }
 {
     let mut store = open(alloc, files, options)?;
     let answered = answer(

@@ -4,10 +4,10 @@ ghost use Rattle.sqlite_wal.specs.Reads.{AreClean};
 ghost use Rattle.sqlite.specs.Closing.{IsCopied};
 ghost use Rattle.sqlite.specs.Files.{over_files, file_state, Finds, IsOpened};
 ghost use Rattle.sqlite.specs.State.{HasCleanDisk, IsLive};
-ghost use Rattle.archive_store.specs.Held.{held_of};
-ghost use Rattle.archive_port.specs.Replies.{refusal};
-ghost use Rattle.archive_store.specs.Told.{HasNoLimit};
-ghost use Rattle.example_reopened.specs.Reopening.{RemembersTheSame, TakesOver, WasReopened};
+ghost use Rattle.archive_store.specs.Held.{store_connection};
+ghost use Rattle.archive_port.specs.Replies.{refusal_of_fault};
+ghost use Rattle.archive_store.specs.Told.{HasNoStepLimit};
+ghost use Rattle.example_reopened.specs.Reopening.{RemembersSameArchive, StoreAdoptsFiles, WasReopened};
 
 use archive_store::laws::a_file_opened_again_holds_the_same_archive;
 use archive_store::{AdoptStop, Store, StoreFault, database_fault};
@@ -17,12 +17,12 @@ use std::alloc::Global;
 
 /// Closes a store, and hands its files back.
 fn close<D: Disk + Drop>(store: Store<FileStore<D>>) -> Result<Files<D>, StoreFault>
-    ensures live { IsLive (file_state (held_of store)) }
+    ensures live { IsLive (file_state (store_connection store)) }
     ensures usable { IfOk result (λ files. IsTrue (D.Disk.is_usable files.log)
         × IsTrue (D.Disk.is_usable files.db)) }
     ensures copied { IfOk result (λ files. AreClean D.Disk files.log files.db
-        → IsCopied (held_of store) files) }
-    ensures fault { IfErr result (λ fault. refusal fault ≡ None) }
+        → IsCopied (store_connection store) files) }
+    ensures fault { IfErr result (λ fault. refusal_of_fault fault ≡ None) }
 {
     let connection = store.into_connection();
     // It says that an open connection is to a database.
@@ -43,7 +43,7 @@ fn connect<D: Disk + Drop>(
     requires db { IsTrue (D.Disk.is_usable files.db) }
     ensures opened { IfOk result (λ c. HasCleanDisk (file_state c) → IsOpened c) }
     ensures found { IfOk result (λ c. HasCleanDisk (file_state c) → Finds files c) }
-    ensures fault { IfErr result (λ fault. refusal fault ≡ None) }
+    ensures fault { IfErr result (λ fault. refusal_of_fault fault ≡ None) }
 {
     match Connection::open_files(alloc, files, options) {
         Ok(connection) => Ok(connection),
@@ -59,9 +59,9 @@ pub(crate) fn open<D: Disk + Drop>(
 ) -> Result<Store<FileStore<D>>, StoreFault>
     requires log { IsTrue (D.Disk.is_usable files.log) }
     requires db { IsTrue (D.Disk.is_usable files.db) }
-    ensures opened { IfOk result (λ store. TakesOver files store) }
-    ensures unlimited { IfOk result (λ store. HasNoLimit over_files store) }
-    ensures fault { IfErr result (λ fault. refusal fault ≡ None) }
+    ensures opened { IfOk result (λ store. StoreAdoptsFiles files store) }
+    ensures unlimited { IfOk result (λ store. HasNoStepLimit over_files store) }
+    ensures fault { IfErr result (λ fault. refusal_of_fault fault ≡ None) }
 {
     let connection = match connect(alloc, files, options) {
         Ok(connection) => connection,
@@ -86,9 +86,9 @@ pub fn reopen<D: Disk + Drop>(
     options: Options,
 ) -> Result<Store<FileStore<D>>, StoreFault>
     ensures reopened { IfOk result (λ again. WasReopened store again) }
-    ensures same { IfOk result (λ again. RemembersTheSame store again) }
-    ensures unlimited { IfOk result (λ again. HasNoLimit over_files again) }
-    ensures fault { IfErr result (λ fault. refusal fault ≡ None) }
+    ensures same { IfOk result (λ again. RemembersSameArchive store again) }
+    ensures unlimited { IfOk result (λ again. HasNoStepLimit over_files again) }
+    ensures fault { IfErr result (λ fault. refusal_of_fault fault ≡ None) }
 {
     a_file_opened_again_holds_the_same_archive::<D>();
     match close(store) {

@@ -1,17 +1,17 @@
 //! An import, a withdrawal behind it, and two requests behind that, over one store.
 ghost use Rattle.std.specs.Prelude.{◌≡◌, IfOk, IfErr};
-ghost use Rattle.archive_pages.specs.Calls.{AnswersPeer};
-ghost use Rattle.archive_store.specs.Told.{Counts, Goes, HasReturned, HoldsTables, IsReady, archive_in};
-ghost use Rattle.example_reopened.specs.Withdrawing.{AnswersBehind, EndsBehind, EndsBoth, IsStopped, IsWithdrawn, IsWithdrawWant};
+ghost use Rattle.archive_pages.specs.Calls.{AnswersClient};
+ghost use Rattle.archive_store.specs.Told.{CountsRefusals, RelatesReadyArchives, StoreHasCleanDisk, HoldsTables, IsReady, archive_in};
+ghost use Rattle.example_reopened.specs.Withdrawing.{AnswersAfterWithdrawal, EndsAnswersAfterWithdrawal, EndsTwoAnswers, IsWithdrawError, ImportsAndWithdraws, IsWithdrawOutOfMemory};
 
 use archive_desk::{ImportStop, Report, import};
 use archive_pages::laws::what_is_withdrawn_might_never_have_come;
-use archive_pages::{Peer, ServeFault, answer};
+use archive_pages::{Client, ServeFault, answer};
 use archive_store::{Key, Store, StoreFault};
 use civil_time::Day;
 use http::StatusCode;
 use mbox_core::device::{Sink, Source};
-use policy_core::{Party, Policy};
+use policy_core::{Policy, WithdrawnBy};
 use sqlite::Alter;
 use std::alloc::Global;
 use thread_core::Threader;
@@ -26,12 +26,12 @@ pub struct Withdrawal<'a> {
     /// The key of the message that is withdrawn.
     pub key: &'a Key,
     /// Who withdraws it.
-    pub by: Party,
+    pub by: WithdrawnBy,
 }
 
 /// Why nothing was withdrawn.
 #[derive(Drop)]
-pub enum WithdrawStop {
+pub enum WithdrawError {
     /// The import stopped.
     Import(ImportStop),
     /// E4, E8, E9, E14 or E15, behind an import of which this was told.
@@ -40,7 +40,7 @@ pub enum WithdrawStop {
 
 /// How two requests ended, one behind the other.
 #[derive(Drop)]
-pub struct Answered {
+pub struct TwoAnswers {
     /// The first of them.
     pub first: Result<StatusCode, ServeFault>,
     /// The one behind it.
@@ -52,20 +52,20 @@ pub fn import_and_withdraw<S: Alter>(
     store: &mut Store<S>,
     alloc: Global,
     withdrawal: &Withdrawal<'_>,
-) -> Result<Report, WithdrawStop>
-    ensures done { IfOk result (λ report. Goes S.Store store.old store.new
-        (λ a b. IsWithdrawn withdrawal.now a b report)) }
-    ensures stopped { IfErr result (λ stop. IsStopped S.Store store.old store.new withdrawal.now stop) }
-    ensures counted { Counts IsWithdrawWant store.old store.new result }
+) -> Result<Report, WithdrawError>
+    ensures done { IfOk result (λ report. RelatesReadyArchives S.Store store.old store.new
+        (λ a b. ImportsAndWithdraws withdrawal.now a b report)) }
+    ensures stopped { IfErr result (λ stop. IsWithdrawError S.Store store.old store.new withdrawal.now stop) }
+    ensures counted { CountsRefusals IsWithdrawOutOfMemory store.old store.new result }
 {
     what_is_withdrawn_might_never_have_come();
     let report = match import(store, alloc, withdrawal.list, withdrawal.mbox) {
         Ok(report) => report,
-        Err(stop) => return Err(WithdrawStop::Import(stop)),
+        Err(stop) => return Err(WithdrawError::Import(stop)),
     };
     match store.withdraw(withdrawal.list, withdrawal.key, withdrawal.by) {
         Ok(()) => Ok(report),
-        Err(fault) => Err(WithdrawStop::Withdraw(report, fault)),
+        Err(fault) => Err(WithdrawError::Withdraw(report, fault)),
     }
 }
 
@@ -77,14 +77,14 @@ pub(crate) fn answer_both<S: Alter, T: Threader, R: Source, W: Sink>(
     policy: &Policy,
     threader: &T,
     day: Day,
-    first: &mut Peer<R, W>,
-    second: &mut Peer<R, W>,
-) -> Answered
-    ensures first { HasReturned S.Store store.new → HoldsTables S.Store store.old
-        → AnswersPeer R.Source W.Sink (archive_in S.Store store.old) policy.now day first.old first.new result.first }
-    ensures second { HasReturned S.Store store.new → HoldsTables S.Store store.old
-        → AnswersPeer R.Source W.Sink (archive_in S.Store store.old) policy.now day second.old second.new result.second }
-    ensures ends { EndsBoth R.Source W.Sink S.Store policy.now day store.old store.new
+    first: &mut Client<R, W>,
+    second: &mut Client<R, W>,
+) -> TwoAnswers
+    ensures first { StoreHasCleanDisk S.Store store.new → HoldsTables S.Store store.old
+        → AnswersClient R.Source W.Sink (archive_in S.Store store.old) policy.now day first.old first.new result.first }
+    ensures second { StoreHasCleanDisk S.Store store.new → HoldsTables S.Store store.old
+        → AnswersClient R.Source W.Sink (archive_in S.Store store.old) policy.now day second.old second.new result.second }
+    ensures ends { EndsTwoAnswers R.Source W.Sink S.Store policy.now day store.old store.new
         first.old first.new second.old second.new result }
 {
     let one = answer(
@@ -105,7 +105,7 @@ pub(crate) fn answer_both<S: Alter, T: Threader, R: Source, W: Sink>(
         &mut second.input,
         &mut second.output,
     );
-    Answered {
+    TwoAnswers {
         first: one,
         second: other,
     }
@@ -121,18 +121,18 @@ pub fn import_withdraw_and_answer<S: Alter, T: Threader, R: Source, W: Sink>(
     policy: &Policy,
     threader: &T,
     day: Day,
-    first: &mut Peer<R, W>,
-    second: &mut Peer<R, W>,
-) -> Result<(Report, Answered), WithdrawStop>
-    ensures answered { IfOk result (λ told. HasReturned S.Store store.new
+    first: &mut Client<R, W>,
+    second: &mut Client<R, W>,
+) -> Result<(Report, TwoAnswers), WithdrawError>
+    ensures answered { IfOk result (λ told. StoreHasCleanDisk S.Store store.new
         → IsReady S.Store store.old
-        → AnswersBehind R.Source W.Sink withdrawal.now policy.now day (archive_in S.Store store.old)
+        → AnswersAfterWithdrawal R.Source W.Sink withdrawal.now policy.now day (archive_in S.Store store.old)
         first.old first.new second.old second.new told.0 told.1) }
-    ensures ends { IfOk result (λ told. EndsBehind R.Source W.Sink S.Store policy.now day
+    ensures ends { IfOk result (λ told. EndsAnswersAfterWithdrawal R.Source W.Sink S.Store policy.now day
         store.old store.new withdrawal.now first.old first.new second.old second.new told.0 told.1) }
-    ensures stopped { IfErr result (λ stop. IsStopped S.Store store.old store.new withdrawal.now stop
+    ensures stopped { IfErr result (λ stop. IsWithdrawError S.Store store.old store.new withdrawal.now stop
         × (first.new ≡ first.old) × (second.new ≡ second.old)) }
-    ensures counted { Counts IsWithdrawWant store.old store.new result }
+    ensures counted { CountsRefusals IsWithdrawOutOfMemory store.old store.new result }
 {
     let report = import_and_withdraw(store, alloc, withdrawal)?;
     let answered = answer_both(store, alloc, policy, threader, day, first, second);

@@ -23,44 +23,44 @@ use Rattle.sqlite.specs.Held.{Held, AreDatabases}
 use Rattle.sqlite.specs.State.{HasCleanDisk}
 use Rattle.sqlite.specs.Files.{over_files, file_state, image_of, Finds, IsOpened}
 use Rattle.sqlite.proofs.Theorems.{opens_again}
-use Rattle.archive_machine.specs.Records.{Archive}
-use Rattle.archive_machine.specs.Commands.{Reply}
-use Rattle.archive_machine.specs.Machine.{Outcome}
-use Rattle.archive_machine.specs.Sound.{IsFiledRight}
+use Rattle.archive_model.specs.Records.{Archive}
+use Rattle.archive_model.specs.Commands.{CommandReply}
+use Rattle.archive_model.specs.Machine.{StepOutcome}
+use Rattle.archive_model.specs.Sound.{IsIndexedCorrectly}
 use Rattle.archive_tables.specs.Schema.{archive_schema}
-use Rattle.archive_tables.specs.Tables.{IsKept, AreTables, archive_in, archive_of}
-use Rattle.archive_tables.specs.Crashes.{IsStored, AddsOnly}
+use Rattle.archive_tables.specs.Tables.{IsArchiveAtRest, AreArchiveTables, archive_in_trees, archive_of}
+use Rattle.archive_tables.specs.Crashes.{IsArchiveStored, CrashAddsOnly}
 use Rattle.archive_store.specs.Adopting.{IsAdopted}
-use Rattle.archive_store.specs.Held.{held_of}
-use Rattle.archive_store.specs.Replies.{Does, Steps}
-use Rattle.archive_store.specs.Told.{HasReturned}
+use Rattle.archive_store.specs.Held.{store_connection}
+use Rattle.archive_store.specs.Replies.{PerformsModelStep, MatchesModelStep}
+use Rattle.archive_store.specs.Told.{StoreHasCleanDisk}
 use Rattle.archive_store.specs.declared.store.Store.{Store}
 use Rattle.archive_store.proofs.Joins.{ready_with}
-use Rattle.example_stopped.specs.Stopping.{Hold, Remembers, IsOpenedFrom, IsLeftOf, IsFoundBehind, IsStoppedIn}
+use Rattle.example_stopped.specs.Stopping.{FilesHoldArchive, RemembersDurably, IsOpenedFrom, AreFilesAfterCrash, IsReopenedAfterCrash, CommandSurvivesCrash}
 
 -- a database that stores an archive, and another that is the same
-same_stored : (a b : Archive) (there db : Trees) → db ≡ there → IsStored a there → b ≡ a → IsStored b db
+same_stored : (a b : Archive) (there db : Trees) → db ≡ there → IsArchiveStored a there → b ≡ a → IsArchiveStored b db
 same_stored a b there db is stored same = record {
   lists = subst (λ (t : Trees). Lists (t catalog_tree) archive_schema) (sym is) stored.lists;
-  tables = subst AreTables (sym is) stored.tables;
-  remembers = ap archive_in is ∙ stored.remembers ∙ sym same;
+  tables = subst AreArchiveTables (sym is) stored.tables;
+  remembers = ap archive_in_trees is ∙ stored.remembers ∙ sym same;
 }
 
 -- what an open finds of this archive and of the one that the machine makes of it
-abbrev Found : (before : Archive) (step : Archive → Outcome) → Option Reply → Trees → Type 0
+abbrev Found : (before : Archive) (step : Archive → StepOutcome) → Option CommandReply → Trees → Type 0
 Found before step reply db = (archive : Archive) × MatchOption reply ((archive ≡ before) ⊎ (archive ≡ (step before).0)) (λ told. (archive, told) ≡ step before)
-    × IsStored archive db × IsFiledRight archive
+    × IsArchiveStored archive db × IsIndexedCorrectly archive
 
 module _ {D : Type 0} {g : Ghosts D} where
   -- ---- the machine stops
 
   -- the connection is that of the store
-  pub quiet_of : (store : Store (FileStore D g)) (connection : Held (FileStore D g)) (back : FileStore D g) → connection ≡ held_of store
-      → IsQuiet view faults recovers is_shielded connection.store back → IsQuiet view faults recovers is_shielded (held_of store).store back
+  pub quiet_of : (store : Store (FileStore D g)) (connection : Held (FileStore D g)) (back : FileStore D g) → connection ≡ store_connection store
+      → IsQuiet view faults recovers is_shielded connection.store back → IsQuiet view faults recovers is_shielded (store_connection store).store back
   quiet_of store connection back is quiet = subst (λ (h : Held (FileStore D g)). IsQuiet view faults recovers is_shielded h.store back) is quiet
 
   -- a store that gives its files back, and each of them crashes
-  module _ (store : Store (FileStore D g)) (back : FileStore D g) (log db log' db' : D) (quiet : IsQuiet view faults recovers is_shielded (held_of store).store back)
+  module _ (store : Store (FileStore D g)) (back : FileStore D g) (log db log' db' : D) (quiet : IsQuiet view faults recovers is_shielded (store_connection store).store back)
       (is : (log, db) ≡ files_of back) (log_clean : IsTrue (g.is_clean log') → IsTrue (g.is_clean log)) (db_clean : IsTrue (g.is_clean db') → IsTrue (g.is_clean db)) where
     back_clean : AreClean g log' db' → AreClean g (files_of back).0 (files_of back).1
     back_clean honest =
@@ -71,7 +71,7 @@ module _ {D : Type 0} {g : Ghosts D} where
     no_doubt_of honest = no_doubt _ (clean_is back.pool ∙ back_clean honest)
 
     pub left_of : (IsClean (view back) → IsTrue (view back).is_numbered) → (IsClean (view back) → AreDatabases (recovers back))
-        → g.may_leave log (g.seen log') → g.may_leave db (g.seen db') → IsLeftOf store (record { log = log'; db = db' })
+        → g.may_leave log (g.seen log') → g.may_leave db (g.seen db') → AreFilesAfterCrash store (record { log = log'; db = db' })
     left_of numbered sound log_left db_left = record {
       clean = λ honest. let none = no_doubt_of honest in omega (arith, quiet.clean, none);
       found = λ honest.
@@ -84,35 +84,35 @@ module _ {D : Type 0} {g : Ghosts D} where
   -- ---- files are opened
 
   -- what a stop leaves of an open store is what it sees
-  now_is : SeenMayStay g → (c : Held (FileStore D g)) → IsKept (file_state c) → (db : Trees) → (file_state c).may_leave db → db ≡ (file_state c).now.trees
+  now_is : SeenMayStay g → (c : Held (FileStore D g)) → IsArchiveAtRest (file_state c) → (db : Trees) → (file_state c).may_leave db → db ≡ (file_state c).now.trees
   now_is stays c kept db may = settled_at c.store stays db kept.is_open may ∙ ap (λ (d : Database). d.trees) kept.settled
 
   -- a connection that was opened from files which hold an archive
-  kept_from : (files : Files D) (opened : Held (FileStore D g)) (archive : Archive) → Finds files opened → IsOpened opened → (held : Hold g files archive)
-      → (file_state opened).now.trees ≡ held.db → IsKept (file_state opened)
+  kept_from : (files : Files D) (opened : Held (FileStore D g)) (archive : Archive) → Finds files opened → IsOpened opened → (held : FilesHoldArchive g files archive)
+      → (file_state opened).now.trees ≡ held.db → IsArchiveAtRest (file_state opened)
   kept_from files opened archive found opens held is =
       let lists = (opens.1 opens.0.is_open).0.lists in record {
         is_open = opens.0.is_open;
         autocommit = opens.0.autocommit;
         settled = sym opens.0.clean;
         schema = lists_once _ _ _ (subst (λ (t : Trees). Lists (t catalog_tree) (file_state opened).now.schema) is lists) held.stored.lists;
-        tables = subst AreTables (sym is) held.stored.tables;
+        tables = subst AreArchiveTables (sym is) held.stored.tables;
         whole = tt;
       }
 
   -- and that was taken over
   remembers_it : SeenMayStay g → (files : Files D) (opened : Held (FileStore D g)) (store : Store (FileStore D g)) → Finds files opened → IsOpened opened
-      → IsAdopted over_files opened store → HasReturned over_files store → (archive : Archive) → Hold g files archive → Remembers store archive
+      → IsAdopted over_files opened store → StoreHasCleanDisk over_files store → (archive : Archive) → FilesHoldArchive g files archive → RemembersDurably store archive
   remembers_it stays files opened store found opens adopted returned archive held =
       let is : (file_state opened).now.trees ≡ held.db = ap (λ (d : Database). d.trees) opens.0.clean ∙ found.holds held.db held.held in
       let kept = kept_from files opened archive found opens held is in
       let it = adopted.found returned kept in
       let rows = adopted.rows returned (record { is_open = kept.is_open; autocommit = kept.autocommit; settled = kept.settled; schema = kept.schema }) it.0.is_open in
-      let same = it.1 ∙ ap archive_in is ∙ held.stored.remembers in
-      let there : (file_state (held_of store)).now.trees ≡ held.db = ap (λ (d : Database). d.trees) rows.0 ∙ is in record {
-        ready = ready_with over_files store archive it.0 same held.filed_right;
+      let same = it.1 ∙ ap archive_in_trees is ∙ held.stored.remembers in
+      let there : (file_state (store_connection store)).now.trees ≡ held.db = ap (λ (d : Database). d.trees) rows.0 ∙ is in record {
+        ready = ready_with over_files store archive it.0 same held.is_indexed_correctly;
         same = same;
-        safe = λ db may. same_stored archive (archive_of (file_state (held_of store))) held.db db (now_is stays (held_of store) it.0 db may ∙ there) held.stored same;
+        safe = λ db may. same_stored archive (archive_of (file_state (store_connection store))) held.db db (now_is stays (store_connection store) it.0 db may ∙ there) held.stored same;
       }
 
   pub opened_from : SeenMayStay g → (files : Files D) (opened : Held (FileStore D g)) (store : Store (FileStore D g))
@@ -126,51 +126,52 @@ module _ {D : Type 0} {g : Ghosts D} where
 
   -- ---- one behind the other
 
-  pub found_behind : (store again : Store (FileStore D g)) (files : Files D) → IsLeftOf store files → IsOpenedFrom files again → IsFoundBehind store again
+  pub found_behind : (store again : Store (FileStore D g)) (files : Files D) → AreFilesAfterCrash store files → IsOpenedFrom files again → IsReopenedAfterCrash store again
   found_behind store again files left opened returned =
       let honest = opened.clean returned in (
         left.clean honest,
         ∥∥₁_map (left.found honest) (λ it. (
           it.0,
           it.1,
-          λ archive stored right. opened.remembers returned archive (record { db = it.0; held = it.2; stored = stored; filed_right = right }),
+          λ archive stored right. opened.remembers returned archive (record { db = it.0; held = it.2; stored = stored; is_indexed_correctly = right }),
         )),
       )
 
   -- ---- a command, and a stop in it or behind it
 
-  found_in : SeenMayStay g → (old new : Held (FileStore D g)) (before : Archive) (step : Archive → Outcome) (reply : Option Reply) (db : Trees)
-      → archive_of (file_state old) ≡ before → IsFiledRight before → IsFiledRight (step before).0 → Steps (file_state old) (file_state new) step reply
-      → (file_state new).may_leave db → IsStored before db ⊎ IsStored (step before).0 db → Found before step reply db
+  found_in : SeenMayStay g → (old new : Held (FileStore D g)) (before : Archive) (step : Archive → StepOutcome) (reply : Option CommandReply) (db : Trees)
+      → archive_of (file_state old) ≡ before → IsIndexedCorrectly before → IsIndexedCorrectly (step before).0 → MatchesModelStep (file_state old) (file_state new) step reply
+      → (file_state new).may_leave db → IsArchiveStored before db ⊎ IsArchiveStored (step before).0 db → Found before step reply db
   found_in stays old new before step None db same right right_after steps may (inl stored) = (before, inl refl, stored, right)
   found_in stays old new before step None db same right right_after steps may (inr stored) = ((step before).0, inr refl, stored, right_after)
   found_in stays old new before step (Some told) db same right right_after steps may left =
       let now = archive_of (file_state new) in
       let is : (now, told) ≡ step before = subst (λ a. (now, told) ≡ step a) same steps.1 in
       let there = now_is stays new steps.0 db may in
-      let stored : (a : Archive) → IsStored a db → IsStored now db =
-      λ a it. record { lists = it.lists; tables = it.tables; remembers = ap archive_in there } in (
+      let stored : (a : Archive) → IsArchiveStored a db → IsArchiveStored now db =
+      λ a it. record { lists = it.lists; tables = it.tables; remembers = ap archive_in_trees there } in (
         now,
         is,
         elim left [ inl it ↦ stored before it | inr it ↦ stored (step before).0 it ],
-        subst IsFiledRight (sym (ap (λ (o : Outcome). o.0) is)) right_after,
+        subst IsIndexedCorrectly (sym (ap (λ (o : StepOutcome). o.0) is)) right_after,
       )
 
-  pub stopped_in : SeenMayStay g → (files : Files D) (store mid again : Store (FileStore D g)) (step : Archive → Outcome) (reply : Option Reply)
-      → ((a : Archive) → IsFiledRight a → IsFiledRight (step a).0) → IsOpenedFrom files store → (HasReturned over_files mid → HasReturned over_files store)
-      → Does over_files (held_of store) (held_of mid) step reply
-      → (IsKept (file_state (held_of store)) → AddsOnly over_files (held_of store) (held_of mid) (IsStored (step (archive_of (file_state (held_of store)))).0))
-      → IsFoundBehind mid again → IsStoppedIn files again step reply
+  pub stopped_in : SeenMayStay g → (files : Files D) (store mid again : Store (FileStore D g)) (step : Archive → StepOutcome) (reply : Option CommandReply)
+      → ((a : Archive) → IsIndexedCorrectly a → IsIndexedCorrectly (step a).0) → IsOpenedFrom files store → (StoreHasCleanDisk over_files mid → StoreHasCleanDisk over_files store)
+      → PerformsModelStep over_files (store_connection store) (store_connection mid) step reply
+      → (IsArchiveAtRest (file_state (store_connection store)) → CrashAddsOnly over_files (store_connection store) (store_connection mid)
+      (IsArchiveStored (step (archive_of (file_state (store_connection store)))).0))
+      → IsReopenedAfterCrash mid again → CommandSurvivesCrash files again step reply
   stopped_in stays files store mid again step reply right opened had does crash behind returned before held =
       let both = behind returned in
       let was = opened.remembers (had both.0) before held in
       let kept = was.ready.held in
       ∥∥₁_map both.1 (λ it.
-      let left : IsStored before it.0 ⊎ IsStored (step before).0 it.0 =
+      let left : IsArchiveStored before it.0 ⊎ IsArchiveStored (step before).0 it.0 =
       elim (crash kept both.0 it.0 it.1) [
-        | inl earlier ↦ inl (subst (λ a. IsStored a it.0) was.same (was.safe it.0 earlier))
-        | inr made ↦ inr (subst (λ a. IsStored (step a).0 it.0) was.same made)
+        | inl earlier ↦ inl (subst (λ a. IsArchiveStored a it.0) was.same (was.safe it.0 earlier))
+        | inr made ↦ inr (subst (λ a. IsArchiveStored (step a).0 it.0) was.same made)
       ] in
-      let there = found_in stays (held_of store) (held_of mid) before step reply it.0 was.same held.filed_right (right before held.filed_right)
+      let there = found_in stays (store_connection store) (store_connection mid) before step reply it.0 was.same held.is_indexed_correctly (right before held.is_indexed_correctly)
       (does both.0 kept) it.1 left in
       (there.0, there.1, it.2 there.0 there.2 there.3))

@@ -10,7 +10,11 @@ use std::alloc::Global;
 const CALLS: u64 = 1_000;
 
 /// Files that hold an archive of one list, with one message.
-pub fn filed(alloc: Global, list: &str, item: &Item<'_>) -> Result<Files<Memory>, StoreFault> {
+pub fn files_with_archive(
+    alloc: Global,
+    list: &str,
+    item: &Item<'_>,
+) -> Result<Files<Memory>, StoreFault> {
     let files = Files {
         log: Memory::new(alloc),
         db: Memory::new(alloc),
@@ -35,7 +39,7 @@ fn fused(alloc: Global, disk: &Memory, calls: u64) -> anyhow::Result<Fuse<Memory
 }
 
 /// Files that hold the same bytes, of which the log fails each call behind so many.
-pub fn stopping(
+pub fn files_with_failing_log(
     alloc: Global,
     files: &Files<Memory>,
     calls: u64,

@@ -5,12 +5,12 @@
 mod disks;
 mod stopping;
 
-use crate::disks::{filed, stopping as files_that_stop};
+use crate::disks::{files_with_archive, files_with_failing_log as files_that_stop};
 use crate::stopping::withdraw_stop_and_reopen;
 use anyhow::bail;
 use archive_store::{Key, key_of};
 use mbox_core::cut;
-use policy_core::{Party, Withdrawn};
+use policy_core::{Withdrawn, WithdrawnBy};
 use sqlite::{Files, Options};
 use sqlite_disk::Memory;
 use std::alloc::Global;
@@ -35,7 +35,7 @@ fn found(
         bail!("a disk that may not be used");
     }
     let options = Options::new(1);
-    let told = withdraw_stop_and_reopen(alloc, files, options, LIST, key, Party::Author);
+    let told = withdraw_stop_and_reopen(alloc, files, options, LIST, key, WithdrawnBy::Author);
     let Ok((mut store, answer)) = told else {
         return Ok("not opened");
     };
@@ -55,7 +55,7 @@ fn main(rt: HostRuntime) -> anyhow::Result<()> {
     let Some(item) = cut(MBOX)?.next() else {
         bail!("no mail");
     };
-    let files = filed(alloc, LIST, &item)?;
+    let files = files_with_archive(alloc, LIST, &item)?;
     for calls in COUNTS {
         let now = found(alloc, &files, &key_of(&item), calls)?;
         println!(rt; "{calls} calls: {now}")?;

@@ -1,13 +1,13 @@
 //! A machine that stops, and files that are opened again behind it.
 ghost use Rattle.std.specs.Prelude.{◌≡◌, None, IfOk, IfErr, IsTrue};
-ghost use Rattle.archive_machine.specs.Commands.{withdraw};
-ghost use Rattle.archive_machine.specs.Machine.{step};
-ghost use Rattle.archive_port.specs.Replies.{refusal, says_done};
-ghost use Rattle.policy_core.specs.Numbers.{party_number};
-ghost use Rattle.example_stopped.specs.Stopping.{IsFoundBehind, IsLeftOf, IsOpenedFrom, IsStoppedIn};
+ghost use Rattle.archive_model.specs.Commands.{withdraw};
+ghost use Rattle.archive_model.specs.Machine.{step};
+ghost use Rattle.archive_port.specs.Replies.{refusal_of_fault, reply_if_done};
+ghost use Rattle.policy_core.specs.Numbers.{withdrawn_by_number};
+ghost use Rattle.example_stopped.specs.Stopping.{IsReopenedAfterCrash, AreFilesAfterCrash, IsOpenedFrom, CommandSurvivesCrash};
 
 use archive_store::{AdoptStop, Key, Store, StoreFault, database_fault};
-use policy_core::Party;
+use policy_core::WithdrawnBy;
 use sqlite::{Connection, FileStore, Files, Options};
 use sqlite_disk::{Crash, Disk};
 use std::alloc::Global;
@@ -21,7 +21,7 @@ pub fn open<D: Disk + Drop>(
     requires log { IsTrue (D.Disk.is_usable files.log) }
     requires db { IsTrue (D.Disk.is_usable files.db) }
     ensures opened { IfOk result (λ store. IsOpenedFrom files store) }
-    ensures fault { IfErr result (λ fault. refusal fault ≡ None) }
+    ensures fault { IfErr result (λ fault. refusal_of_fault fault ≡ None) }
 {
     let connection = match Connection::open_files(alloc, files, options) {
         Ok(connection) => connection,
@@ -39,10 +39,10 @@ pub fn open<D: Disk + Drop>(
 }
 
 /// The machine stops: what it leaves of the files.
-pub fn stop<D: Crash + Drop>(store: Store<FileStore<D>>) -> Files<D>
+pub fn crash_store<D: Crash + Drop>(store: Store<FileStore<D>>) -> Files<D>
     ensures log { IsTrue (D.Disk.is_usable result.log) }
     ensures db { IsTrue (D.Disk.is_usable result.db) }
-    ensures left { IsLeftOf store result }
+    ensures left { AreFilesAfterCrash store result }
 {
     let mut files = store.into_connection().into_store().close();
     files.log.crash();
@@ -56,10 +56,10 @@ pub fn stop_and_reopen<D: Crash + Drop>(
     alloc: Global,
     options: Options,
 ) -> Result<Store<FileStore<D>>, StoreFault>
-    ensures found { IfOk result (λ again. IsFoundBehind store again) }
-    ensures fault { IfErr result (λ fault. refusal fault ≡ None) }
+    ensures found { IfOk result (λ again. IsReopenedAfterCrash store again) }
+    ensures fault { IfErr result (λ fault. refusal_of_fault fault ≡ None) }
 {
-    let files = stop(store);
+    let files = crash_store(store);
     open(alloc, files, options)
 }
 
@@ -73,13 +73,13 @@ pub fn withdraw_stop_and_reopen<D: Crash + Drop>(
     options: Options,
     list: &str,
     key: &Key,
-    by: Party,
+    by: WithdrawnBy,
 ) -> Result<(Store<FileStore<D>>, Result<(), StoreFault>), StoreFault>
     requires log { IsTrue (D.Disk.is_usable files.log) }
     requires db { IsTrue (D.Disk.is_usable files.db) }
-    ensures stopped { IfOk result (λ told. IsStoppedIn files told.0
-        (λ a. step a (withdraw list.now key.now (party_number by))) (says_done told.1)) }
-    ensures fault { IfErr result (λ fault. refusal fault ≡ None) }
+    ensures stopped { IfOk result (λ told. CommandSurvivesCrash files told.0
+        (λ a. step a (withdraw list.now key.now (withdrawn_by_number by))) (reply_if_done told.1)) }
+    ensures fault { IfErr result (λ fault. refusal_of_fault fault ≡ None) }
 {
     let mut store = match open(alloc, files, options) {
         Ok(store) => store,

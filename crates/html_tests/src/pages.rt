@@ -1,6 +1,6 @@
 //! Pages byte for byte.
-use archive_html::{RowTexts, author_page, lists_page, month_page, thread_page, threads_page};
-use archive_machine::Key;
+use archive_html::{RenderedRows, author_page, lists_page, month_page, thread_page, threads_page};
+use archive_model::Key;
 use archive_results::Line;
 use civil_time::{Instant, Month};
 use std::alloc::Global;
@@ -185,7 +185,7 @@ fn placed_of(alloc: Global, rows: &[Row], missing: Option<usize>) -> Result<Plac
 fn page_of(alloc: Global, ask: Ask, rows: &[Row], missing: Option<usize>) -> Result<Vec<u8>, Fail> {
     let lines = lines_of(alloc, rows)?;
     let placed = placed_of(alloc, rows, missing)?;
-    let texts = RowTexts::new(alloc, "soc", &placed.lines, &placed.rows)?;
+    let texts = RenderedRows::new(alloc, "soc", &placed.lines, &placed.rows)?;
     Ok(match ask {
         Ask::Month(text) => {
             let month = Month::read(text).ok_or("a month")?;
@@ -279,7 +279,7 @@ static CLASSES: [(&[u8], usize); 5] = [
 #[test]
 fn rows_deeper_than_twenty_have_one_class(rt: HostRuntime) -> Result<(), Fail> {
     let deep = deep_rows(rt.alloc(), 500)?;
-    let texts = RowTexts::new(rt.alloc(), "soc", &deep.lines, &deep.rows)?;
+    let texts = RenderedRows::new(rt.alloc(), "soc", &deep.lines, &deep.rows)?;
     for (class, count) in &CLASSES {
         assert_eq!(rt; count_quoted(texts.all(), class), *count);
     }
@@ -301,11 +301,11 @@ static RUNS: [(usize, usize, usize); 8] = [
 #[test]
 fn a_run_of_rows_is_their_texts(rt: HostRuntime) -> Result<(), Fail> {
     let deep = deep_rows(rt.alloc(), 30)?;
-    let texts = RowTexts::new(rt.alloc(), "soc", &deep.lines, &deep.rows)?;
+    let texts = RenderedRows::new(rt.alloc(), "soc", &deep.lines, &deep.rows)?;
     for (first, end, count) in &RUNS {
         let mut there = Vec::new(rt.alloc());
         for row in deep.rows.iter().skip(*first).take(*count) {
-            let one = RowTexts::new(rt.alloc(), "soc", &deep.lines, &[*row])?;
+            let one = RenderedRows::new(rt.alloc(), "soc", &deep.lines, &[*row])?;
             there.extend_from_slice(one.all())?;
         }
         assert!(rt;

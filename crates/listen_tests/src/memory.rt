@@ -1,10 +1,12 @@
 //! Peers of memory, some of which fail.
 ghost use Rattle.std.specs.Prelude.{◌≡◌, ◌++◌, [], ◌∷◌};
 ghost use Rattle.archive_listen.specs.Connections.{exchange};
-ghost use Rattle.listen_tests.specs.Taps.{over_taps};
+ghost use Rattle.listen_tests.specs.Taps.{exchanges_of_taps};
 
 use crate::words::Words;
-use archive_listen::{AcceptFault, Connection, Gathered, ListenFault, Listener, ROOM, serve_each};
+use archive_listen::{
+    AcceptError, Connection, ListenError, Listener, ROOM, WriteBuffer, serve_each,
+};
 use http_server::Log;
 use mbox_core::device::Tap;
 use std::alloc::Global;
@@ -59,30 +61,30 @@ struct Peers<'a> {
     peers: &'a [Peer],
     at: usize,
     got: Vec<u8>,
-    taken: Log<Tap, Gathered<Tap, ROOM>>,
+    taken: Log<Tap, WriteBuffer<Tap, ROOM>>,
 }
 
 impl<'a> Listener for Peers<'a> {
     ghost use Rattle.std.specs.Prelude.{◌≡◌, ◌++◌, [], ◌∷◌};
-    ghost use Rattle.listen_tests.specs.Taps.{over_taps};
+    ghost use Rattle.listen_tests.specs.Taps.{exchanges_of_taps};
 
     type Input = Tap;
 
-    type Output = Gathered<Tap, ROOM>;
+    type Output = WriteBuffer<Tap, ROOM>;
 
-    ghost over = { λ p. over_taps p.taken.items };
+    ghost over = { λ p. exchanges_of_taps p.taken.items };
 
-    ghost accepts = { λ old new fault. over_taps new.taken.items ≡ over_taps old.taken.items };
+    ghost accepts = { λ old new fault. exchanges_of_taps new.taken.items ≡ exchanges_of_taps old.taken.items };
 
-    ghost closes = { λ old new went broke_off. over_taps new.taken.items ≡ over_taps old.taken.items ++ went ∷ [] };
+    ghost closes = { λ old new went broke_off. exchanges_of_taps new.taken.items ≡ exchanges_of_taps old.taken.items ++ went ∷ [] };
 
     ghost accepts_none = { λ old new fault same. same };
 
     ghost closes_one = { λ old new went broke_off more. more };
 
-    fn accept(&mut self) -> Result<Connection<Tap, Gathered<Tap, ROOM>>, AcceptFault> {
+    fn accept(&mut self) -> Result<Connection<Tap, WriteBuffer<Tap, ROOM>>, AcceptError> {
         let Some(peer) = self.peers.get(self.at) else {
-            return Err(AcceptFault::Listener);
+            return Err(AcceptError::Listener);
         };
         self.at += 1;
         let Peer::Says {
@@ -91,22 +93,22 @@ impl<'a> Listener for Peers<'a> {
             writes,
         } = *peer
         else {
-            return Err(AcceptFault::Peer);
+            return Err(AcceptError::Peer);
         };
         let Ok(input) = Tap::new(self.alloc, text, reads) else {
-            return Err(AcceptFault::Listener);
+            return Err(AcceptError::Listener);
         };
         let Ok(output) = Tap::new(self.alloc, b"", writes) else {
-            return Err(AcceptFault::Listener);
+            return Err(AcceptError::Listener);
         };
         Ok(Connection {
             input,
-            output: Gathered::new(output),
+            output: WriteBuffer::new(output),
         })
     }
 
-    fn close(&mut self, connection: Connection<Tap, Gathered<Tap, ROOM>>, breaks_off: bool)
-        ensures closes { over_taps self.new.taken.items ≡ over_taps self.old.taken.items
+    fn close(&mut self, connection: Connection<Tap, WriteBuffer<Tap, ROOM>>, breaks_off: bool)
+        ensures closes { exchanges_of_taps self.new.taken.items ≡ exchanges_of_taps self.old.taken.items
             ++ exchange connection.input.read connection.output.inner.written ∷ [] }
     {
         self.taken = self.taken.and(&connection.input, &connection.output);
@@ -122,7 +124,7 @@ impl<'a> Listener for Peers<'a> {
 struct Case {
     peers: &'static [Peer],
     count: u32,
-    outcome: Result<(), ListenFault>,
+    outcome: Result<(), ListenError>,
     answered: u32,
     found: u32,
     got: &'static [u8],
@@ -199,7 +201,7 @@ const CASES: [Case; 7] = [
     Case {
         peers: &[GETS, Peer::Gone],
         count: 4,
-        outcome: Err(ListenFault),
+        outcome: Err(ListenError),
         answered: 1,
         found: 1,
         got: b"200 yes\n",

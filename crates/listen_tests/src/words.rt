@@ -1,7 +1,7 @@
 //! A service that counts what it answers.
 ghost use Rattle.std.specs.Prelude.{⊤};
 
-use archive_listen::{ConnectionFault, Service};
+use archive_listen::{ConnectionError, Service};
 use mbox_core::device::{Sink, Source, write_bytes};
 
 /// Replies to a request that begins with `GET`.
@@ -17,13 +17,13 @@ pub const MISSED: &[u8] = b"404 no\n";
 pub const LONG: &[u8] = &[b'l'; 40_000];
 
 /// What is told of a request, and what it gets.
-fn reply_to(request: &[u8]) -> (Result<u16, ConnectionFault>, &'static [u8]) {
+fn reply_to(request: &[u8]) -> (Result<u16, ConnectionError>, &'static [u8]) {
     if request.starts_with(b"GET") {
         (Ok(200), FOUND)
     } else if request.starts_with(b"LONG") {
         (Ok(200), LONG)
     } else if request.starts_with(b"BREAK") {
-        (Err(ConnectionFault::Broken), BEGUN)
+        (Err(ConnectionError::Broken), BEGUN)
     } else {
         (Ok(404), MISSED)
     }
@@ -44,10 +44,10 @@ impl Service<u32> for Words {
         state: &mut u32,
         input: &mut R,
         output: &mut W,
-    ) -> Result<u16, ConnectionFault> {
+    ) -> Result<u16, ConnectionError> {
         let mut buffer = [0; 64];
         let Ok(count) = input.read(&mut buffer) else {
-            return Err(ConnectionFault::Read);
+            return Err(ConnectionError::Read);
         };
         *state = state.saturating_add(1);
         let (told, reply) = reply_to(&buffer[..count]);
@@ -56,7 +56,7 @@ impl Service<u32> for Words {
         }
         match write_bytes(output, reply) {
             Ok(()) => told,
-            Err(_) => Err(ConnectionFault::Write),
+            Err(_) => Err(ConnectionError::Write),
         }
     }
 }

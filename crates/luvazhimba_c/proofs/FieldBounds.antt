@@ -2,26 +2,26 @@
 use Rattle.std.proofs.Common.{◌≡◌, ℕ, ◌+◌, ◌-◌, ◌*◌, ◌≤◌, Bool, true, false, cond, List, [], ◌∷◌, ◌++◌, length, arith, refl, ap, sym, ◌∙◌, Some, inl, inr, length-append, codes}
 use Rattle.std.specs.List.{concat, find}
 use Rattle.std.proofs.lemmas.List.Folds.{concat-append}
-use Rattle.mail_core.specs.Fields.{Entry, fields_of, field_of, has_name}
+use Rattle.mail_core.specs.Fields.{HeaderField, fields_of, field_of, has_name}
 use Rattle.mail_core.specs.Headers.{or_empty, ids_in_field, unfolded_subject_of}
 use Rattle.mail_core.specs.Lines.{lines}
-use Rattle.mbox_core.specs.Division.{Item, AreBlocks, Divides}
+use Rattle.mbox_core.specs.Division.{Item, AreBlocks, DividesIntoItems}
 use Rattle.mbox_items.proofs.LineLemmas.{concat-lines}
 use Rattle.luvazhimba_c.specs.Ids.{id_texts}
-use Rattle.luvazhimba_c.specs.Fields.{unfolded_from_of, field_texts, field_lens, all_texts, all_lens}
+use Rattle.luvazhimba_c.specs.Fields.{unfolded_from_of, field_texts, field_text_lengths, all_field_texts, all_field_text_lengths}
 use Rattle.luvazhimba_c.proofs.IdBounds.{unfolded_few, body_len, total, all_few, body_is, AreApart, names_apart, of_fields, count_few}
 
 -- ---- four fields of a message
 
 -- no entry passes both tests
-abbrev Apart : (Entry → Bool) → (Entry → Bool) → Type 0
-Apart p q = (f : Entry) → p f ≡ true → q f ≡ true → ⊥
+abbrev Apart : (HeaderField → Bool) → (HeaderField → Bool) → Type 0
+Apart p q = (f : HeaderField) → p f ≡ true → q f ≡ true → ⊥
 
-module _ (p q r s : Entry → Bool) (pq : Apart p q) (pr : Apart p r) (ps : Apart p s) (qr : Apart q r) (qs : Apart q s) (rs : Apart r s) where
-  abbrev found : List Entry → ℕ
+module _ (p q r s : HeaderField → Bool) (pq : Apart p q) (pr : Apart p r) (ps : Apart p s) (qr : Apart q r) (qs : Apart q s) (rs : Apart r s) where
+  abbrev found : List HeaderField → ℕ
   found fs = body_len (find p fs) + body_len (find q fs) + body_len (find r fs) + body_len (find s fs)
 
-  four_few : (fs : List Entry) → found fs ≤ total fs
+  four_few : (fs : List HeaderField) → found fs ≤ total fs
   four_few [] = omega arith
   four_few (f ∷ fs) = go (p f) refl (q f) refl (r f) refl (s f) refl (four_few fs)
     where
@@ -77,7 +77,7 @@ field_texts_few message =
     let texts = ids.texts in
     omega (arith, texts, subject, from, all, with_references)
 
-pub field_lens_few : (message : List ℕ) → 5 * length (field_lens message) ≤ length message + 10
+pub field_lens_few : (message : List ℕ) → 5 * length (field_text_lengths message) ≤ length message + 10
 field_lens_few message = let ids = count_few message in omega (arith, ids)
 
 -- ---- all texts of an mbox
@@ -104,31 +104,32 @@ blocks_len (i ∷ is) ls (heading, says, none, inr e) =
     let later = blocks_len is e.1 e.4 in
     omega (arith, whole, text, blank, later)
 
-messages_fit : (mbox : List ℕ) (items : List Item) → Divides mbox items → all_len items ≤ length mbox
+messages_fit : (mbox : List ℕ) (items : List Item) → DividesIntoItems mbox items → all_len items ≤ length mbox
 messages_fit mbox items (blanks, rest, are, all, blocks) =
     let whole : length mbox ≡ length (concat blanks ++ concat rest) = ap length (sym (concat-lines mbox) ∙ ap concat are ∙ concat-append blanks rest) in
     let both : length (concat blanks ++ concat rest) ≡ length (concat blanks) + length (concat rest) = length-append (concat blanks) (concat rest) in
     let later = blocks_len items rest blocks in
     omega (arith, whole, both, later)
 
-texts_in : (items : List Item) → length (all_texts items) ≤ all_len items
+texts_in : (items : List Item) → length (all_field_texts items) ≤ all_len items
 texts_in [] = omega arith
 texts_in (i ∷ is) =
-    let all : length (all_texts (i ∷ is)) ≡ length (field_texts i.text) + length (all_texts is) = length-append (field_texts i.text) (all_texts is) in
+    let all : length (all_field_texts (i ∷ is)) ≡ length (field_texts i.text) + length (all_field_texts is) = length-append (field_texts i.text) (all_field_texts is) in
     let few = field_texts_few i.text in
     let later = texts_in is in
     omega (arith, all, few, later)
 
-lens_in : (items : List Item) → 5 * length (all_lens items) ≤ all_len items + 10 * length items
+lens_in : (items : List Item) → 5 * length (all_field_text_lengths items) ≤ all_len items + 10 * length items
 lens_in [] = omega arith
 lens_in (i ∷ is) =
-    let all : length (all_lens (i ∷ is)) ≡ length (field_lens i.text) + length (all_lens is) = length-append (field_lens i.text) (all_lens is) in
+    let all : length (all_field_text_lengths (i ∷ is)) ≡ length (field_text_lengths i.text) + length (all_field_text_lengths is) = length-append (field_text_lengths i.text)
+    (all_field_text_lengths is) in
     let few = field_lens_few i.text in
     let later = lens_in is in
     omega (arith, all, few, later)
 
-pub all_texts_few : (mbox : List ℕ) (items : List Item) → Divides mbox items → length (all_texts items) ≤ length mbox
+pub all_texts_few : (mbox : List ℕ) (items : List Item) → DividesIntoItems mbox items → length (all_field_texts items) ≤ length mbox
 all_texts_few mbox items d = let texts = texts_in items in let fit = messages_fit mbox items d in omega (arith, texts, fit)
 
-pub all_lens_few : (mbox : List ℕ) (items : List Item) → Divides mbox items → 5 * length (all_lens items) ≤ length mbox + 10 * length items
+pub all_lens_few : (mbox : List ℕ) (items : List Item) → DividesIntoItems mbox items → 5 * length (all_field_text_lengths items) ≤ length mbox + 10 * length items
 all_lens_few mbox items d = let lens = lens_in items in let fit = messages_fit mbox items d in omega (arith, lens, fit)

@@ -1,11 +1,12 @@
 -- What messages say of themselves in numbers, and how much of the arrays that is.
 use Rattle.std.proofs.Common.{◌≡◌, ℕ, ◌+◌, ◌-◌, ◌<◌, ◌≤◌, List, [], ◌∷◌, ◌++◌, length, map, take, arith, refl, ap, sym, ◌∙◌, length-append, inl, ℤ, Bool}
 use Rattle.std.proofs.lemmas.List.{length-map, length-take-le}
-use Rattle.mail_core.specs.Headers.{own_id_of, alone, sent_date_of}
-use Rattle.mbox_core.specs.Division.{Item, Divides}
+use Rattle.mail_core.specs.Headers.{own_id_of, id_option_to_list, sent_date_of}
+use Rattle.mbox_core.specs.Division.{Item, DividesIntoItems}
 use Rattle.mbox_core.proofs.DivisionLaws.{one_division}
-use Rattle.luvazhimba_c.specs.Fields.{field_texts, field_lens, is_dated, numbers_of, all_texts, all_lens, numbers_of_item, totals_of, AreFieldsOfMbox, WantsMboxRoom}
-use Rattle.luvazhimba_c.specs.Places.{Stand, AreMessagesOf}
+use Rattle.luvazhimba_c.specs.Fields.{field_texts, field_text_lengths, has_sent_date, field_numbers, all_field_texts}
+use Rattle.luvazhimba_c.specs.Fields.{all_field_text_lengths, field_numbers_of_item, mbox_totals, HoldMboxFields, LacksRoomForMboxFields}
+use Rattle.luvazhimba_c.specs.Places.{AreMessagesFromOffset, ArePlacesOfMessages}
 use Rattle.luvazhimba_c.specs.declared.fields.LuvFields.{LuvFields}
 use Rattle.luvazhimba_c.specs.declared.mbox_fields.LuvTotals.{LuvTotals}
 use Rattle.luvazhimba_c.specs.declared.messages.LuvMessage.{LuvMessage}
@@ -18,42 +19,42 @@ more old added all n m e f g =
 
 -- the numbers, each by itself
 pub numbers_are : (message : List ℕ) (arrival sent : ℤ) (own count len : ℕ) (date : Bool) → sent ≡ sent_date_of message arrival
-    → own ≡ length (alone (own_id_of message)) → count ≡ length (field_lens message) → len ≡ length (field_texts message) → date ≡ is_dated message
-    → ◌≡◌ {A = LuvFields} record { sent = sent; own = own; count = count; len = len; is_dated = date } (numbers_of message arrival)
+    → own ≡ length (id_option_to_list (own_id_of message)) → count ≡ length (field_text_lengths message) → len ≡ length (field_texts message) → date ≡ has_sent_date message
+    → ◌≡◌ {A = LuvFields} record { sent = sent; own = own; count = count; len = len; is_dated = date } (field_numbers message arrival)
 numbers_are message arrival sent own count len date e f g h k = cc
 
 -- ---- of each message of an mbox
 
 -- there are as many places as messages
-stand_len : (bytes : List ℕ) (at : ℕ) (items : List Item) (places : List LuvMessage) → Stand bytes at items places → length places ≡ length items
+stand_len : (bytes : List ℕ) (at : ℕ) (items : List Item) (places : List LuvMessage) → AreMessagesFromOffset bytes at items places → length places ≡ length items
 stand_len bytes at [] [] s = refl
 stand_len bytes at [] (p ∷ ps) s = absurd s
 stand_len bytes at (i ∷ is) [] s = absurd s
 stand_len bytes at (i ∷ is) (p ∷ ps) (next, here, later) = let others = stand_len bytes next is ps later in omega (arith, others)
 
-places_len : (mbox : List ℕ) (items : List Item) (places : List LuvMessage) → Divides mbox items → AreMessagesOf mbox places → length places ≡ length items
+places_len : (mbox : List ℕ) (items : List Item) (places : List LuvMessage) → DividesIntoItems mbox items → ArePlacesOfMessages mbox places → length places ≡ length items
 places_len mbox items places d m = stand_len mbox m.first m.items places m.stand ∙ ap length (one_division mbox m.items items m.divides d)
 
 -- what was gathered of the messages of an mbox
-module _ (mbox : List ℕ) (items : List Item) (numbers : List LuvFields) (texts lens : List ℕ) (many count len : ℕ) (divides : Divides mbox items)
-    (are_numbers : numbers ≡ map numbers_of_item items) (are_texts : texts ≡ all_texts items) (are_lens : lens ≡ all_lens items)
+module _ (mbox : List ℕ) (items : List Item) (numbers : List LuvFields) (texts lens : List ℕ) (many count len : ℕ) (divides : DividesIntoItems mbox items)
+    (are_numbers : numbers ≡ map field_numbers_of_item items) (are_texts : texts ≡ all_field_texts items) (are_lens : lens ≡ all_field_text_lengths items)
     (is_count : count ≡ length lens) (is_len : len ≡ length texts) where
-  totals_are : many ≡ length items → ◌≡◌ {A = LuvTotals} record { messages = many; count = count; len = len } (totals_of items)
+  totals_are : many ≡ length items → ◌≡◌ {A = LuvTotals} record { messages = many; count = count; len = len } (mbox_totals items)
   totals_are e =
-      let c : count ≡ length (all_lens items) = is_count ∙ ap length are_lens in
-      let l : len ≡ length (all_texts items) = is_len ∙ ap length are_texts in cc
+      let c : count ≡ length (all_field_text_lengths items) = is_count ∙ ap length are_lens in
+      let l : len ≡ length (all_field_texts items) = is_len ∙ ap length are_texts in cc
 
   -- it was written, and where the messages stand
-  pub all_written : (messages : List LuvMessage) (fields : List LuvFields) (bytes sizes : List ℕ) → AreMessagesOf mbox (take many messages) → many ≤ length messages
+  pub all_written : (messages : List LuvMessage) (fields : List LuvFields) (bytes sizes : List ℕ) → ArePlacesOfMessages mbox (take many messages) → many ≤ length messages
       → take (length numbers) fields ≡ numbers → take (length texts) bytes ≡ texts → take (length lens) sizes ≡ lens
-      → AreFieldsOfMbox mbox messages fields bytes sizes (record { messages = many; count = count; len = len })
+      → HoldMboxFields mbox messages fields bytes sizes (record { messages = many; count = count; len = len })
   all_written messages fields bytes sizes places low f g h =
       let are : many ≡ length items = sym (length-take-le many messages low) ∙ places_len mbox items (take many messages) divides places in
       record {
         items = items;
         divides = divides;
         places = places;
-        numbers = ap (λ n. take n fields) (are ∙ sym (length-map items numbers_of_item) ∙ ap length (sym are_numbers)) ∙ f ∙ are_numbers;
+        numbers = ap (λ n. take n fields) (are ∙ sym (length-map items field_numbers_of_item) ∙ ap length (sym are_numbers)) ∙ f ∙ are_numbers;
         texts = ap (λ n. take n bytes) is_len ∙ g ∙ are_texts;
         lens = ap (λ n. take n sizes) is_count ∙ h ∙ are_lens;
         totals = totals_are are;
@@ -61,8 +62,8 @@ module _ (mbox : List ℕ) (items : List Item) (numbers : List LuvFields) (texts
 
   -- there is no room for the places
   pub none_fits : (messages : List LuvMessage) (fields : List LuvFields) (bytes sizes : List ℕ)
-      → ((others : List Item) × Divides mbox others × (many ≡ length others) × (length messages < many))
-      → WantsMboxRoom mbox messages fields bytes sizes (record { messages = many; count = count; len = len })
+      → ((others : List Item) × DividesIntoItems mbox others × (many ≡ length others) × (length messages < many))
+      → LacksRoomForMboxFields mbox messages fields bytes sizes (record { messages = many; count = count; len = len })
   none_fits messages fields bytes sizes (others, division, e, short) = record {
     items = items;
     divides = divides;

@@ -7,21 +7,21 @@ use Rattle.std.proofs.lemmas.List.{length-drop, length-take, length-map}
 use Rattle.std.proofs.lemmas.Grind.{flat_map-append}
 use Rattle.std.proofs.lemmas.Slice.Eq.{bytes_eq-Decides}
 use Rattle.mail_core.specs.Bytes.{lf, cr, colon}
-use Rattle.mail_core.specs.Lines.{lines, content, is_empty_line, without_end, ends_in}
-use Rattle.mail_core.specs.Fields.{Entry, continues, header_lines, onto_first_block, blocks, header_blocks, field_in, field_from}
-use Rattle.mail_core.specs.Fields.{is_name_byte, is_blank, skip_blanks, fields_of, has_name, field_of, is_fold, unfolded}
-use Rattle.mail_core.specs.Headers.{alone, first_of, or_alone, or_empty, ids_in_field}
-use Rattle.mail_core.specs.MsgIds.{Id, IsMsgId, OneOrMore, is_left, is_right, ids_of}
+use Rattle.mail_core.specs.Lines.{lines, content, is_empty_line, without_final_byte, ends_in}
+use Rattle.mail_core.specs.Fields.{HeaderField, is_continuation_line, header_lines, onto_first_block, continued_blocks, header_blocks, field_in, field_after_name}
+use Rattle.mail_core.specs.Fields.{is_field_name_byte, is_wsp, skip_wsp, fields_of, has_name, field_of, is_folding_line_end, unfolded}
+use Rattle.mail_core.specs.Headers.{id_option_to_list, first_id_of_list, references_or_reply_id, or_empty, ids_in_field}
+use Rattle.mail_core.specs.MsgIds.{MessageId, IsMsgId, OneOrMore, is_id_left_byte, is_id_right_byte, ids_of}
 use Rattle.mail_core.specs.Pieces.{Piece, Pieces, ids_in}
 use Rattle.mail_core.specs.Pieces.Piece.{comment, quoted_string, msg_id, single}
 use Rattle.mail_core.specs.Quotes.{IsClosedQuote, IsQuotedContent}
 use Rattle.mail_core.specs.Quotes.IsQuotedContent.{nothing, byte, pair}
 use Rattle.mail_core.proofs.PieceLemmas.{some_division, one_list}
 use Rattle.mbox_items.proofs.LineLemmas.{concat-lines}
-use Rattle.luvazhimba_c.specs.Ids.{id_text, text_len, ids_of_message, id_texts, id_lens}
+use Rattle.luvazhimba_c.specs.Ids.{id_text, id_text_length, ids_of_message, id_texts, id_text_lengths}
 
 -- so many ids with such texts stand in a stretch of this length
-pub record FitIn (ids : List Id) (n : ℕ) : Type 0 where
+pub record FitIn (ids : List MessageId) (n : ℕ) : Type 0 where
   pub texts : length (flat_map id_text ids) + 2 * length ids ≤ n
   pub count : 5 * length ids ≤ n
 
@@ -36,7 +36,7 @@ one_or_more : (test : ℕ → Bool) (bs : List ℕ) → OneOrMore test bs → 1 
 one_or_more test [] h = absurd (h.0 refl)
 one_or_more test (b ∷ bs) h = omega arith
 
-long_id : (m : List ℕ) (id : Id) → IsMsgId m id → (length (id_text id) + 2 ≤ length m) × (5 ≤ length m)
+long_id : (m : List ℕ) (id : MessageId) → IsMsgId m id → (length (id_text id) + 2 ≤ length m) × (5 ≤ length m)
 long_id m id (local, side, right, e) = go side
   where
     text : length (id_text id) ≡ length id.left + length id.right + 1
@@ -45,7 +45,7 @@ long_id m id (local, side, right, e) = go side
     whole : length m ≡ length local + length id.right + 3
     whole = ap length e ∙ simp length-append (omega arith)
 
-    go : (IsClosedQuote local id.left ⊎ ((local ≡ id.left) × OneOrMore is_left id.left)) → (length (id_text id) + 2 ≤ length m) × (5 ≤ length m)
+    go : (IsClosedQuote local id.left ⊎ ((local ≡ id.left) × OneOrMore is_id_left_byte id.left)) → (length (id_text id) + 2 ≤ length m) × (5 ≤ length m)
     go (inl (inside, means, is)) =
         let few = quoted_few inside id.left means in
         let quotes : length local ≡ length inside + 2 = ap length is ∙ simp length-append (omega arith) in
@@ -54,8 +54,8 @@ long_id m id (local, side, right, e) = go side
         (omega (arith, few, quotes, t, w), omega (arith, quotes, w))
     go (inr (is, some)) =
         let same : length local ≡ length id.left = ap length is in
-        let l = one_or_more is_left id.left some in
-        let r = one_or_more is_right id.right right in
+        let l = one_or_more is_id_left_byte id.left some in
+        let r = one_or_more is_id_right_byte id.right right in
         let t = text in
         let w = whole in
         (omega (arith, same, t, w), omega (arith, same, l, r, w))
@@ -84,18 +84,18 @@ pieces_fit (msg_id m id ∷ ps) text (rest, e, is, h) =
 ids_fit : (text : List ℕ) → FitIn (ids_of text) (length text)
 ids_fit text =
     let d = some_division text in
-    let F : List Id → Type 0 = λ ids. FitIn ids (length text) in
+    let F : List MessageId → Type 0 = λ ids. FitIn ids (length text) in
     subst F (one_list d.0 text d.1) (pieces_fit d.0 text d.1)
 
 -- ---- ids of a field
 
-weaker : (ids : List Id) (m n : ℕ) → m ≤ n → FitIn ids m → FitIn ids n
+weaker : (ids : List MessageId) (m n : ℕ) → m ≤ n → FitIn ids m → FitIn ids n
 weaker ids m n h f = record { texts = let t = f.texts in omega (arith, h, t); count = let k = f.count in omega (arith, h, k) }
 
 pub unfolded_few : (t : List ℕ) → length (unfolded t) ≤ length t
 unfolding unfolded
 unfolded_few [] = omega arith
-unfolded_few (b ∷ bs) = go (is_fold (b ∷ bs)) (unfolded_few bs)
+unfolded_few (b ∷ bs) = go (is_folding_line_end (b ∷ bs)) (unfolded_few bs)
   where
     go : (f : Bool) → length (unfolded bs) ≤ length bs → length (cond f (unfolded bs) (b ∷ unfolded bs)) ≤ suc (length bs)
     go true h = omega (arith, h)
@@ -104,14 +104,14 @@ unfolded_few (b ∷ bs) = go (is_fold (b ∷ bs)) (unfolded_few bs)
 field_fits : (body : Option (List ℕ)) → FitIn (ids_in_field body) (length (or_empty body))
 field_fits body = weaker (ids_in_field body) (length (unfolded (or_empty body))) (length (or_empty body)) (unfolded_few (or_empty body)) (ids_fit (unfolded (or_empty body)))
 
-first_fits : (ids : List Id) (n : ℕ) → FitIn ids n → FitIn (alone (first_of ids)) n
+first_fits : (ids : List MessageId) (n : ℕ) → FitIn ids n → FitIn (id_option_to_list (first_id_of_list ids)) n
 first_fits [] n f = f
 first_fits (id ∷ ids) n f =
     let one : length (flat_map id_text (id ∷ [])) ≡ length (id_text id) = simp length-append (omega arith) in
     let all : length (flat_map id_text (id ∷ ids)) ≡ length (id_text id) + length (flat_map id_text ids) = length-append (id_text id) (flat_map id_text ids) in
     record { texts = let t = f.texts in omega (arith, one, all, t); count = let k = f.count in omega (arith, k) }
 
-together : (xs ys : List Id) (m n : ℕ) → FitIn xs m → FitIn ys n → FitIn (xs ++ ys) (m + n)
+together : (xs ys : List MessageId) (m n : ℕ) → FitIn xs m → FitIn ys n → FitIn (xs ++ ys) (m + n)
 together xs ys m n f g =
     let both : length (flat_map id_text (xs ++ ys)) ≡ length (flat_map id_text xs) + length (flat_map id_text ys) =
     ap length (flat_map-append id_text xs ys) ∙ length-append (flat_map id_text xs) (flat_map id_text ys) in
@@ -124,7 +124,7 @@ together xs ys m n f g =
 
 -- ---- fields of a message
 
-without_few : (b : ℕ) (text : List ℕ) → length (without_end b text) ≤ length text
+without_few : (b : ℕ) (text : List ℕ) → length (without_final_byte b text) ≤ length text
 without_few b text = go (ends_in b text)
   where
     go : (t : Bool) → length (cond t (take (length text - 1) text) text) ≤ length text
@@ -135,14 +135,14 @@ content_few : (line : List ℕ) → length (content line) ≤ length line
 unfolding content
 content_few line =
     let one = without_few lf line in
-    let two = without_few cr (without_end lf line) in
+    let two = without_few cr (without_final_byte lf line) in
     omega (arith, one, two)
 
-abbrev pub body_len : Option Entry → ℕ
+abbrev pub body_len : Option HeaderField → ℕ
 body_len None = 0
 body_len (Some f) = length f.body
 
-field_from_few : (name rest : List ℕ) → body_len (field_from name rest) ≤ length rest
+field_from_few : (name rest : List ℕ) → body_len (field_after_name name rest) ≤ length rest
 field_from_few name [] = omega arith
 field_from_few name (b ∷ bs) = go (nat_lt 0 (length name) && (b == colon))
   where
@@ -152,18 +152,18 @@ field_from_few name (b ∷ bs) = go (nat_lt 0 (length name) && (b == colon))
 
 field_in_few : (text : List ℕ) → body_len (field_in text) ≤ length text
 field_in_few text =
-    let n = prefix_len is_name_byte text in
+    let n = prefix_len is_field_name_byte text in
     let behind = drop n text in
-    let from = field_from_few (take n text) (skip_blanks behind) in
+    let from = field_from_few (take n text) (skip_wsp behind) in
     let one : length behind ≡ length text - n = length-drop n text in
-    let two : length (skip_blanks behind) ≡ length behind - prefix_len is_blank behind = length-drop (prefix_len is_blank behind) behind in
+    let two : length (skip_wsp behind) ≡ length behind - prefix_len is_wsp behind = length-drop (prefix_len is_wsp behind) behind in
     omega (arith, from, one, two)
 
-abbrev pub total : List Entry → ℕ
+abbrev pub total : List HeaderField → ℕ
 total [] = 0
 total (f ∷ fs) = length f.body + total fs
 
-total-cons : (o : Option Entry) (fs : List Entry) → total (cons_option o fs) ≡ body_len o + total fs
+total-cons : (o : Option HeaderField) (fs : List HeaderField) → total (cons_option o fs) ≡ body_len o + total fs
 total-cons None fs = omega arith
 total-cons (Some f) fs = omega arith
 
@@ -181,14 +181,16 @@ onto_first : (l : List ℕ) (bs : List (List ℕ)) → length (concat (onto_firs
 onto_first l [] = simp length-append (omega arith)
 onto_first l (b ∷ bs) = simp length-append (omega arith)
 
-blocks_long : (ls : List (List ℕ)) → length (concat (blocks ls)) ≡ length (concat ls)
+blocks_long : (ls : List (List ℕ)) → length (concat (continued_blocks ls)) ≡ length (concat ls)
 blocks_long [] = refl
 blocks_long (l ∷ []) = refl
-blocks_long (l ∷ m ∷ ls) = go (continues m) (blocks_long (m ∷ ls)) (onto_first l (blocks (m ∷ ls))) (length-append l (concat (blocks (m ∷ ls)))) (length-append l (concat (m ∷ ls)))
+blocks_long (l ∷ m ∷ ls) = go (is_continuation_line m) (blocks_long (m ∷ ls)) (onto_first l (continued_blocks (m ∷ ls))) (length-append l (concat (continued_blocks (m ∷ ls))))
+    (length-append l (concat (m ∷ ls)))
   where
-    go : (t : Bool) → length (concat (blocks (m ∷ ls))) ≡ length (concat (m ∷ ls)) → length (concat (onto_first_block l (blocks (m ∷ ls)))) ≡ length l + length (concat (blocks (m ∷ ls)))
-        → length (l ++ concat (blocks (m ∷ ls))) ≡ length l + length (concat (blocks (m ∷ ls))) → length (l ++ concat (m ∷ ls)) ≡ length l + length (concat (m ∷ ls))
-        → length (concat (cond t (onto_first_block l (blocks (m ∷ ls))) (l ∷ blocks (m ∷ ls)))) ≡ length (l ++ concat (m ∷ ls))
+    go : (t : Bool) → length (concat (continued_blocks (m ∷ ls))) ≡ length (concat (m ∷ ls))
+        → length (concat (onto_first_block l (continued_blocks (m ∷ ls)))) ≡ length l + length (concat (continued_blocks (m ∷ ls)))
+        → length (l ++ concat (continued_blocks (m ∷ ls))) ≡ length l + length (concat (continued_blocks (m ∷ ls))) → length (l ++ concat (m ∷ ls)) ≡ length l + length (concat (m ∷ ls))
+        → length (concat (cond t (onto_first_block l (continued_blocks (m ∷ ls))) (l ∷ continued_blocks (m ∷ ls)))) ≡ length (l ++ concat (m ∷ ls))
     go true later onto own all = omega (arith, later, onto, all)
     go false later onto own all = omega (arith, later, own, all)
 
@@ -204,7 +206,7 @@ header_few (l ∷ ls) = go (is_empty_line l) (header_few ls) (length-append l (c
 pub all_few : (text : List ℕ) → total (fields_of text) ≤ length text
 unfolding fields_of header_blocks
 all_few text =
-    let fields = fields_few (blocks (header_lines (lines text))) in
+    let fields = fields_few (continued_blocks (header_lines (lines text))) in
     let joined = blocks_long (header_lines (lines text)) in
     let front = header_few (lines text) in
     let whole : length (concat (lines text)) ≡ length text = ap length (concat-lines text) in
@@ -212,7 +214,7 @@ all_few text =
 
 -- ---- two fields of a message
 
-one_few : (p : Entry → Bool) (fs : List Entry) → body_len (find p fs) ≤ total fs
+one_few : (p : HeaderField → Bool) (fs : List HeaderField) → body_len (find p fs) ≤ total fs
 one_few p [] = omega arith
 one_few p (f ∷ fs) = go (p f) (one_few p fs)
   where
@@ -220,7 +222,7 @@ one_few p (f ∷ fs) = go (p f) (one_few p fs)
     go true h = omega arith
     go false h = omega (arith, h)
 
-two_few : (p q : Entry → Bool) (fs : List Entry) → ((f : Entry) → p f ≡ true → q f ≡ true → ⊥) → body_len (find p fs) + body_len (find q fs) ≤ total fs
+two_few : (p q : HeaderField → Bool) (fs : List HeaderField) → ((f : HeaderField) → p f ≡ true → q f ≡ true → ⊥) → body_len (find p fs) + body_len (find q fs) ≤ total fs
 two_few p q [] h = omega arith
 two_few p q (f ∷ fs) h = go (p f) refl (q f) refl (one_few p fs) (one_few q fs) (two_few p q fs h)
   where
@@ -231,7 +233,7 @@ two_few p q (f ∷ fs) h = go (p f) refl (q f) refl (one_few p fs) (one_few q fs
     go false d true e a b c = omega (arith, a)
     go false d false e a b c = omega (arith, c)
 
-pub body_is : (o : Option Entry) → length (or_empty (option_map (λ (f : Entry). f.body) o)) ≡ body_len o
+pub body_is : (o : Option HeaderField) → length (or_empty (option_map (λ (f : HeaderField). f.body) o)) ≡ body_len o
 body_is None = refl
 body_is (Some f) = refl
 
@@ -240,7 +242,7 @@ abbrev pub AreApart : List ℕ → List ℕ → Type 0
 AreApart m n = get_or (map to_ascii_lowercase m) 0 0 ≢ get_or (map to_ascii_lowercase n) 0 0
 
 -- no field has both of them
-pub names_apart : (m n : List ℕ) → AreApart m n → (f : Entry) → has_name m f ≡ true → has_name n f ≡ true → ⊥
+pub names_apart : (m n : List ℕ) → AreApart m n → (f : HeaderField) → has_name m f ≡ true → has_name n f ≡ true → ⊥
 names_apart m n other f h k = other (ap (λ (l : List ℕ). get_or l 0 0) (sym (is m h) ∙ is n k))
   where
     is : (name : List ℕ) → has_name name f ≡ true → map to_ascii_lowercase f.name ≡ map to_ascii_lowercase name
@@ -257,18 +259,18 @@ fields_apart text m n other =
 -- ---- all ids of a message
 
 -- of three fields, the second or the third gives the ids that a message refers to
-pub of_fields : (own references reply : Option (List ℕ)) (ids : List Id) (n : ℕ) → ids_in_field references ≡ ids
+pub of_fields : (own references reply : Option (List ℕ)) (ids : List MessageId) (n : ℕ) → ids_in_field references ≡ ids
     → length (or_empty own) + length (or_empty references) ≤ n → length (or_empty own) + length (or_empty reply) ≤ n
-    → FitIn (alone (first_of (ids_in_field own)) ++ or_alone ids (first_of (ids_in_field reply))) n
+    → FitIn (id_option_to_list (first_id_of_list (ids_in_field own)) ++ references_or_reply_id ids (first_id_of_list (ids_in_field reply))) n
 of_fields own references reply [] n e h k =
-    weaker (alone (first_of (ids_in_field own)) ++ alone (first_of (ids_in_field reply))) (length (or_empty own) + length (or_empty reply)) n k
-    (together (alone (first_of (ids_in_field own))) (alone (first_of (ids_in_field reply))) (length (or_empty own)) (length (or_empty reply))
+    weaker (id_option_to_list (first_id_of_list (ids_in_field own)) ++ id_option_to_list (first_id_of_list (ids_in_field reply))) (length (or_empty own) + length (or_empty reply)) n k
+    (together (id_option_to_list (first_id_of_list (ids_in_field own))) (id_option_to_list (first_id_of_list (ids_in_field reply))) (length (or_empty own)) (length (or_empty reply))
     (first_fits (ids_in_field own) (length (or_empty own)) (field_fits own)) (first_fits (ids_in_field reply) (length (or_empty reply)) (field_fits reply)))
 of_fields own references reply (id ∷ ids) n e h k =
-    weaker (alone (first_of (ids_in_field own)) ++ (id ∷ ids)) (length (or_empty own) + length (or_empty references)) n h
-    (together (alone (first_of (ids_in_field own))) (id ∷ ids) (length (or_empty own)) (length (or_empty references))
+    weaker (id_option_to_list (first_id_of_list (ids_in_field own)) ++ (id ∷ ids)) (length (or_empty own) + length (or_empty references)) n h
+    (together (id_option_to_list (first_id_of_list (ids_in_field own))) (id ∷ ids) (length (or_empty own)) (length (or_empty references))
     (first_fits (ids_in_field own) (length (or_empty own)) (field_fits own))
-    (let F : List Id → Type 0 = λ is. FitIn is (length (or_empty references)) in subst F e (field_fits references)))
+    (let F : List MessageId → Type 0 = λ is. FitIn is (length (or_empty references)) in subst F e (field_fits references)))
 
 ids_few : (message : List ℕ) → FitIn (ids_of_message message) (length message)
 ids_few message =
@@ -281,8 +283,8 @@ ids_few message =
 pub texts_few : (message : List ℕ) → length (id_texts message) ≤ length message
 texts_few message = let fit = (ids_few message).texts in omega (arith, fit)
 
-pub count_few : (message : List ℕ) → 5 * length (id_lens message) ≤ length message
+pub count_few : (message : List ℕ) → 5 * length (id_text_lengths message) ≤ length message
 count_few message =
     let fit = (ids_few message).count in
-    let many : length (id_lens message) ≡ length (ids_of_message message) = length-map (ids_of_message message) text_len in
+    let many : length (id_text_lengths message) ≡ length (ids_of_message message) = length-map (ids_of_message message) id_text_length in
     omega (arith, fit, many)

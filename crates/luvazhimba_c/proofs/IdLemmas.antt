@@ -3,10 +3,10 @@ use Rattle.std.proofs.Common.{◌≡◌, ℕ, ◌+◌, ◌<◌, List, [], ◌∷
 use Rattle.std.proofs.lemmas.Grind.{flat_map-append}
 use Rattle.std.proofs.lemmas.List.{take_more, map-append}
 use Rattle.std.specs.List.{flat_map}
-use Rattle.mail_core.specs.MsgIds.{Id}
-use Rattle.luvazhimba_c.specs.Ids.{id_text, text_len}
+use Rattle.mail_core.specs.MsgIds.{MessageId}
+use Rattle.luvazhimba_c.specs.Ids.{id_text, id_text_length}
 
-module _ (ids : List Id) (at : ℕ) (id : Id) (within : at < length ids) (is : (other : Id) → id ≡ get_or ids at other) where
+module _ (ids : List MessageId) (at : ℕ) (id : MessageId) (within : at < length ids) (is : (other : MessageId) → id ≡ get_or ids at other) where
   taken : take (at + 1) ids ≡ take at ids ++ id ∷ []
   taken = take_more ids at id within ∙ ap (λ x. take at ids ++ x ∷ []) (sym (is id))
 
@@ -17,9 +17,9 @@ module _ (ids : List Id) (at : ℕ) (id : Id) (within : at < length ids) (is : (
       ap (flat_map id_text) taken ∙ flat_map-append id_text (take at ids) (id ∷ []) ∙ ap (λ x. flat_map id_text (take at ids) ++ x) (append-nil (id_text id)) in
       f ∙ ap (λ x. x ++ id_text id) e ∙ append_assoc front (flat_map id_text (take at ids)) (id_text id) ∙ ap (λ x. front ++ x) (sym all)
 
-  pub more_lens : (front old new : List ℕ) → old ≡ front ++ map text_len (take at ids) → new ≡ old ++ text_len id ∷ []
-      → new ≡ front ++ map text_len (take (at + 1) ids)
+  pub more_lens : (front old new : List ℕ) → old ≡ front ++ map id_text_length (take at ids) → new ≡ old ++ id_text_length id ∷ []
+      → new ≡ front ++ map id_text_length (take (at + 1) ids)
   more_lens front old new e f =
-      let all : map text_len (take (at + 1) ids) ≡ map text_len (take at ids) ++ text_len id ∷ [] =
-      ap (map text_len) taken ∙ map-append text_len (take at ids) (id ∷ []) in
-      f ∙ ap (λ x. x ++ text_len id ∷ []) e ∙ append_assoc front (map text_len (take at ids)) (text_len id ∷ []) ∙ ap (λ x. front ++ x) (sym all)
+      let all : map id_text_length (take (at + 1) ids) ≡ map id_text_length (take at ids) ++ id_text_length id ∷ [] =
+      ap (map id_text_length) taken ∙ map-append id_text_length (take at ids) (id ∷ []) in
+      f ∙ ap (λ x. x ++ id_text_length id ∷ []) e ∙ append_assoc front (map id_text_length (take at ids)) (id_text_length id ∷ []) ∙ ap (λ x. front ++ x) (sym all)

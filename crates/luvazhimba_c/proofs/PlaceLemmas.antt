@@ -7,11 +7,11 @@ use Rattle.std.proofs.lemmas.List.Folds.{concat-append}
 use Rattle.std.specs.List.{concat, AllByRecursion}
 use Rattle.mail_core.specs.Lines.{lines, content}
 use Rattle.mbox_core.specs.Separator.{IsSeparator}
-use Rattle.mbox_core.specs.Division.{Item, IsBlank, AreBlocks, Divides}
+use Rattle.mbox_core.specs.Division.{Item, IsBlankLine, AreBlocks, DividesIntoItems}
 use Rattle.mbox_items.proofs.LineLemmas.{AreLines, lines_are, are_back, lines-concat, concat-lines, lines-nil}
 use Rattle.mbox_items.proofs.SeparatorLemmas.{separator_all}
 use Rattle.mbox_items.proofs.SplitLemmas.{heading_unblank}
-use Rattle.luvazhimba_c.specs.Places.{StandsAt, Stand, BeginsUnblank}
+use Rattle.luvazhimba_c.specs.Places.{IsMessageAtOffset, AreMessagesFromOffset, HasNoBlankFirstLine}
 use Rattle.luvazhimba_c.specs.declared.messages.LuvMessage.{LuvMessage}
 
 -- the line that begins there has this length
@@ -20,7 +20,7 @@ pub record IsLineLen (bytes : List ℕ) (at n : ℕ) : Type 0 where
   pub line : at < length bytes → lines (drop at bytes) ≡ take n (drop at bytes) ∷ lines (drop (at + n) bytes)
   pub end : length bytes ≤ at → n ≡ 0
 
-blank_nil : IsBlank []
+blank_nil : IsBlankLine []
 unfolding content
 blank_nil = refl
 
@@ -50,7 +50,7 @@ first bytes at n l ls len are =
 -- what follows the separator line: the text, an empty line or nothing, and the blocks of the other messages
 record Behind (bytes : List ℕ) (from m : ℕ) (item : Item) (rest : List Item) : Type 0 where
   blank : List ℕ
-  is_blank : IsBlank blank
+  is_blank : IsBlankLine blank
   long : length blank ≡ m
   parts : drop from bytes ≡ item.text ++ (blank ++ drop (from + length item.text + m) bytes)
   blocks : AreBlocks rest (lines (drop (from + length item.text + m) bytes))
@@ -92,7 +92,7 @@ behind_last bytes from m item rest low len none are =
 
 -- of a message that an empty line ends
 behind_blank : (bytes : List ℕ) (from m : ℕ) (item : Item) (rest : List Item) (blank : List ℕ) (more : List (List ℕ))
-    → IsLineLen bytes (from + length item.text) m → IsBlank blank → lines (drop from bytes) ≡ lines item.text ++ blank ∷ more → AreBlocks rest more
+    → IsLineLen bytes (from + length item.text) m → IsBlankLine blank → lines (drop from bytes) ≡ lines item.text ++ blank ∷ more → AreBlocks rest more
     → Behind bytes from m item rest
 behind_blank bytes from m item rest blank more len is are blocks =
     let text = blank_parts bytes item.text blank more from are in
@@ -113,7 +113,7 @@ behind_blank bytes from m item rest blank more len is are blocks =
 -- where a message stands whose block begins there, and the blocks behind it
 pub record Placed (bytes : List ℕ) (at n m : ℕ) (item : Item) (rest : List Item) : Type 0 where
   pub stands : (arrival : ℤ) → arrival ≡ item.envelope.arrival
-      → StandsAt bytes at item (record { start = at + n; end = at + n + length item.text; arrival = arrival }) (at + n + length item.text + m)
+      → IsMessageAtOffset bytes at item (record { start = at + n; end = at + n + length item.text; arrival = arrival }) (at + n + length item.text + m)
   pub later : AreBlocks rest (lines (drop (at + n + length item.text + m) bytes))
 
 -- a block, whose separator line has this length
@@ -133,7 +133,7 @@ module _ (bytes : List ℕ) (at n : ℕ) (item : Item) (rest : List Item) (len :
     stands = λ arrival e. record {
       heading = heading;
       blank = b.blank;
-      is_line = are ∙ ap (λ x. heading ∷ x) (sym f.others);
+      heading_is_first_line = are ∙ ap (λ x. heading ∷ x) (sym f.others);
       says = says;
       is_blank = b.is_blank;
       parts = f.parts ∙ ap (λ x. heading ++ x) b.parts;
@@ -160,33 +160,33 @@ begins_block bytes at item rest (heading, says, none, inr e) = begins bytes at h
 
 -- one message more stands
 pub stand_more : (bytes : List ℕ) (first next behind : ℕ) (all : List Item) (item : Item) (rest : List Item) (front : List LuvMessage) (place : LuvMessage) (later : List LuvMessage)
-    → ((ls : List LuvMessage) → Stand bytes next (item ∷ rest) ls → Stand bytes first all (front ++ ls))
-    → StandsAt bytes next item place behind → Stand bytes behind rest later → Stand bytes first all ((front ++ place ∷ []) ++ later)
+    → ((ls : List LuvMessage) → AreMessagesFromOffset bytes next (item ∷ rest) ls → AreMessagesFromOffset bytes first all (front ++ ls))
+    → IsMessageAtOffset bytes next item place behind → AreMessagesFromOffset bytes behind rest later → AreMessagesFromOffset bytes first all ((front ++ place ∷ []) ++ later)
 stand_more bytes first next behind all item rest front place later so_far here on =
-    subst (Stand bytes first all) (sym (append_assoc front (place ∷ []) later)) (so_far (place ∷ later) (behind, here, on))
+    subst (AreMessagesFromOffset bytes first all) (sym (append_assoc front (place ∷ []) later)) (so_far (place ∷ later) (behind, here, on))
 
 -- behind the last message nothing stands
-pub stand_end : (bytes : List ℕ) (at : ℕ) → AreBlocks [] (lines (drop at bytes)) → Stand bytes at [] []
+pub stand_end : (bytes : List ℕ) (at : ℕ) → AreBlocks [] (lines (drop at bytes)) → AreMessagesFromOffset bytes at [] []
 stand_end bytes at none = sym (concat-lines (drop at bytes)) ∙ ap concat none
 
 -- ---- the empty lines in front
 
-blocks_unblank : (items : List Item) (ls : List (List ℕ)) → AreBlocks items ls → BeginsUnblank ls
-blocks_unblank [] ls e = subst BeginsUnblank (sym e) tt
-blocks_unblank (i ∷ is) ls (heading, says, none, inl e) = subst BeginsUnblank (sym e.1) (heading_unblank heading i.envelope (separator_all (content heading) i.envelope says))
-blocks_unblank (i ∷ is) ls (heading, says, none, inr e) = subst BeginsUnblank (sym e.3) (heading_unblank heading i.envelope (separator_all (content heading) i.envelope says))
+blocks_unblank : (items : List Item) (ls : List (List ℕ)) → AreBlocks items ls → HasNoBlankFirstLine ls
+blocks_unblank [] ls e = subst HasNoBlankFirstLine (sym e) tt
+blocks_unblank (i ∷ is) ls (heading, says, none, inl e) = subst HasNoBlankFirstLine (sym e.1) (heading_unblank heading i.envelope (separator_all (content heading) i.envelope says))
+blocks_unblank (i ∷ is) ls (heading, says, none, inr e) = subst HasNoBlankFirstLine (sym e.3) (heading_unblank heading i.envelope (separator_all (content heading) i.envelope says))
 
 -- lines have one front of empty lines
-same_rest : (cs bs r s : List (List ℕ)) → cs ++ r ≡ bs ++ s → AllByRecursion IsBlank cs → AllByRecursion IsBlank bs
-    → BeginsUnblank r → BeginsUnblank s → r ≡ s
+same_rest : (cs bs r s : List (List ℕ)) → cs ++ r ≡ bs ++ s → AllByRecursion IsBlankLine cs → AllByRecursion IsBlankLine bs
+    → HasNoBlankFirstLine r → HasNoBlankFirstLine s → r ≡ s
 same_rest [] [] r s e h g u v = e
-same_rest [] (b ∷ bs) r s e h g u v = absurd (subst BeginsUnblank e u g.0)
-same_rest (a ∷ cs) [] r s e h g u v = absurd (subst BeginsUnblank (sym e) v h.0)
+same_rest [] (b ∷ bs) r s e h g u v = absurd (subst HasNoBlankFirstLine e u g.0)
+same_rest (a ∷ cs) [] r s e h g u v = absurd (subst HasNoBlankFirstLine (sym e) v h.0)
 same_rest (a ∷ cs) (b ∷ bs) r s e h g u v = let later : cs ++ r ≡ bs ++ s = cc in same_rest cs bs r s later h.1 g.1 u v
 
 -- the blocks of a division begin where the first line does that is not empty
-pub blocks_there : (bytes : List ℕ) (items : List Item) (first : ℕ) → Divides bytes items → lines bytes ≡ lines (take first bytes) ++ lines (drop first bytes)
-    → AllByRecursion IsBlank (lines (take first bytes)) → BeginsUnblank (lines (drop first bytes)) → AreBlocks items (lines (drop first bytes))
+pub blocks_there : (bytes : List ℕ) (items : List Item) (first : ℕ) → DividesIntoItems bytes items → lines bytes ≡ lines (take first bytes) ++ lines (drop first bytes)
+    → AllByRecursion IsBlankLine (lines (take first bytes)) → HasNoBlankFirstLine (lines (drop first bytes)) → AreBlocks items (lines (drop first bytes))
 blocks_there bytes items first (blanks, rest, are, all, blocks) cut blank unblank =
     let same = same_rest blanks (lines (take first bytes)) rest (lines (drop first bytes)) (sym are ∙ cut) all blank (blocks_unblank items rest blocks) unblank in
     subst (AreBlocks items) same blocks

@@ -1,8 +1,8 @@
 -- How many rows there are at most: each message stands in one, and a row without a message has two of them below it.
 use Rattle.std.proofs.Common.{◌≡◌, ℕ, zero, suc, ◌+◌, ◌*◌, ◌<◌, ◌≤◌, Bool, true, false, cond, ◌==◌, List, [], ◌∷◌, length, refl, arith, ap, sym, ◌∙◌, Option, Some, None, ◌⊎◌, inl, inr}
 use Rattle.std.specs.Option.{option_map_or}
-use Rattle.thread_core.specs.PlaceLaws.{rows_at, HasEachPlaceOnce}
-use Rattle.thread_core.specs.RowLaws.{children_of_top, HasFullDummies}
+use Rattle.thread_core.specs.PlaceLaws.{row_count_of_place, HasEachPlaceOnce}
+use Rattle.thread_core.specs.RowLaws.{top_child_count, DummiesHaveTwoChildren}
 use Rattle.thread_core.specs.TopThread.{is_row_of}
 use Rattle.thread_core.specs.declared.row.Row.{Row}
 use Rattle.thread_core.proofs.Counting.{one_itself, below_or_not}
@@ -35,12 +35,12 @@ in_all (row ∷ rows) = go row.place (in_all rows)
     go None h = omega (arith, h)
     go (Some p) h = omega (arith, h)
 
-two_below_each : (rows : List Row) → HasFullDummies rows → 2 * dummies_in rows + children_of_top rows ≤ messages_in rows
+two_below_each : (rows : List Row) → DummiesHaveTwoChildren rows → 2 * dummies_in rows + top_child_count rows ≤ messages_in rows
 two_below_each [] h = omega arith
 two_below_each (row ∷ rows) h = go row.place refl (row.depth == 0) refl (row.depth == 1) (two_below_each rows h.1)
   where
-    go : (o : Option ℕ) → row.place ≡ o → (s : Bool) → (row.depth == 0) ≡ s → (t : Bool) → 2 * dummies_in rows + children_of_top rows ≤ messages_in rows
-        → 2 * (none_one o + dummies_in rows) + cond s 0 (cond t 1 0 + children_of_top rows) ≤ some_one o + messages_in rows
+    go : (o : Option ℕ) → row.place ≡ o → (s : Bool) → (row.depth == 0) ≡ s → (t : Bool) → 2 * dummies_in rows + top_child_count rows ≤ messages_in rows
+        → 2 * (none_one o + dummies_in rows) + cond s 0 (cond t 1 0 + top_child_count rows) ≤ some_one o + messages_in rows
     go None e true f t k = let two = (h.0 e).1 in omega (arith, two, k)
     go None e false f t k = absurd (let bad : false ≡ true = sym f ∙ ap (λ (d : ℕ). d == 0) (h.0 e).0 in cc)
     go (Some p) e true f t k = omega (arith, k)
@@ -76,23 +76,23 @@ sum_of_ones f (suc n) h =
     let later = sum_of_ones f n (λ p low. h p (omega (arith, low))) in
     omega (arith, here, later)
 
-each_counted : (n : ℕ) (rows : List Row) → ((p : ℕ) → n ≤ p → rows_at p rows ≡ 0) → messages_in rows ≤ sum_below (λ p. rows_at p rows) n
+each_counted : (n : ℕ) (rows : List Row) → ((p : ℕ) → n ≤ p → row_count_of_place p rows ≡ 0) → messages_in rows ≤ sum_below (λ p. row_count_of_place p rows) n
 each_counted n [] h = omega arith
-each_counted n (row ∷ rows) h = go row.place refl (each_counted n rows later) (sum-add (λ p. cond (is_row_of p row) 1 0) (λ p. rows_at p rows) n)
+each_counted n (row ∷ rows) h = go row.place refl (each_counted n rows later) (sum-add (λ p. cond (is_row_of p row) 1 0) (λ p. row_count_of_place p rows) n)
   where
-    later : (p : ℕ) → n ≤ p → rows_at p rows ≡ 0
+    later : (p : ℕ) → n ≤ p → row_count_of_place p rows ≡ 0
     later p high = let both = h p high in omega (arith, both)
 
-    go : (o : Option ℕ) → row.place ≡ o → messages_in rows ≤ sum_below (λ p. rows_at p rows) n
-        → sum_below (λ p. cond (is_row_of p row) 1 0 + rows_at p rows) n ≡ sum_below (λ p. cond (is_row_of p row) 1 0) n + sum_below (λ p. rows_at p rows) n
-        → some_one o + messages_in rows ≤ sum_below (λ p. cond (is_row_of p row) 1 0 + rows_at p rows) n
+    go : (o : Option ℕ) → row.place ≡ o → messages_in rows ≤ sum_below (λ p. row_count_of_place p rows) n
+        → sum_below (λ p. cond (is_row_of p row) 1 0 + row_count_of_place p rows) n ≡ sum_below (λ p. cond (is_row_of p row) 1 0) n + sum_below (λ p. row_count_of_place p rows) n
+        → some_one o + messages_in rows ≤ sum_below (λ p. cond (is_row_of p row) 1 0 + row_count_of_place p rows) n
     go None e k sum = omega (arith, k, sum)
     go (Some q) e k sum = by_place (below_or_not q n)
       where
         here : (p : ℕ) → is_row_of p row ≡ (q == p)
         here p = ap (λ (o : Option ℕ). option_map_or (λ (at : ℕ). at == p) o false) e
 
-        by_place : (q < n) ⊎ (n ≤ q) → 1 + messages_in rows ≤ sum_below (λ p. cond (is_row_of p row) 1 0 + rows_at p rows) n
+        by_place : (q < n) ⊎ (n ≤ q) → 1 + messages_in rows ≤ sum_below (λ p. cond (is_row_of p row) 1 0 + row_count_of_place p rows) n
         by_place (inl low) =
             let one : 1 ≤ sum_below (λ p. cond (is_row_of p row) 1 0) n = rw e (counted q n low) in
             omega (arith, k, sum, one)
@@ -102,10 +102,10 @@ each_counted n (row ∷ rows) h = go row.place refl (each_counted n rows later) 
             omega (arith, one, none)
             )
 
-pub rows_few : (n : ℕ) (rows : List Row) → HasFullDummies rows → HasEachPlaceOnce n rows → length rows ≤ 2 * n
+pub rows_few : (n : ℕ) (rows : List Row) → DummiesHaveTwoChildren rows → HasEachPlaceOnce n rows → length rows ≤ 2 * n
 rows_few n rows full once =
     let all = in_all rows in
     let two = two_below_each rows full in
     let each = each_counted n rows once.no_other in
-    let sum = sum_of_ones (λ p. rows_at p rows) n once.once in
+    let sum = sum_of_ones (λ p. row_count_of_place p rows) n once.once in
     omega (arith, all, two, each, sum)

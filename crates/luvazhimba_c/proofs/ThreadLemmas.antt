@@ -4,15 +4,15 @@ use Rattle.std.proofs.Math.Seq.{drop-append_seam, take-append_seam}
 use Rattle.std.proofs.lemmas.List.{drop-drop}
 use Rattle.std.specs.List.{concat}
 use Rattle.mail_core.specs.Places.{between}
-use Rattle.mbox_core.specs.Division.{Item, Divides}
+use Rattle.mbox_core.specs.Division.{Item, DividesIntoItems}
 use Rattle.mbox_core.proofs.DivisionLaws.{one_division}
 use Rattle.thread_core.specs.Threads.{threads_of}
-use Rattle.luvazhimba_c.specs.Entries.{entry_of, entry_at, AreThreadsOfMbox}
-use Rattle.luvazhimba_c.specs.Places.{StandsAt, Stand, AreMessagesOf}
+use Rattle.luvazhimba_c.specs.Entries.{entry_of_message, entry_at, AreThreadsOfMbox}
+use Rattle.luvazhimba_c.specs.Places.{IsMessageAtOffset, AreMessagesFromOffset, ArePlacesOfMessages}
 use Rattle.luvazhimba_c.specs.declared.messages.LuvMessage.{LuvMessage}
 
 -- where a message stands is its text
-text_there : (bytes : List ℕ) (at : ℕ) (item : Item) (place : LuvMessage) (next : ℕ) → StandsAt bytes at item place next
+text_there : (bytes : List ℕ) (at : ℕ) (item : Item) (place : LuvMessage) (next : ℕ) → IsMessageAtOffset bytes at item place next
     → between bytes place.start place.end ≡ item.text
 text_there bytes at item place next s =
     let tail = s.blank ++ drop next bytes in
@@ -23,7 +23,7 @@ text_there bytes at item place next s =
     ap (λ n. take n (drop place.start bytes)) long ∙ ap (take (length item.text)) begins ∙ take-append_seam item.text tail
 
 -- what is said of each message by its text and its arrival is said of it where it stands
-each_there : {X : Type 0} (f : List ℕ → ℤ → X) (bytes : List ℕ) (at : ℕ) (items : List Item) (places : List LuvMessage) → Stand bytes at items places
+each_there : {X : Type 0} (f : List ℕ → ℤ → X) (bytes : List ℕ) (at : ℕ) (items : List Item) (places : List LuvMessage) → AreMessagesFromOffset bytes at items places
     → map (λ (p : LuvMessage). f (between bytes p.start p.end) p.arrival) places ≡ map (λ (i : Item). f i.text i.envelope.arrival) items
 each_there f bytes at [] [] s = refl
 each_there f bytes at [] (p ∷ ps) s = absurd s
@@ -33,13 +33,13 @@ each_there f bytes at (i ∷ is) (p ∷ ps) (next, here, later) =
     let others = each_there f bytes next is ps later in cc
 
 -- the same of the messages of an mbox, which has one division
-pub said_there : {X : Type 0} (f : List ℕ → ℤ → X) (mbox : List ℕ) (items : List Item) (places : List LuvMessage) → Divides mbox items → AreMessagesOf mbox places
+pub said_there : {X : Type 0} (f : List ℕ → ℤ → X) (mbox : List ℕ) (items : List Item) (places : List LuvMessage) → DividesIntoItems mbox items → ArePlacesOfMessages mbox places
     → map (λ (p : LuvMessage). f (between mbox p.start p.end) p.arrival) places ≡ map (λ (i : Item). f i.text i.envelope.arrival) items
 said_there f mbox items places d m =
     each_there f mbox m.first m.items places m.stand ∙ ap (map (λ (i : Item). f i.text i.envelope.arrival)) (one_division mbox m.items items m.divides d)
 
 -- and of lists, one behind the other
-pub texts_there : (g : List ℕ → List ℕ) (mbox : List ℕ) (items : List Item) (places : List LuvMessage) → Divides mbox items → AreMessagesOf mbox places
+pub texts_there : (g : List ℕ → List ℕ) (mbox : List ℕ) (items : List Item) (places : List LuvMessage) → DividesIntoItems mbox items → ArePlacesOfMessages mbox places
     → flat_map (λ (p : LuvMessage). g (between mbox p.start p.end)) places ≡ flat_map (λ (i : Item). g i.text) items
 texts_there g mbox items places d m =
     joined places (λ (p : LuvMessage). g (between mbox p.start p.end)) ∙ ap concat (said_there (λ text arrival. g text) mbox items places d m) ∙ sym (joined items (λ (i : Item). g i.text))
@@ -48,10 +48,10 @@ texts_there g mbox items places d m =
     joined [] h = refl
     joined (x ∷ xs) h = ap (λ l. h x ++ l) (joined xs h)
 
-pub threads_there : (mbox : List ℕ) (places : List LuvMessage) (merge : Bool) → AreMessagesOf mbox places
+pub threads_there : (mbox : List ℕ) (places : List LuvMessage) (merge : Bool) → ArePlacesOfMessages mbox places
     → AreThreadsOfMbox mbox merge (threads_of (map (entry_at mbox) places) merge)
 threads_there mbox places merge m = record {
   items = m.items;
   divides = m.divides;
-  are = ap (λ entries. threads_of entries merge) (each_there entry_of mbox m.first m.items places m.stand);
+  are = ap (λ entries. threads_of entries merge) (each_there entry_of_message mbox m.first m.items places m.stand);
 }

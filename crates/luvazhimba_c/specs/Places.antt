@@ -1,19 +1,19 @@
 -- Where the messages of an mbox stand in its bytes (RFC 4155, appendix A: each message is preceded by one separator line and
--- followed by one empty line). Which messages those are says `Divides`, where the last one may lack its empty line.
+-- followed by one empty line). Which messages those are says `DividesIntoItems`, where the last one may lack its empty line.
 use Rattle.std.specs.Prelude.{◌≡◌, ℕ, ◌+◌, List, [], ◌∷◌, ◌++◌, length, take, drop}
 use Rattle.std.specs.List.{AllByRecursion}
 use Rattle.mail_core.specs.Lines.{lines, content}
 use Rattle.mbox_core.specs.Separator.{IsSeparator}
-use Rattle.mbox_core.specs.Division.{Item, IsBlank, Divides}
+use Rattle.mbox_core.specs.Division.{Item, IsBlankLine, DividesIntoItems}
 use Rattle.luvazhimba_c.specs.declared.messages.LuvMessage.{LuvMessage}
 
 -- From `at` on the bytes are a separator line, the text of the message, an empty line or nothing, and what begins at `next`.
-pub record StandsAt (bytes : List ℕ) (at : ℕ) (item : Item) (place : LuvMessage) (next : ℕ) : Type 0 where
+pub record IsMessageAtOffset (bytes : List ℕ) (at : ℕ) (item : Item) (place : LuvMessage) (next : ℕ) : Type 0 where
   pub heading : List ℕ
   pub blank : List ℕ
-  pub is_line : lines (drop at bytes) ≡ heading ∷ lines (drop place.start bytes)
+  pub heading_is_first_line : lines (drop at bytes) ≡ heading ∷ lines (drop place.start bytes)
   pub says : IsSeparator (content heading) item.envelope
-  pub is_blank : IsBlank blank
+  pub is_blank : IsBlankLine blank
   pub parts : drop at bytes ≡ heading ++ (item.text ++ (blank ++ drop next bytes))
   pub begins : place.start ≡ at + length heading
   pub ends : place.end ≡ place.start + length item.text
@@ -21,21 +21,21 @@ pub record StandsAt (bytes : List ℕ) (at : ℕ) (item : Item) (place : LuvMess
   pub arrival : place.arrival ≡ item.envelope.arrival
 
 -- from `at` on the messages stand one behind the other, and behind the last one nothing stands
-abbrev pub Stand : List ℕ → ℕ → List Item → List LuvMessage → Type 0
-Stand bytes at [] [] = drop at bytes ≡ []
-Stand bytes at [] (place ∷ places) = ⊥
-Stand bytes at (item ∷ items) [] = ⊥
-Stand bytes at (item ∷ items) (place ∷ places) = (next : ℕ) × StandsAt bytes at item place next × Stand bytes next items places
+abbrev pub AreMessagesFromOffset : List ℕ → ℕ → List Item → List LuvMessage → Type 0
+AreMessagesFromOffset bytes at [] [] = drop at bytes ≡ []
+AreMessagesFromOffset bytes at [] (place ∷ places) = ⊥
+AreMessagesFromOffset bytes at (item ∷ items) [] = ⊥
+AreMessagesFromOffset bytes at (item ∷ items) (place ∷ places) = (next : ℕ) × IsMessageAtOffset bytes at item place next × AreMessagesFromOffset bytes next items places
 
 -- The messages of an mbox, in order. In front of the first separator line stand empty lines alone.
-pub record AreMessagesOf (bytes : List ℕ) (places : List LuvMessage) : Type 0 where
+pub record ArePlacesOfMessages (bytes : List ℕ) (places : List LuvMessage) : Type 0 where
   pub items : List Item
-  pub divides : Divides bytes items
+  pub divides : DividesIntoItems bytes items
   pub first : ℕ
-  pub blank : AllByRecursion IsBlank (lines (take first bytes))
-  pub stand : Stand bytes first items places
+  pub blank : AllByRecursion IsBlankLine (lines (take first bytes))
+  pub stand : AreMessagesFromOffset bytes first items places
 
 -- no line, or one that is not empty first
-abbrev pub BeginsUnblank : List (List ℕ) → Type 0
-BeginsUnblank [] = Unit {0}
-BeginsUnblank (l ∷ ls) = ¬ IsBlank l
+abbrev pub HasNoBlankFirstLine : List (List ℕ) → Type 0
+HasNoBlankFirstLine [] = Unit {0}
+HasNoBlankFirstLine (l ∷ ls) = ¬ IsBlankLine l

@@ -2,10 +2,10 @@
 ghost use Rattle.std.specs.Prelude.{◌≡◌, ◌≢◌, ◌<◌, ◌≤◌, ◌+◌, ◌^◌, ◌++◌, ◌∷◌, [], ◌⊎◌, ◌↔◌, ℕ, List, length, take, drop};
 ghost use Rattle.std.specs.List.{AllByRecursion};
 ghost use Rattle.mail_core.specs.Lines.{lines};
-ghost use Rattle.mbox_core.specs.Division.{Item as Message, IsBlank, AreBlocks, Divides, IsPreamble};
+ghost use Rattle.mbox_core.specs.Division.{Item as Message, IsBlankLine, AreBlocks, DividesIntoItems, IsPreamble};
 ghost use Rattle.mbox_core.specs.Faults.{IsCutFault};
-ghost use Rattle.luvazhimba_c.specs.Numbers.{done, no_room, no_mbox, too_long, IsTooLong};
-ghost use Rattle.luvazhimba_c.specs.Places.{StandsAt, Stand, AreMessagesOf, BeginsUnblank};
+ghost use Rattle.luvazhimba_c.specs.Numbers.{luv_done, luv_no_room, luv_no_mbox, luv_too_long, IsArrayTooLong};
+ghost use Rattle.luvazhimba_c.specs.Places.{IsMessageAtOffset, AreMessagesFromOffset, ArePlacesOfMessages, HasNoBlankFirstLine};
 
 use crate::messages::LuvMessage;
 use crate::refusals::{DONE, Refusal, is_too_long};
@@ -31,8 +31,8 @@ fn line_len(bytes: &[u8], at: usize) -> usize
 fn first_line(bytes: &[u8]) -> usize
     ensures within { result ≤ length bytes.now }
     ensures cut { lines bytes.now ≡ lines (take result bytes.now) ++ lines (drop result bytes.now) }
-    ensures blank { AllByRecursion IsBlank (lines (take result bytes.now)) }
-    ensures unblank { BeginsUnblank (lines (drop result bytes.now)) }
+    ensures blank { AllByRecursion IsBlankLine (lines (take result bytes.now)) }
+    ensures unblank { HasNoBlankFirstLine (lines (drop result bytes.now)) }
 {
     let mut at = 0;
     while at < bytes.len() {
@@ -60,7 +60,7 @@ fn len_and_arrival(item: &Item<'_>) -> (usize, i64)
 fn place_of(bytes: &[u8], at: usize, item: &Item<'_>) -> (LuvMessage, usize)
     requires low { at ≤ length bytes.now }
     requires blocks { (rest : List Message) × AreBlocks (item.now ∷ rest) (lines (drop at bytes.now)) }
-    ensures stands { StandsAt bytes.now at item.now result.0 result.1 }
+    ensures stands { IsMessageAtOffset bytes.now at item.now result.0 result.1 }
     ensures later { (rest : List Message) → AreBlocks (item.now ∷ rest) (lines (drop at bytes.now))
         → AreBlocks rest (lines (drop result.1 bytes.now)) }
     ensures on { (at < result.1) × (result.1 ≤ length bytes.now) }
@@ -96,7 +96,7 @@ fn put_places(bytes: &[u8], at: usize, messages: Messages<'_>, to: &mut [LuvMess
     requires low { at ≤ length bytes.now }
     requires blocks { AreBlocks messages (lines (drop at bytes.now)) }
     ensures count { result ≡ length messages.entry }
-    ensures stand { result ≤ length to.old → Stand bytes.now at messages.entry (take result to.new) }
+    ensures stand { result ≤ length to.old → AreMessagesFromOffset bytes.now at messages.entry (take result to.new) }
 {
     let mut next = at;
     let mut count = 0;
@@ -111,7 +111,7 @@ fn put_places(bytes: &[u8], at: usize, messages: Messages<'_>, to: &mut [LuvMess
 
 /// Writes where the line begins that makes bytes no mbox; it says what the call answers.
 pub(crate) fn answer_fault(fault: MboxFault, count: &mut usize) -> u8
-    ensures number { result ≡ no_mbox }
+    ensures number { result ≡ luv_no_mbox }
     ensures offset { (bytes : List ℕ) → IsCutFault bytes fault → IsPreamble bytes count.new }
 {
     if let MboxFault::Preamble(offset) = fault {
@@ -125,12 +125,12 @@ pub(crate) fn answer_fault(fault: MboxFault, count: &mut usize) -> u8
 /// empty is no separator line, and then `count` is where that line begins.
 #[unsafe(no_mangle)]
 pub extern "C" fn luv_cut(mbox: &[u8], messages: &mut [LuvMessage], count: &mut usize) -> u8
-    ensures messages { result ≡ done → AreMessagesOf mbox.now (take count.new messages.new) × (count.new ≤ length messages.old) }
-    ensures no_room { result ≡ no_room
-        → (items : List Message) × Divides mbox.now items × (count.new ≡ length items) × (length messages.old < count.new) }
-    ensures no_mbox { result ≡ no_mbox → IsPreamble mbox.now count.new }
-    ensures too_long { (result ≡ too_long) ↔ IsTooLong mbox.now }
-    ensures refused { result ≢ done → (result ≡ no_room) ⊎ (result ≡ no_mbox) ⊎ (result ≡ too_long) }
+    ensures messages { result ≡ luv_done → ArePlacesOfMessages mbox.now (take count.new messages.new) × (count.new ≤ length messages.old) }
+    ensures no_room { result ≡ luv_no_room
+        → (items : List Message) × DividesIntoItems mbox.now items × (count.new ≡ length items) × (length messages.old < count.new) }
+    ensures no_mbox { result ≡ luv_no_mbox → IsPreamble mbox.now count.new }
+    ensures too_long { (result ≡ luv_too_long) ↔ IsArrayTooLong mbox.now }
+    ensures refused { result ≢ luv_done → (result ≡ luv_no_room) ⊎ (result ≡ luv_no_mbox) ⊎ (result ≡ luv_too_long) }
 {
     if is_too_long(mbox) {
         return Refusal::TooLong.number();

@@ -2,7 +2,7 @@
 ghost use Rattle.std.specs.Prelude.{◌≡◌, ◌≢◌, ◌⊎◌, ◌↔◌, false};
 ghost use Rattle.civil_time.specs.Calendar.{is_instant};
 ghost use Rattle.mail_core.specs.Headers.{sent_date_of};
-ghost use Rattle.luvazhimba_c.specs.Numbers.{done, no_instant, too_long, IsTooLong};
+ghost use Rattle.luvazhimba_c.specs.Numbers.{luv_done, luv_no_instant, luv_too_long, IsArrayTooLong};
 
 use crate::refusals::{DONE, Refusal, is_too_long};
 use civil_time::Instant;
@@ -13,10 +13,10 @@ use mail_core::Header;
 /// 9998, and where the message is too long.
 #[unsafe(no_mangle)]
 pub extern "C" fn luv_sent_date(message: &[u8], arrival: i64, sent: &mut i64) -> u8
-    ensures sent { result ≡ done → sent.new ≡ sent_date_of message.now arrival }
-    ensures no_instant { (result ≡ no_instant) ↔ (is_instant arrival ≡ false) × ¬ IsTooLong message.now }
-    ensures too_long { (result ≡ too_long) ↔ IsTooLong message.now }
-    ensures refused { result ≢ done → (result ≡ no_instant) ⊎ (result ≡ too_long) }
+    ensures sent { result ≡ luv_done → sent.new ≡ sent_date_of message.now arrival }
+    ensures no_instant { (result ≡ luv_no_instant) ↔ (is_instant arrival ≡ false) × ¬ IsArrayTooLong message.now }
+    ensures too_long { (result ≡ luv_too_long) ↔ IsArrayTooLong message.now }
+    ensures refused { result ≢ luv_done → (result ≡ luv_no_instant) ⊎ (result ≡ luv_too_long) }
 {
     if is_too_long(message) {
         return Refusal::TooLong.number();

@@ -1,8 +1,8 @@
 //! What messages say about threads.
 ghost use Rattle.std.specs.Prelude.{◌≡◌, map, All, Contains, OnOk, IfOk, IfErr};
-ghost use Rattle.luvazhimba_c.specs.Entries.{entry_of, entry_at, entry_of_item, IsReadable, IsOutside, HasNoInstant};
+ghost use Rattle.luvazhimba_c.specs.Entries.{entry_of_message, entry_at, entry_of_item, IsReadableMessage, LiesOutsideBytes, ArrivesOutOfRange};
 ghost use Rattle.luvazhimba_c.specs.declared.messages.LuvMessage.{LuvMessage};
-ghost use Rattle.luvazhimba_c.specs.Numbers.{no_memory, outside, no_instant, number_of, IsOfMessages};
+ghost use Rattle.luvazhimba_c.specs.Numbers.{luv_no_memory, luv_outside, luv_no_instant, refusal_number, IsMessageReadError};
 
 use crate::messages::LuvMessage;
 use crate::refusals::Refusal;
@@ -15,7 +15,7 @@ use thread_core::Entry;
 
 /// What a message says about threads that arrived then.
 fn entry_of(alloc: Global, text: &[u8], arrival: Instant) -> Result<Entry, Memory>
-    ensures { IfOk result (λ entry. entry ≡ entry_of text.now arrival) }
+    ensures { IfOk result (λ entry. entry ≡ entry_of_message text.now arrival) }
 {
     let header = Header::of(text);
     let subject = header.unfolded_subject(alloc)?;
@@ -34,10 +34,10 @@ fn entry_of(alloc: Global, text: &[u8], arrival: Instant) -> Result<Entry, Memor
 
 fn entry_at(alloc: Global, bytes: &[u8], message: &LuvMessage) -> Result<Entry, Refusal>
     ensures entry { IfOk result (λ entry. entry ≡ entry_at bytes.now message.now) }
-    ensures readable { OnOk result (IsReadable bytes.now message.now) }
-    ensures refused { IfErr result (λ e. IsOfMessages (number_of e)) }
-    ensures outside { IfErr result (λ e. number_of e ≡ outside → IsOutside bytes.now message.now) }
-    ensures no_instant { IfErr result (λ e. number_of e ≡ no_instant → HasNoInstant message.now) }
+    ensures readable { OnOk result (IsReadableMessage bytes.now message.now) }
+    ensures refused { IfErr result (λ e. IsMessageReadError (refusal_number e)) }
+    ensures outside { IfErr result (λ e. refusal_number e ≡ luv_outside → LiesOutsideBytes bytes.now message.now) }
+    ensures no_instant { IfErr result (λ e. refusal_number e ≡ luv_no_instant → ArrivesOutOfRange message.now) }
 {
     if message.start > message.end || message.end > bytes.len() {
         return Err(Refusal::Place);
@@ -58,12 +58,12 @@ pub(crate) fn entries_at(
     messages: &[LuvMessage],
 ) -> Result<Vec<Entry>, Refusal>
     ensures entries { IfOk result (λ entries. entries.items ≡ map (entry_at bytes.now) messages.now) }
-    ensures readable { OnOk result (All (IsReadable bytes.now) messages.now) }
-    ensures refused { IfErr result (λ e. IsOfMessages (number_of e)) }
-    ensures outside { IfErr result (λ e. number_of e ≡ outside
-        → (m : LuvMessage) × Contains messages.now m × IsOutside bytes.now m) }
-    ensures no_instant { IfErr result (λ e. number_of e ≡ no_instant
-        → (m : LuvMessage) × Contains messages.now m × HasNoInstant m) }
+    ensures readable { OnOk result (All (IsReadableMessage bytes.now) messages.now) }
+    ensures refused { IfErr result (λ e. IsMessageReadError (refusal_number e)) }
+    ensures outside { IfErr result (λ e. refusal_number e ≡ luv_outside
+        → (m : LuvMessage) × Contains messages.now m × LiesOutsideBytes bytes.now m) }
+    ensures no_instant { IfErr result (λ e. refusal_number e ≡ luv_no_instant
+        → (m : LuvMessage) × Contains messages.now m × ArrivesOutOfRange m) }
 {
     let mut entries = Vec::new(alloc);
     for at in 0..messages.len() {
@@ -83,7 +83,7 @@ pub(crate) fn entries_at(
 /// What the messages that are left say about threads.
 pub(crate) fn entries_of_items(alloc: Global, messages: Messages<'_>) -> Result<Vec<Entry>, Refusal>
     ensures entries { IfOk result (λ entries. entries.items ≡ map entry_of_item messages.entry) }
-    ensures memory { IfErr result (λ e. number_of e ≡ no_memory) }
+    ensures memory { IfErr result (λ e. refusal_number e ≡ luv_no_memory) }
 {
     let mut entries = Vec::new(alloc);
     for item in messages {

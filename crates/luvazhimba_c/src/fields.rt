@@ -3,8 +3,8 @@ ghost use Rattle.std.specs.Prelude.{◌≡◌, ◌≢◌, ◌⊎◌, ◌↔◌, 
 ghost use Rattle.std.specs.Ordering.{int_eq};
 ghost use Rattle.civil_time.specs.Calendar.{is_instant};
 ghost use Rattle.mail_core.specs.Headers.{sent_date_in};
-ghost use Rattle.luvazhimba_c.specs.Fields.{unfolded_from_of, field_texts, field_lens, numbers_of, AreFieldsOf, WantsFieldRoom};
-ghost use Rattle.luvazhimba_c.specs.Numbers.{done, no_room, no_memory, no_instant, too_long, number_of, IsTooLong};
+ghost use Rattle.luvazhimba_c.specs.Fields.{unfolded_from_of, field_texts, field_text_lengths, field_numbers, HoldMessageFields, LacksRoomForFields};
+ghost use Rattle.luvazhimba_c.specs.Numbers.{luv_done, luv_no_room, luv_no_memory, luv_no_instant, luv_too_long, refusal_number, IsArrayTooLong};
 
 use crate::ids::Texts;
 use crate::outputs::put;
@@ -58,8 +58,8 @@ pub(crate) fn push_fields(
     arrival: Instant,
 ) -> Result<LuvFields, Memory>
     ensures bytes { OnOk result (texts.new.bytes.items ≡ texts.old.bytes.items ++ field_texts message.now) }
-    ensures lens { OnOk result (texts.new.lens.items ≡ texts.old.lens.items ++ field_lens message.now) }
-    ensures numbers { IfOk result (λ found. found ≡ numbers_of message.now arrival) }
+    ensures lens { OnOk result (texts.new.lens.items ≡ texts.old.lens.items ++ field_text_lengths message.now) }
+    ensures numbers { IfOk result (λ found. found ≡ field_numbers message.now arrival) }
 {
     let (count, len) = (texts.lens.len(), texts.bytes.len());
     let header = Header::of(message);
@@ -91,11 +91,11 @@ pub extern "C" fn luv_fields(
     lens: &mut [usize],
     found: &mut LuvFields,
 ) -> u8
-    ensures fields { result ≡ done → AreFieldsOf message.now arrival texts.new lens.new found.new }
-    ensures no_room { result ≡ no_room → WantsFieldRoom message.now arrival texts.old lens.old found.new }
-    ensures no_instant { (result ≡ no_instant) ↔ (is_instant arrival ≡ false) × ¬ IsTooLong message.now }
-    ensures too_long { (result ≡ too_long) ↔ IsTooLong message.now }
-    ensures refused { result ≢ done → (result ≡ no_room) ⊎ (result ≡ no_memory) ⊎ (result ≡ no_instant) ⊎ (result ≡ too_long) }
+    ensures fields { result ≡ luv_done → HoldMessageFields message.now arrival texts.new lens.new found.new }
+    ensures no_room { result ≡ luv_no_room → LacksRoomForFields message.now arrival texts.old lens.old found.new }
+    ensures no_instant { (result ≡ luv_no_instant) ↔ (is_instant arrival ≡ false) × ¬ IsArrayTooLong message.now }
+    ensures too_long { (result ≡ luv_too_long) ↔ IsArrayTooLong message.now }
+    ensures refused { result ≢ luv_done → (result ≡ luv_no_room) ⊎ (result ≡ luv_no_memory) ⊎ (result ≡ luv_no_instant) ⊎ (result ≡ luv_too_long) }
 {
     if is_too_long(message) {
         return Refusal::TooLong.number();
@@ -117,9 +117,9 @@ fn write_fields(
     lens: &mut [usize],
     found: &mut LuvFields,
 ) -> Result<(), Refusal>
-    ensures fields { OnOk result (AreFieldsOf message.now arrival texts.new lens.new found.new) }
-    ensures no_room { IfErr result (λ e. number_of e ≡ no_room → WantsFieldRoom message.now arrival texts.old lens.old found.new) }
-    ensures refused { IfErr result (λ e. (number_of e ≡ no_room) ⊎ (number_of e ≡ no_memory)) }
+    ensures fields { OnOk result (HoldMessageFields message.now arrival texts.new lens.new found.new) }
+    ensures no_room { IfErr result (λ e. refusal_number e ≡ luv_no_room → LacksRoomForFields message.now arrival texts.old lens.old found.new) }
+    ensures refused { IfErr result (λ e. (refusal_number e ≡ luv_no_room) ⊎ (refusal_number e ≡ luv_no_memory)) }
 {
     let mut said = Texts::new(alloc);
     *found = push_fields(alloc, &mut said, message, arrival)?;

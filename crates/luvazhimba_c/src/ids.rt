@@ -1,9 +1,9 @@
 //! Message ids.
 ghost use Rattle.std.specs.Prelude.{◌≡◌, ◌≢◌, ◌⊎◌, ◌↔◌, ◌++◌, ◌∷◌, [], length, map, OnOk, IfOk, IfErr};
 ghost use Rattle.std.specs.List.{flat_map};
-ghost use Rattle.mail_core.specs.Headers.{own_id_in, own_id_of, alone};
-ghost use Rattle.luvazhimba_c.specs.Ids.{id_text, text_len, ids_of_header, id_texts, id_lens, AreIdsOf, WantRoom};
-ghost use Rattle.luvazhimba_c.specs.Numbers.{done, no_room, no_memory, too_long, number_of, IsTooLong};
+ghost use Rattle.mail_core.specs.Headers.{own_id_in, own_id_of, id_option_to_list};
+ghost use Rattle.luvazhimba_c.specs.Ids.{id_text, id_text_length, ids_of_header, id_texts, id_text_lengths, HoldMessageIds, LacksRoomForIds};
+ghost use Rattle.luvazhimba_c.specs.Numbers.{luv_done, luv_no_room, luv_no_memory, luv_too_long, refusal_number, IsArrayTooLong};
 
 use crate::outputs::put;
 use crate::refusals::{DONE, Refusal, is_too_long};
@@ -54,7 +54,7 @@ impl Texts {
     /// Puts the text of an id behind the others.
     fn push(&mut self, id: &MsgIdRef<'_>) -> Result<(), Memory>
         ensures bytes { OnOk result (self.new.bytes.items ≡ self.old.bytes.items ++ id_text id.now) }
-        ensures lens { OnOk result (self.new.lens.items ≡ self.old.lens.items ++ text_len id.now ∷ []) }
+        ensures lens { OnOk result (self.new.lens.items ≡ self.old.lens.items ++ id_text_length id.now ∷ []) }
     {
         self.bytes.extend_from_slice(id.left())?;
         self.bytes.push(b'@')?;
@@ -66,7 +66,7 @@ impl Texts {
     /// Puts the texts of ids behind the others, in order.
     fn push_all(&mut self, ids: &References) -> Result<(), Memory>
         ensures bytes { OnOk result (self.new.bytes.items ≡ self.old.bytes.items ++ flat_map id_text ids.now) }
-        ensures lens { OnOk result (self.new.lens.items ≡ self.old.lens.items ++ map text_len ids.now) }
+        ensures lens { OnOk result (self.new.lens.items ≡ self.old.lens.items ++ map id_text_length ids.now) }
     {
         for at in 0..ids.len() {
             self.push(&ids.get(at))?;
@@ -76,9 +76,9 @@ impl Texts {
 
     /// Puts the text of a message's own id behind the others, where it has one, and says how many that are.
     fn push_own(&mut self, alloc: Global, header: &Header<'_>) -> Result<usize, Memory>
-        ensures bytes { OnOk result (self.new.bytes.items ≡ self.old.bytes.items ++ flat_map id_text (alone (own_id_in header.now))) }
-        ensures lens { OnOk result (self.new.lens.items ≡ self.old.lens.items ++ map text_len (alone (own_id_in header.now))) }
-        ensures own { IfOk result (λ own. own ≡ length (alone (own_id_in header.now))) }
+        ensures bytes { OnOk result (self.new.bytes.items ≡ self.old.bytes.items ++ flat_map id_text (id_option_to_list (own_id_in header.now))) }
+        ensures lens { OnOk result (self.new.lens.items ≡ self.old.lens.items ++ map id_text_length (id_option_to_list (own_id_in header.now))) }
+        ensures own { IfOk result (λ own. own ≡ length (id_option_to_list (own_id_in header.now))) }
     {
         match header.own_id(alloc)? {
             Some(id) => {
@@ -92,8 +92,8 @@ impl Texts {
     /// Puts the texts of all ids of a message behind the others, and says how many are its own.
     pub(crate) fn push_ids(&mut self, alloc: Global, header: &Header<'_>) -> Result<usize, Memory>
         ensures bytes { OnOk result (self.new.bytes.items ≡ self.old.bytes.items ++ flat_map id_text (ids_of_header header.now)) }
-        ensures lens { OnOk result (self.new.lens.items ≡ self.old.lens.items ++ map text_len (ids_of_header header.now)) }
-        ensures own { IfOk result (λ own. own ≡ length (alone (own_id_in header.now))) }
+        ensures lens { OnOk result (self.new.lens.items ≡ self.old.lens.items ++ map id_text_length (ids_of_header header.now)) }
+        ensures own { IfOk result (λ own. own ≡ length (id_option_to_list (own_id_in header.now))) }
     {
         let own = self.push_own(alloc, header)?;
         self.push_all(&header.references(alloc)?)?;
@@ -104,8 +104,8 @@ impl Texts {
 /// The texts of all ids of a message, and how many are its own.
 fn texts_of(alloc: Global, message: &[u8]) -> Result<(Texts, usize), Memory>
     ensures bytes { IfOk result (λ found. found.0.bytes.items ≡ id_texts message.now) }
-    ensures lens { IfOk result (λ found. found.0.lens.items ≡ id_lens message.now) }
-    ensures own { IfOk result (λ found. found.1 ≡ length (alone (own_id_of message.now))) }
+    ensures lens { IfOk result (λ found. found.0.lens.items ≡ id_text_lengths message.now) }
+    ensures own { IfOk result (λ found. found.1 ≡ length (id_option_to_list (own_id_of message.now))) }
 {
     let mut texts = Texts::new(alloc);
     let own = texts.push_ids(alloc, &Header::of(message))?;
@@ -125,10 +125,10 @@ pub extern "C" fn luv_message_ids(
     lens: &mut [usize],
     found: &mut LuvIds,
 ) -> u8
-    ensures ids { result ≡ done → AreIdsOf message.now texts.new lens.new found.new }
-    ensures no_room { result ≡ no_room → WantRoom message.now texts.old lens.old found.new }
-    ensures too_long { (result ≡ too_long) ↔ IsTooLong message.now }
-    ensures refused { result ≢ done → (result ≡ no_room) ⊎ (result ≡ no_memory) ⊎ (result ≡ too_long) }
+    ensures ids { result ≡ luv_done → HoldMessageIds message.now texts.new lens.new found.new }
+    ensures no_room { result ≡ luv_no_room → LacksRoomForIds message.now texts.old lens.old found.new }
+    ensures too_long { (result ≡ luv_too_long) ↔ IsArrayTooLong message.now }
+    ensures refused { result ≢ luv_done → (result ≡ luv_no_room) ⊎ (result ≡ luv_no_memory) ⊎ (result ≡ luv_too_long) }
 {
     match write_ids(alloc, message, texts, lens, found) {
         Ok(()) => DONE,
@@ -143,11 +143,11 @@ fn write_ids(
     lens: &mut [usize],
     found: &mut LuvIds,
 ) -> Result<(), Refusal>
-    ensures ids { OnOk result (AreIdsOf message.now texts.new lens.new found.new) }
-    ensures fits { OnOk result (¬ IsTooLong message.now) }
-    ensures no_room { IfErr result (λ e. number_of e ≡ no_room → WantRoom message.now texts.old lens.old found.new) }
-    ensures too_long { IfErr result (λ e. (number_of e ≡ too_long) ↔ IsTooLong message.now) }
-    ensures refused { IfErr result (λ e. (number_of e ≡ no_room) ⊎ (number_of e ≡ no_memory) ⊎ (number_of e ≡ too_long)) }
+    ensures ids { OnOk result (HoldMessageIds message.now texts.new lens.new found.new) }
+    ensures fits { OnOk result (¬ IsArrayTooLong message.now) }
+    ensures no_room { IfErr result (λ e. refusal_number e ≡ luv_no_room → LacksRoomForIds message.now texts.old lens.old found.new) }
+    ensures too_long { IfErr result (λ e. (refusal_number e ≡ luv_too_long) ↔ IsArrayTooLong message.now) }
+    ensures refused { IfErr result (λ e. (refusal_number e ≡ luv_no_room) ⊎ (refusal_number e ≡ luv_no_memory) ⊎ (refusal_number e ≡ luv_too_long)) }
 {
     if is_too_long(message) {
         return Err(Refusal::TooLong);

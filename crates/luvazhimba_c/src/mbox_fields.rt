@@ -1,9 +1,9 @@
 //! All that the messages of an mbox say of themselves, in one reading.
 ghost use Rattle.std.specs.Prelude.{◌≡◌, ◌≢◌, ◌<◌, ◌≤◌, ◌⊎◌, ◌↔◌, length, take, map, OnOk, IfOk, IfErr};
-ghost use Rattle.mbox_core.specs.Division.{Item as Message, Divides, IsPreamble};
+ghost use Rattle.mbox_core.specs.Division.{Item as Message, DividesIntoItems, IsPreamble};
 ghost use Rattle.luvazhimba_c.specs.declared.refusals.Refusal.TheVariants.{NoRoom};
-ghost use Rattle.luvazhimba_c.specs.Fields.{all_texts, all_lens, numbers_of_item, AreFieldsOfMbox, WantsMboxRoom};
-ghost use Rattle.luvazhimba_c.specs.Numbers.{done, no_room, no_memory, no_mbox, too_long, number_of, IsTooLong};
+ghost use Rattle.luvazhimba_c.specs.Fields.{all_field_texts, all_field_text_lengths, field_numbers_of_item, HoldMboxFields, LacksRoomForMboxFields};
+ghost use Rattle.luvazhimba_c.specs.Numbers.{luv_done, luv_no_room, luv_no_memory, luv_no_mbox, luv_too_long, refusal_number, IsArrayTooLong};
 
 use crate::cutting::{answer_fault, luv_cut};
 use crate::fields::{LuvFields, push_fields};
@@ -36,9 +36,9 @@ struct Said {
 
 /// What the messages that are left say of themselves.
 fn said_by(alloc: Global, messages: Messages<'_>) -> Result<Said, Memory>
-    ensures bytes { IfOk result (λ said. said.texts.bytes.items ≡ all_texts messages.entry) }
-    ensures lens { IfOk result (λ said. said.texts.lens.items ≡ all_lens messages.entry) }
-    ensures numbers { IfOk result (λ said. said.numbers.items ≡ map numbers_of_item messages.entry) }
+    ensures bytes { IfOk result (λ said. said.texts.bytes.items ≡ all_field_texts messages.entry) }
+    ensures lens { IfOk result (λ said. said.texts.lens.items ≡ all_field_text_lengths messages.entry) }
+    ensures numbers { IfOk result (λ said. said.numbers.items ≡ map field_numbers_of_item messages.entry) }
 {
     let mut texts = Texts::new(alloc);
     let mut numbers = Vec::new(alloc);
@@ -82,11 +82,11 @@ pub extern "C" fn luv_fields_of_mbox(
     lens: &mut [usize],
     found: &mut LuvTotals,
 ) -> u8
-    ensures fields { result ≡ done → AreFieldsOfMbox mbox.now messages.new fields.new texts.new lens.new found.new }
-    ensures no_room { result ≡ no_room → WantsMboxRoom mbox.now messages.old fields.old texts.old lens.old found.new }
-    ensures no_mbox { result ≡ no_mbox → IsPreamble mbox.now found.new.messages }
-    ensures too_long { (result ≡ too_long) ↔ IsTooLong mbox.now }
-    ensures refused { result ≢ done → (result ≡ no_room) ⊎ (result ≡ no_memory) ⊎ (result ≡ no_mbox) ⊎ (result ≡ too_long) }
+    ensures fields { result ≡ luv_done → HoldMboxFields mbox.now messages.new fields.new texts.new lens.new found.new }
+    ensures no_room { result ≡ luv_no_room → LacksRoomForMboxFields mbox.now messages.old fields.old texts.old lens.old found.new }
+    ensures no_mbox { result ≡ luv_no_mbox → IsPreamble mbox.now found.new.messages }
+    ensures too_long { (result ≡ luv_too_long) ↔ IsArrayTooLong mbox.now }
+    ensures refused { result ≢ luv_done → (result ≡ luv_no_room) ⊎ (result ≡ luv_no_memory) ⊎ (result ≡ luv_no_mbox) ⊎ (result ≡ luv_too_long) }
 {
     if is_too_long(mbox) {
         return Refusal::TooLong.number();

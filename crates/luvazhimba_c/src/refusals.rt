@@ -1,6 +1,6 @@
 //! Why a call refuses.
 ghost use Rattle.std.specs.Prelude.{◌≡◌, ◌<◌, ◌↔◌, IsTrue};
-ghost use Rattle.luvazhimba_c.specs.Numbers.{number_of, IsTooLong};
+ghost use Rattle.luvazhimba_c.specs.Numbers.{refusal_number, IsArrayTooLong};
 
 use civil_time::Memory;
 
@@ -12,7 +12,7 @@ const MOST: usize = 1 << 40;
 
 /// Whether an array has more elements than that.
 pub(crate) fn is_too_long<T>(array: &[T]) -> bool
-    ensures { IsTrue result ↔ IsTooLong array.now }
+    ensures { IsTrue result ↔ IsArrayTooLong array.now }
 {
     array.len() > MOST
 }
@@ -48,7 +48,7 @@ impl From<Memory> for Refusal {
 impl Refusal {
     /// Its number, as C has it.
     pub(crate) fn number(self) -> u8
-        ensures value { result ≡ number_of self }
+        ensures value { result ≡ refusal_number self }
         ensures some { 0 < result }
     {
         match self {

@@ -1,7 +1,7 @@
 //! Rows of threads, as C has them.
 ghost use Rattle.std.specs.Prelude.{◌≡◌, ◌<◌, length, take, map, OnOk, IfErr};
 ghost use Rattle.luvazhimba_c.specs.declared.refusals.Refusal.TheVariants.{NoRoom};
-ghost use Rattle.luvazhimba_c.specs.Rows.{row_in, rows_in};
+ghost use Rattle.luvazhimba_c.specs.Rows.{row_of_luv_row, rows_of_luv_rows};
 
 use crate::refusals::Refusal;
 use thread_core::Row;
@@ -21,7 +21,7 @@ pub struct LuvRow {
 
 /// A row as C has it.
 fn c_row(row: &Row) -> LuvRow
-    ensures { row_in result ≡ row.now }
+    ensures { row_of_luv_row result ≡ row.now }
 {
     match row.place {
         Some(place) => LuvRow {
@@ -39,7 +39,7 @@ fn c_row(row: &Row) -> LuvRow
 
 /// Copies rows to the front of an array.
 pub(crate) fn put_rows(to: &mut [LuvRow], rows: &[Row]) -> Result<(), Refusal>
-    ensures ok { OnOk result (rows_in (length rows.now) to.new ≡ rows.now) }
+    ensures ok { OnOk result (rows_of_luv_rows (length rows.now) to.new ≡ rows.now) }
     ensures err { IfErr result (λ refusal. (refusal ≡ NoRoom) × (length to.old < length rows.now)) }
 {
     if to.len() < rows.len() {

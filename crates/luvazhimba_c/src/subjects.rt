@@ -1,7 +1,7 @@
 //! Base subjects.
 ghost use Rattle.std.specs.Prelude.{◌≡◌, ◌≢◌, ◌⊎◌, ◌↔◌, OnOk, IfErr};
-ghost use Rattle.luvazhimba_c.specs.Bases.{IsBaseOf, WantsRoom};
-ghost use Rattle.luvazhimba_c.specs.Numbers.{done, no_room, no_memory, too_long, number_of, IsTooLong};
+ghost use Rattle.luvazhimba_c.specs.Bases.{HoldsBaseSubject, LacksRoomForBase};
+ghost use Rattle.luvazhimba_c.specs.Numbers.{luv_done, luv_no_room, luv_no_memory, luv_too_long, refusal_number, IsArrayTooLong};
 
 use crate::outputs::put;
 use crate::refusals::{DONE, Refusal, is_too_long};
@@ -28,10 +28,10 @@ pub extern "C" fn luv_base_subject(
     text: &mut [u8],
     found: &mut LuvBase,
 ) -> u8
-    ensures base { result ≡ done → IsBaseOf subject.now text.new found.new }
-    ensures no_room { result ≡ no_room → WantsRoom subject.now text.old found.new }
-    ensures too_long { (result ≡ too_long) ↔ IsTooLong subject.now }
-    ensures refused { result ≢ done → (result ≡ no_room) ⊎ (result ≡ no_memory) ⊎ (result ≡ too_long) }
+    ensures base { result ≡ luv_done → HoldsBaseSubject subject.now text.new found.new }
+    ensures no_room { result ≡ luv_no_room → LacksRoomForBase subject.now text.old found.new }
+    ensures too_long { (result ≡ luv_too_long) ↔ IsArrayTooLong subject.now }
+    ensures refused { result ≢ luv_done → (result ≡ luv_no_room) ⊎ (result ≡ luv_no_memory) ⊎ (result ≡ luv_too_long) }
 {
     match write_base(alloc, subject, text, found) {
         Ok(()) => DONE,
@@ -45,11 +45,11 @@ fn write_base(
     text: &mut [u8],
     found: &mut LuvBase,
 ) -> Result<(), Refusal>
-    ensures base { OnOk result (IsBaseOf subject.now text.new found.new) }
-    ensures fits { OnOk result (¬ IsTooLong subject.now) }
-    ensures no_room { IfErr result (λ e. number_of e ≡ no_room → WantsRoom subject.now text.old found.new) }
-    ensures too_long { IfErr result (λ e. (number_of e ≡ too_long) ↔ IsTooLong subject.now) }
-    ensures refused { IfErr result (λ e. (number_of e ≡ no_room) ⊎ (number_of e ≡ no_memory) ⊎ (number_of e ≡ too_long)) }
+    ensures base { OnOk result (HoldsBaseSubject subject.now text.new found.new) }
+    ensures fits { OnOk result (¬ IsArrayTooLong subject.now) }
+    ensures no_room { IfErr result (λ e. refusal_number e ≡ luv_no_room → LacksRoomForBase subject.now text.old found.new) }
+    ensures too_long { IfErr result (λ e. (refusal_number e ≡ luv_too_long) ↔ IsArrayTooLong subject.now) }
+    ensures refused { IfErr result (λ e. (refusal_number e ≡ luv_no_room) ⊎ (refusal_number e ≡ luv_no_memory) ⊎ (refusal_number e ≡ luv_too_long)) }
 {
     if is_too_long(subject) {
         return Err(Refusal::TooLong);

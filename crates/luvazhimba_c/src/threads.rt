@@ -3,9 +3,9 @@ ghost use Rattle.std.specs.Prelude.{◌≡◌, ◌≢◌, ◌<◌, ◌≤◌, �
 ghost use Rattle.mbox_core.specs.Division.{IsPreamble};
 ghost use Rattle.thread_core.specs.Threads.{threads_of};
 ghost use Rattle.luvazhimba_c.specs.declared.messages.LuvMessage.{LuvMessage};
-ghost use Rattle.luvazhimba_c.specs.Entries.{entry_at, entry_of_item, AreThreadsOfMbox, WantsRows, IsReadable, IsOutside, HasNoInstant, AreRead};
-ghost use Rattle.luvazhimba_c.specs.Numbers.{done, no_room, no_memory, no_instant, outside, no_mbox, too_long, number_of, IsTooLong, IsOfMessages};
-ghost use Rattle.luvazhimba_c.specs.Rows.{rows_in};
+ghost use Rattle.luvazhimba_c.specs.Entries.{entry_at, entry_of_item, AreThreadsOfMbox, LacksRoomForRows, IsReadableMessage, LiesOutsideBytes, ArrivesOutOfRange, StatusMatchesMessages};
+ghost use Rattle.luvazhimba_c.specs.Numbers.{luv_done, luv_no_room, luv_no_memory, luv_no_instant, luv_outside, luv_no_mbox, luv_too_long, refusal_number, IsArrayTooLong, IsMessageReadError};
+ghost use Rattle.luvazhimba_c.specs.Rows.{rows_of_luv_rows};
 
 use crate::cutting::answer_fault;
 use crate::entries::{entries_at, entries_of_items};
@@ -26,7 +26,7 @@ fn rows_of(
     key1: u64,
 ) -> Result<Vec<Row>, Refusal>
     ensures rows { IfOk result (λ rows. rows.items ≡ threads_of entries.now merge) }
-    ensures memory { IfErr result (λ e. number_of e ≡ no_memory) }
+    ensures memory { IfErr result (λ e. refusal_number e ≡ luv_no_memory) }
 {
     let Some(state) = state_of(key0, key1) else {
         return Err(Refusal::Memory);
@@ -40,10 +40,10 @@ fn rows_of(
 /// Writes rows to the front of an array, and how many there are; it says what the call answers.
 fn answer_rows(found: &[Row], rows: &mut [LuvRow], count: &mut usize) -> u8
     ensures count { count.new ≡ length found.now }
-    ensures rows { result ≡ done → rows_in (length found.now) rows.new ≡ found.now }
-    ensures within { result ≡ done → length found.now ≤ length rows.old }
-    ensures no_room { result ≡ no_room → length rows.old < length found.now }
-    ensures few { result ≤ no_room }
+    ensures rows { result ≡ luv_done → rows_of_luv_rows (length found.now) rows.new ≡ found.now }
+    ensures within { result ≡ luv_done → length found.now ≤ length rows.old }
+    ensures no_room { result ≡ luv_no_room → length rows.old < length found.now }
+    ensures few { result ≤ luv_no_room }
 {
     *count = found.len();
     match put_rows(rows, found) {
@@ -68,13 +68,13 @@ pub extern "C" fn luv_threads(
     rows: &mut [LuvRow],
     count: &mut usize,
 ) -> u8
-    ensures rows { result ≡ done
-        → (rows_in count.new rows.new ≡ threads_of (map (entry_at bytes.now) messages.now) merge) × (count.new ≤ length rows.old) }
-    ensures no_room { result ≡ no_room
+    ensures rows { result ≡ luv_done
+        → (rows_of_luv_rows count.new rows.new ≡ threads_of (map (entry_at bytes.now) messages.now) merge) × (count.new ≤ length rows.old) }
+    ensures no_room { result ≡ luv_no_room
         → (count.new ≡ length (threads_of (map (entry_at bytes.now) messages.now) merge)) × (length rows.old < count.new) }
-    ensures messages { AreRead bytes.now messages.now result }
-    ensures too_long { (result ≡ too_long) ↔ IsTooLong bytes.now ⊎ IsTooLong messages.now }
-    ensures refused { result ≢ done → (result ≡ no_room) ⊎ IsOfMessages result ⊎ (result ≡ too_long) }
+    ensures messages { StatusMatchesMessages bytes.now messages.now result }
+    ensures too_long { (result ≡ luv_too_long) ↔ IsArrayTooLong bytes.now ⊎ IsArrayTooLong messages.now }
+    ensures refused { result ≢ luv_done → (result ≡ luv_no_room) ⊎ IsMessageReadError result ⊎ (result ≡ luv_too_long) }
 {
     if is_too_long(bytes) || is_too_long(messages) {
         return Refusal::TooLong.number();
@@ -94,12 +94,12 @@ fn rows_of_messages(
     key1: u64,
 ) -> Result<Vec<Row>, Refusal>
     ensures rows { IfOk result (λ rows. rows.items ≡ threads_of (map (entry_at bytes.now) messages.now) merge) }
-    ensures readable { OnOk result (All (IsReadable bytes.now) messages.now) }
-    ensures refused { IfErr result (λ e. IsOfMessages (number_of e)) }
-    ensures outside { IfErr result (λ e. number_of e ≡ outside
-        → (m : LuvMessage) × Contains messages.now m × IsOutside bytes.now m) }
-    ensures no_instant { IfErr result (λ e. number_of e ≡ no_instant
-        → (m : LuvMessage) × Contains messages.now m × HasNoInstant m) }
+    ensures readable { OnOk result (All (IsReadableMessage bytes.now) messages.now) }
+    ensures refused { IfErr result (λ e. IsMessageReadError (refusal_number e)) }
+    ensures outside { IfErr result (λ e. refusal_number e ≡ luv_outside
+        → (m : LuvMessage) × Contains messages.now m × LiesOutsideBytes bytes.now m) }
+    ensures no_instant { IfErr result (λ e. refusal_number e ≡ luv_no_instant
+        → (m : LuvMessage) × Contains messages.now m × ArrivesOutOfRange m) }
 {
     let entries = entries_at(alloc, bytes, messages)?;
     let rows = rows_of(alloc, &entries, merge, key0, key1)?;
@@ -119,11 +119,11 @@ pub extern "C" fn luv_threads_of_mbox(
     rows: &mut [LuvRow],
     count: &mut usize,
 ) -> u8
-    ensures rows { result ≡ done → AreThreadsOfMbox mbox.now merge (rows_in count.new rows.new) × (count.new ≤ length rows.old) }
-    ensures no_room { result ≡ no_room → WantsRows mbox.now merge (length rows.old) count.new }
-    ensures no_mbox { result ≡ no_mbox → IsPreamble mbox.now count.new }
-    ensures too_long { (result ≡ too_long) ↔ IsTooLong mbox.now }
-    ensures refused { result ≢ done → (result ≡ no_room) ⊎ (result ≡ no_memory) ⊎ (result ≡ no_mbox) ⊎ (result ≡ too_long) }
+    ensures rows { result ≡ luv_done → AreThreadsOfMbox mbox.now merge (rows_of_luv_rows count.new rows.new) × (count.new ≤ length rows.old) }
+    ensures no_room { result ≡ luv_no_room → LacksRoomForRows mbox.now merge (length rows.old) count.new }
+    ensures no_mbox { result ≡ luv_no_mbox → IsPreamble mbox.now count.new }
+    ensures too_long { (result ≡ luv_too_long) ↔ IsArrayTooLong mbox.now }
+    ensures refused { result ≢ luv_done → (result ≡ luv_no_room) ⊎ (result ≡ luv_no_memory) ⊎ (result ≡ luv_no_mbox) ⊎ (result ≡ luv_too_long) }
 {
     if is_too_long(mbox) {
         return Refusal::TooLong.number();
@@ -145,7 +145,7 @@ fn rows_of_items(
     key1: u64,
 ) -> Result<Vec<Row>, Refusal>
     ensures rows { IfOk result (λ rows. rows.items ≡ threads_of (map entry_of_item messages.entry) merge) }
-    ensures memory { IfErr result (λ e. number_of e ≡ no_memory) }
+    ensures memory { IfErr result (λ e. refusal_number e ≡ luv_no_memory) }
 {
     let entries = entries_of_items(alloc, messages)?;
     let rows = rows_of(alloc, &entries, merge, key0, key1)?;

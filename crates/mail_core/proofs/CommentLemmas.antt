@@ -1,12 +1,12 @@
 -- The grammar of comments and the count of depth are one.
 use Rattle.std.proofs.Common.{◌≡◌, ◌≢◌, ℕ, zero, suc, Bool, true, false, ◌==◌, List, [], ◌∷◌, ◌++◌, refl, arith, ap, ◌∙◌, sym, Option, Some, None, if◌then◌else◌, append_assoc, subst}
 use Rattle.std.proofs.lemmas.Bool.Decides.{nat_tests}
-use Rattle.mail_core.specs.Comments.{IsCommentContent, BeginsWithComment, CommentMark, comment_mark, closing_rest, after_comment}
+use Rattle.mail_core.specs.Comments.{IsCommentContent, BeginsWithComment, CommentByteKind, comment_byte_kind, after_closing_paren, after_comment}
 use Rattle.mail_core.specs.Comments.IsCommentContent.{nothing, byte, quoted, comment}
-use Rattle.mail_core.specs.Comments.CommentMark.{opening, closing, escape, ordinary}
+use Rattle.mail_core.specs.Comments.CommentByteKind.{opening, closing, escape, ordinary}
 
 -- what each mark says of the byte
-abbrev MarkFacts : ℕ → CommentMark → Type 0
+abbrev MarkFacts : ℕ → CommentByteKind → Type 0
 MarkFacts b opening = b ≡ 40
 MarkFacts b closing = b ≡ 41
 MarkFacts b escape = b ≡ 92
@@ -25,8 +25,8 @@ not_equal b k h = go (b == k) refl
     go false e = refl
     go true e = absurd (h (is_it b k e))
 
-mark_is : (b : ℕ) → MarkFacts b (comment_mark b)
-unfolding comment_mark
+mark_is : (b : ℕ) → MarkFacts b (comment_byte_kind b)
+unfolding comment_byte_kind
 mark_is b = go (b == 40) (b == 41) (b == 92) refl refl refl
   where
     go : (p q r : Bool) → (b == 40) ≡ p → (b == 41) ≡ q → (b == 92) ≡ r
@@ -36,67 +36,67 @@ mark_is b = go (b == 40) (b == 41) (b == 92) refl refl refl
     go false false true hp hq hr = is_it b 92 hr
     go false false false hp hq hr = (is_not b 40 hp, is_not b 41 hq, is_not b 92 hr)
 
-pub comment_mark-40 : comment_mark 40 ≡ opening
-unfolding comment_mark
+pub comment_mark-40 : comment_byte_kind 40 ≡ opening
+unfolding comment_byte_kind
 comment_mark-40 = refl
 
-pub comment_mark-41 : comment_mark 41 ≡ closing
-unfolding comment_mark
+pub comment_mark-41 : comment_byte_kind 41 ≡ closing
+unfolding comment_byte_kind
 comment_mark-41 = refl
 
-pub comment_mark-92 : comment_mark 92 ≡ escape
-unfolding comment_mark
+pub comment_mark-92 : comment_byte_kind 92 ≡ escape
+unfolding comment_byte_kind
 comment_mark-92 = refl
 
-pub comment_mark-other : (b : ℕ) → b ≢ 40 → b ≢ 41 → b ≢ 92 → comment_mark b ≡ ordinary
-unfolding comment_mark
+pub comment_mark-other : (b : ℕ) → b ≢ 40 → b ≢ 41 → b ≢ 92 → comment_byte_kind b ≡ ordinary
+unfolding comment_byte_kind
 comment_mark-other b p q r = rw (not_equal b 40 p, not_equal b 41 q, not_equal b 92 r) refl
 
 -- the steps of the count
-pub closing_rest-done : (q : Bool) (bs : List ℕ) → closing_rest q zero bs ≡ Some bs
-unfolding closing_rest
+pub closing_rest-done : (q : Bool) (bs : List ℕ) → after_closing_paren q zero bs ≡ Some bs
+unfolding after_closing_paren
 closing_rest-done q bs = refl
 
-pub closing_rest-end : (q : Bool) (d : ℕ) → closing_rest q (suc d) [] ≡ None
-unfolding closing_rest
+pub closing_rest-end : (q : Bool) (d : ℕ) → after_closing_paren q (suc d) [] ≡ None
+unfolding after_closing_paren
 closing_rest-end true d = refl
 closing_rest-end false d = refl
 
-pub closing_rest-quoted : (d b : ℕ) (bs : List ℕ) → closing_rest true (suc d) (b ∷ bs) ≡ closing_rest false (suc d) bs
-unfolding closing_rest
+pub closing_rest-quoted : (d b : ℕ) (bs : List ℕ) → after_closing_paren true (suc d) (b ∷ bs) ≡ after_closing_paren false (suc d) bs
+unfolding after_closing_paren
 closing_rest-quoted d b bs = refl
 
-pub closing_rest-opening : (d b : ℕ) (bs : List ℕ) → comment_mark b ≡ opening → closing_rest false (suc d) (b ∷ bs) ≡ closing_rest false (suc (suc d)) bs
-unfolding closing_rest
-closing_rest-opening d b bs e = rw (e, closing_rest) refl
+pub closing_rest-opening : (d b : ℕ) (bs : List ℕ) → comment_byte_kind b ≡ opening → after_closing_paren false (suc d) (b ∷ bs) ≡ after_closing_paren false (suc (suc d)) bs
+unfolding after_closing_paren
+closing_rest-opening d b bs e = rw (e, after_closing_paren) refl
 
-pub closing_rest-closing : (d b : ℕ) (bs : List ℕ) → comment_mark b ≡ closing → closing_rest false (suc d) (b ∷ bs) ≡ closing_rest false d bs
-unfolding closing_rest
-closing_rest-closing d b bs e = rw (e, closing_rest) refl
+pub closing_rest-closing : (d b : ℕ) (bs : List ℕ) → comment_byte_kind b ≡ closing → after_closing_paren false (suc d) (b ∷ bs) ≡ after_closing_paren false d bs
+unfolding after_closing_paren
+closing_rest-closing d b bs e = rw (e, after_closing_paren) refl
 
-pub closing_rest-backslash : (d b : ℕ) (bs : List ℕ) → comment_mark b ≡ escape → closing_rest false (suc d) (b ∷ bs) ≡ closing_rest true (suc d) bs
-unfolding closing_rest
-closing_rest-backslash d b bs e = rw (e, closing_rest) refl
+pub closing_rest-backslash : (d b : ℕ) (bs : List ℕ) → comment_byte_kind b ≡ escape → after_closing_paren false (suc d) (b ∷ bs) ≡ after_closing_paren true (suc d) bs
+unfolding after_closing_paren
+closing_rest-backslash d b bs e = rw (e, after_closing_paren) refl
 
-pub closing_rest-ordinary : (d b : ℕ) (bs : List ℕ) → comment_mark b ≡ ordinary → closing_rest false (suc d) (b ∷ bs) ≡ closing_rest false (suc d) bs
-unfolding closing_rest
-closing_rest-ordinary d b bs e = rw (e, closing_rest) refl
+pub closing_rest-ordinary : (d b : ℕ) (bs : List ℕ) → comment_byte_kind b ≡ ordinary → after_closing_paren false (suc d) (b ∷ bs) ≡ after_closing_paren false (suc d) bs
+unfolding after_closing_paren
+closing_rest-ordinary d b bs e = rw (e, after_closing_paren) refl
 
 -- worked examples
 example_plain : after_comment (40 ∷ 97 ∷ 41 ∷ 98 ∷ []) ≡ Some (98 ∷ [])
-unfolding closing_rest comment_mark
+unfolding after_closing_paren comment_byte_kind
 example_plain = refl
 
 example_nested : after_comment (40 ∷ 40 ∷ 92 ∷ 41 ∷ 41 ∷ 41 ∷ 98 ∷ []) ≡ Some (98 ∷ [])
-unfolding closing_rest comment_mark
+unfolding after_closing_paren comment_byte_kind
 example_nested = refl
 
 example_open : after_comment (40 ∷ 40 ∷ 92 ∷ 41 ∷ 41 ∷ []) ≡ None
-unfolding closing_rest comment_mark
+unfolding after_closing_paren comment_byte_kind
 example_open = refl
 
 -- pieces leave the depth as it is
-pub closing_rest-inside : (d : ℕ) (rest : List ℕ) {xs : List ℕ} → IsCommentContent xs → closing_rest false (suc d) (xs ++ rest) ≡ closing_rest false (suc d) rest
+pub closing_rest-inside : (d : ℕ) (rest : List ℕ) {xs : List ℕ} → IsCommentContent xs → after_closing_paren false (suc d) (xs ++ rest) ≡ after_closing_paren false (suc d) rest
 closing_rest-inside d rest nothing = refl
 closing_rest-inside d rest (byte {b = b} {bs = bs} n40 n41 n92 h) =
     closing_rest-ordinary d b (bs ++ rest) (comment_mark-other b n40 n41 n92) ∙ closing_rest-inside d rest h
@@ -104,13 +104,13 @@ closing_rest-inside d rest (quoted {b = b} {bs = bs} h) =
     closing_rest-backslash d 92 (b ∷ bs ++ rest) comment_mark-92 ∙ closing_rest-quoted d b (bs ++ rest) ∙ closing_rest-inside d rest h
 closing_rest-inside d rest (comment {inner = i} {bs = bs} g h) =
     closing_rest-opening d 40 ((i ++ 41 ∷ bs) ++ rest) comment_mark-40
-    ∙ ap (closing_rest false (suc (suc d))) (append_assoc i (41 ∷ bs) rest)
+    ∙ ap (after_closing_paren false (suc (suc d))) (append_assoc i (41 ∷ bs) rest)
     ∙ closing_rest-inside (suc d) (41 ∷ bs ++ rest) g
     ∙ closing_rest-closing (suc d) 41 (bs ++ rest) comment_mark-41
     ∙ closing_rest-inside d rest h
 
 -- what the grammar closes, the count closes there
-pub closing_rest-at : {i : List ℕ} (rest : List ℕ) → IsCommentContent i → closing_rest false 1 (i ++ 41 ∷ rest) ≡ Some rest
+pub closing_rest-at : {i : List ℕ} (rest : List ℕ) → IsCommentContent i → after_closing_paren false 1 (i ++ 41 ∷ rest) ≡ Some rest
 closing_rest-at rest h = closing_rest-inside 0 (41 ∷ rest) h ∙ closing_rest-closing 0 41 rest comment_mark-41 ∙ closing_rest-done false rest
 
 -- pieces and a closing parenthesis, d times and once more, and then the rest
@@ -136,13 +136,13 @@ levels-comment d xs rest (c, ys, hc, e, l) =
     subst P (append_assoc c (41 ∷ []) ys ∙ sym e) (levels-front (40 ∷ c ++ 41 ∷ []) (grow-comment c hc) d ys rest l)
 
 -- what the count closes, the grammar closes there
-levels_of : (xs : List ℕ) (q : Bool) (d : ℕ) (rest : List ℕ) → closing_rest q (suc d) xs ≡ Some rest → Waits q d xs rest
+levels_of : (xs : List ℕ) (q : Bool) (d : ℕ) (rest : List ℕ) → after_closing_paren q (suc d) xs ≡ Some rest → Waits q d xs rest
 levels_of [] q d rest h = absurd (let e : None ≡ Some rest = sym (closing_rest-end q d) ∙ h in cc)
 levels_of (b ∷ bs) true d rest h = (b, bs, refl, levels_of bs false d rest (sym (closing_rest-quoted d b bs) ∙ h))
-levels_of (b ∷ bs) false d rest h = go (comment_mark b) refl (mark_is b) d h (levels_of bs)
+levels_of (b ∷ bs) false d rest h = go (comment_byte_kind b) refl (mark_is b) d h (levels_of bs)
   where
-    go : (m : CommentMark) → comment_mark b ≡ m → MarkFacts b m → (d : ℕ) → closing_rest false (suc d) (b ∷ bs) ≡ Some rest
-        → ((q : Bool) (d : ℕ) (rest : List ℕ) → closing_rest q (suc d) bs ≡ Some rest → Waits q d bs rest)
+    go : (m : CommentByteKind) → comment_byte_kind b ≡ m → MarkFacts b m → (d : ℕ) → after_closing_paren false (suc d) (b ∷ bs) ≡ Some rest
+        → ((q : Bool) (d : ℕ) (rest : List ℕ) → after_closing_paren q (suc d) bs ≡ Some rest → Waits q d bs rest)
         → Levels d (b ∷ bs) rest
     go opening e f d h ih =
         let P : ℕ → Type 0 = λ x. Levels d (x ∷ bs) rest in
@@ -160,23 +160,23 @@ levels_of (b ∷ bs) false d rest h = go (comment_mark b) refl (mark_is b) d h (
     go ordinary e f d h ih =
         levels-front (b ∷ []) (λ i hi. byte f.0 f.1 f.2 hi) d bs rest (ih false d rest (sym (closing_rest-ordinary d b bs e) ∙ h))
 
-pub inside_of : (xs rest : List ℕ) → closing_rest false 1 xs ≡ Some rest → (i : List ℕ) × IsCommentContent i × (xs ≡ i ++ 41 ∷ rest)
+pub inside_of : (xs rest : List ℕ) → after_closing_paren false 1 xs ≡ Some rest → (i : List ℕ) × IsCommentContent i × (xs ≡ i ++ 41 ∷ rest)
 inside_of xs rest h = levels_of xs false 0 rest h
 
 -- two levels are one and then one
-pub closing_rest-two : (xs ys : List ℕ) → closing_rest false 1 xs ≡ Some ys → closing_rest false 2 xs ≡ closing_rest false 1 ys
+pub closing_rest-two : (xs ys : List ℕ) → after_closing_paren false 1 xs ≡ Some ys → after_closing_paren false 2 xs ≡ after_closing_paren false 1 ys
 closing_rest-two xs ys h =
     let w = inside_of xs ys h in
-    ap (closing_rest false 2) w.2 ∙ closing_rest-inside 1 (41 ∷ ys) w.1 ∙ closing_rest-closing 1 41 ys comment_mark-41
+    ap (after_closing_paren false 2) w.2 ∙ closing_rest-inside 1 (41 ∷ ys) w.1 ∙ closing_rest-closing 1 41 ys comment_mark-41
 
-pub closing_rest-two-none : (xs : List ℕ) → closing_rest false 1 xs ≡ None → closing_rest false 2 xs ≡ None
-closing_rest-two-none xs h = go (closing_rest false 2 xs) refl
+pub closing_rest-two-none : (xs : List ℕ) → after_closing_paren false 1 xs ≡ None → after_closing_paren false 2 xs ≡ None
+closing_rest-two-none xs h = go (after_closing_paren false 2 xs) refl
   where
-    go : (o : Option (List ℕ)) → closing_rest false 2 xs ≡ o → o ≡ None
+    go : (o : Option (List ℕ)) → after_closing_paren false 2 xs ≡ o → o ≡ None
     go None e = refl
     go (Some r) e =
         let w = levels_of xs false 1 r e in
-        let some : closing_rest false 1 xs ≡ Some w.1 = ap (closing_rest false 1) w.3 ∙ closing_rest-at w.1 w.2 in
+        let some : after_closing_paren false 1 xs ≡ Some w.1 = ap (after_closing_paren false 1) w.3 ∙ closing_rest-at w.1 w.2 in
         absurd (let bad : None ≡ Some w.1 = sym h ∙ some in cc)
 
 -- a comment stands at the front exactly where the count says so, and with that rest
@@ -189,7 +189,7 @@ pub counted_comment : (text rest : List ℕ) → after_comment text ≡ Some res
 counted_comment [] rest h = absurd (let e : None ≡ Some rest = h in cc)
 counted_comment (b ∷ bs) rest h = go (b == 40) refl h
   where
-    go : (t : Bool) → (b == 40) ≡ t → (if t then closing_rest false 1 bs else None) ≡ Some rest → BeginsWithComment (b ∷ bs) rest
+    go : (t : Bool) → (b == 40) ≡ t → (if t then after_closing_paren false 1 bs else None) ≡ Some rest → BeginsWithComment (b ∷ bs) rest
     go false e h = absurd (let k : None ≡ Some rest = h in cc)
     go true e h =
         let w = inside_of bs rest h in (

@@ -1,10 +1,10 @@
 -- Worked examples of header fields, unfolding and the author key.
 use Rattle.std.proofs.Common.{◌≡◌, ℕ, List, [], ◌∷◌, ◌++◌, refl, codes, Some, None}
 use Rattle.mail_core.specs.Lines.{lines, content, is_empty_line}
-use Rattle.mail_core.specs.Fields.{Entry, header_blocks, fields_of, field_of, unfolded}
+use Rattle.mail_core.specs.Fields.{HeaderField, header_blocks, fields_of, field_of, unfolded}
 use Rattle.mail_core.specs.Author.{author_in, author_of}
 
-abbrev entry : List ℕ → List ℕ → Entry
+abbrev entry : List ℕ → List ℕ → HeaderField
 entry n b = record { name = n; body = b }
 
 -- A : x LF bad line LF SP more LF B:y CR LF SP z LF LF C:q

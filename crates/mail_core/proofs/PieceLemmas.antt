@@ -2,12 +2,12 @@
 use Rattle.std.proofs.Common.{◌≡◌, ◌≢◌, ℕ, zero, suc, ◌+◌, ◌-◌, ◌≤◌, ◌<◌, Bool, true, false, ◌==◌, List, [], ◌∷◌, ◌++◌, length, refl, arith}
 use Rattle.std.proofs.Common.{ap, ◌∙◌, sym, Option, Some, None, subst, drop, take, inl, inr, append_assoc, length-append}
 use Rattle.std.proofs.Math.Seq.{drop-append_seam, take-append_seam}
-use Rattle.mail_core.specs.Comments.{closing_rest}
-use Rattle.mail_core.specs.Quotes.{after_quote}
-use Rattle.mail_core.specs.MsgIds.{Id, id_at}
-use Rattle.mail_core.specs.Pieces.{Piece, Pieces, Begins, Stands, ids_in, text_of}
+use Rattle.mail_core.specs.Comments.{after_closing_paren}
+use Rattle.mail_core.specs.Quotes.{after_closing_quote}
+use Rattle.mail_core.specs.MsgIds.{MessageId, id_at}
+use Rattle.mail_core.specs.Pieces.{Piece, Pieces, BeginsCommentQuoteOrId, IsPieceBefore, ids_in, text_of_piece}
 use Rattle.mail_core.specs.Pieces.Piece.{comment, quoted_string, msg_id, single}
-use Rattle.mail_core.specs.MsgIds.{next_piece, add_identity, ids_of}
+use Rattle.mail_core.specs.MsgIds.{next_piece_id_and_rest, add_identity, ids_of}
 use Rattle.mail_core.proofs.CommentLemmas.{is_it, is_not, closing_rest-at, inside_of}
 use Rattle.mail_core.proofs.QuoteLemmas.{quote_ends, quoted_of}
 use Rattle.mail_core.proofs.MsgIdLemmas.{id_reads, id_sound, one_reading}
@@ -16,36 +16,36 @@ use Rattle.mail_core.proofs.ScanLemmas.{piece-comment, piece-open, piece-quote, 
 cut : (front rest : List ℕ) → drop (length (front ++ rest) - length rest) (front ++ rest) ≡ rest
 cut front rest = ap (λ (n : ℕ). drop n (front ++ rest)) (let k : length (front ++ rest) - length rest ≡ length front = simp length-append (omega arith) in k) ∙ drop-append_seam front rest
 
-piece_step : (b : ℕ) (front rest : List ℕ) (o : Option Id) → next_piece b (front ++ rest) ≡ (o, rest) → ids_of (b ∷ front ++ rest) ≡ add_identity o (ids_of rest)
+piece_step : (b : ℕ) (front rest : List ℕ) (o : Option MessageId) → next_piece_id_and_rest b (front ++ rest) ≡ (o, rest) → ids_of (b ∷ front ++ rest) ≡ add_identity o (ids_of rest)
 piece_step b front rest o h =
     ids-cons b (front ++ rest) rest o h
     ∙ ap (add_identity o) (ids-skip (front ++ rest) (length (front ++ rest) - length rest) ∙ ap ids_of (cut front rest))
 
 -- a byte that stands alone
-alone : (b : ℕ) (rest : List ℕ) → ¬ Begins (b ∷ rest) → next_piece b rest ≡ (None, rest)
+alone : (b : ℕ) (rest : List ℕ) → ¬ BeginsCommentQuoteOrId (b ∷ rest) → next_piece_id_and_rest b rest ≡ (None, rest)
 alone b rest h = go (b == 40) refl (b == 34) refl
   where
-    as_byte : (k : ℕ) → b ≡ k → next_piece k rest ≡ (None, rest) → next_piece b rest ≡ (None, rest)
-    as_byte k e p = ap (λ (x : ℕ). next_piece x rest) e ∙ p
+    as_byte : (k : ℕ) → b ≡ k → next_piece_id_and_rest k rest ≡ (None, rest) → next_piece_id_and_rest b rest ≡ (None, rest)
+    as_byte k e p = ap (λ (x : ℕ). next_piece_id_and_rest x rest) e ∙ p
 
-    go : (s : Bool) → (b == 40) ≡ s → (t : Bool) → (b == 34) ≡ t → next_piece b rest ≡ (None, rest)
-    go true e t f = as_byte 40 (is_it b 40 e) (closes (closing_rest false 1 rest) refl)
+    go : (s : Bool) → (b == 40) ≡ s → (t : Bool) → (b == 34) ≡ t → next_piece_id_and_rest b rest ≡ (None, rest)
+    go true e t f = as_byte 40 (is_it b 40 e) (closes (after_closing_paren false 1 rest) refl)
       where
-        closes : (o : Option (List ℕ)) → closing_rest false 1 rest ≡ o → next_piece 40 rest ≡ (None, rest)
+        closes : (o : Option (List ℕ)) → after_closing_paren false 1 rest ≡ o → next_piece_id_and_rest 40 rest ≡ (None, rest)
         closes None k = piece-open rest k
         closes (Some r) k =
             let w = inside_of rest r k in
             absurd (h (40 ∷ w.0 ++ 41 ∷ [], r, ap (λ (x : ℕ). x ∷ rest) (is_it b 40 e) ∙ ap (λ (l : List ℕ). 40 ∷ l) w.2 ∙ simp append_assoc, inl (w.0, w.1, refl)))
-    go false e true f = as_byte 34 (is_it b 34 f) (ends (after_quote false rest) refl)
+    go false e true f = as_byte 34 (is_it b 34 f) (ends (after_closing_quote false rest) refl)
       where
-        ends : (o : Option (List ℕ)) → after_quote false rest ≡ o → next_piece 34 rest ≡ (None, rest)
+        ends : (o : Option (List ℕ)) → after_closing_quote false rest ≡ o → next_piece_id_and_rest 34 rest ≡ (None, rest)
         ends None k = piece-no_quote rest k
         ends (Some r) k =
             let w = quoted_of rest r k in
             absurd (h (34 ∷ w.0 ++ 34 ∷ [], r, ap (λ (x : ℕ). x ∷ rest) (is_it b 34 f) ∙ ap (λ (l : List ℕ). 34 ∷ l) w.3 ∙ simp append_assoc, inr (inl (w.1, (w.0, w.2, refl)))))
     go false e false f = reads (id_at (b ∷ rest)) refl
       where
-        reads : (o : Option (Id × List ℕ)) → id_at (b ∷ rest) ≡ o → next_piece b rest ≡ (None, rest)
+        reads : (o : Option (MessageId × List ℕ)) → id_at (b ∷ rest) ≡ o → next_piece_id_and_rest b rest ≡ (None, rest)
         reads None k = piece-no_id b rest (is_not b 40 e) (is_not b 34 f) k
         reads (Some (id, r)) k = let w = id_sound (b ∷ rest) r id k in absurd (h (w.0, r, w.2, inr (inr (id, w.1))))
 
@@ -55,23 +55,25 @@ one_list [] text h = sym (ap ids_of h ∙ ids-end 0)
 one_list (comment c ∷ ps) text (rest, e, (inner, hi, ec), hp) =
     let whole : text ≡ 40 ∷ (inner ++ 41 ∷ []) ++ rest = e ∙ ap (λ (l : List ℕ). l ++ rest) ec in
     one_list ps rest hp
-    ∙ sym (ap ids_of whole ∙ piece_step 40 (inner ++ 41 ∷ []) rest None (ap (next_piece 40) (append_assoc inner (41 ∷ []) rest) ∙ piece-comment (inner ++ 41 ∷ rest) rest (closing_rest-at rest hi)))
+    ∙ sym (ap ids_of whole ∙ piece_step 40 (inner ++ 41 ∷ []) rest None (ap (next_piece_id_and_rest 40) (append_assoc inner (41 ∷ []) rest) ∙ piece-comment (inner ++ 41 ∷ rest) rest
+    (closing_rest-at rest hi)))
 one_list (quoted_string q ∷ ps) text (rest, e, (value, (inside, hq, eq)), hp) =
     let whole : text ≡ 34 ∷ (inside ++ 34 ∷ []) ++ rest = e ∙ ap (λ (l : List ℕ). l ++ rest) eq in
     one_list ps rest hp
-    ∙ sym (ap ids_of whole ∙ piece_step 34 (inside ++ 34 ∷ []) rest None (ap (next_piece 34) (append_assoc inside (34 ∷ []) rest) ∙ piece-quote (inside ++ 34 ∷ rest) rest (quote_ends rest hq)))
+    ∙ sym (ap ids_of whole ∙ piece_step 34 (inside ++ 34 ∷ []) rest None (ap (next_piece_id_and_rest 34) (append_assoc inside (34 ∷ []) rest) ∙ piece-quote (inside ++ 34 ∷ rest) rest
+    (quote_ends rest hq)))
 one_list (msg_id m id ∷ ps) text (rest, e, hm, hp) =
     let middle : List ℕ = hm.0 ++ 64 ∷ id.right ++ 62 ∷ [] in
     let whole : text ≡ 60 ∷ middle ++ rest = e ∙ ap (λ (l : List ℕ). l ++ rest) hm.3 in
     let read : id_at (60 ∷ (middle ++ rest)) ≡ Some (id, rest) = ap id_at (ap (λ (l : List ℕ). l ++ rest) (sym hm.3)) ∙ id_reads m rest id hm in
-    ap (λ (l : List Id). id ∷ l) (one_list ps rest hp)
+    ap (λ (l : List MessageId). id ∷ l) (one_list ps rest hp)
     ∙ sym (ap ids_of whole ∙ piece_step 60 middle rest (Some id) (piece-id (middle ++ rest) rest id read))
 one_list (single b ∷ ps) text (rest, e, alone_here, hp) =
     one_list ps rest hp ∙ sym (ap ids_of e ∙ piece_step b [] rest None (alone b rest alone_here))
 
 -- where something begins, the function leaves less than where nothing does
 abbrev Takes : ℕ → List ℕ → Type 0
-Takes b bs = (o : Option Id) × (rest : List ℕ) × (next_piece b bs ≡ (o, rest)) × (length rest < length bs)
+Takes b bs = (o : Option MessageId) × (rest : List ℕ) × (next_piece_id_and_rest b bs ≡ (o, rest)) × (length rest < length bs)
 
 tail_of : List ℕ → List ℕ
 tail_of [] = []
@@ -81,61 +83,61 @@ head_of : List ℕ → ℕ
 head_of [] = 0
 head_of (b ∷ bs) = b
 
-takes : (b k : ℕ) (bs front rest : List ℕ) (o : Option Id) → b ∷ bs ≡ k ∷ front ++ rest → 0 < length front → next_piece k (front ++ rest) ≡ (o, rest) → Takes b bs
+takes : (b k : ℕ) (bs front rest : List ℕ) (o : Option MessageId) → b ∷ bs ≡ k ∷ front ++ rest → 0 < length front → next_piece_id_and_rest k (front ++ rest) ≡ (o, rest) → Takes b bs
 unfolding tail_of head_of
 takes b k bs front rest o e some h =
     let at : b ≡ k = ap head_of e in
     let left : bs ≡ front ++ rest = ap tail_of e in
     let long : length bs ≡ length front + length rest = ap length left ∙ length-append front rest in
-    (o, rest, ap (λ (x : ℕ). next_piece x bs) at ∙ ap (next_piece k) left ∙ h, omega (arith, long, some))
+    (o, rest, ap (λ (x : ℕ). next_piece_id_and_rest x bs) at ∙ ap (next_piece_id_and_rest k) left ∙ h, omega (arith, long, some))
 
-begins_takes : (b : ℕ) (bs : List ℕ) → Begins (b ∷ bs) → Takes b bs
+begins_takes : (b : ℕ) (bs : List ℕ) → BeginsCommentQuoteOrId (b ∷ bs) → Takes b bs
 begins_takes b bs (front, rest, e, inl (inner, hi, ec)) =
     takes b 40 bs (inner ++ 41 ∷ []) rest None (e ∙ ap (λ (l : List ℕ). l ++ rest) ec) (simp length-append (omega arith))
-    (ap (next_piece 40) (append_assoc inner (41 ∷ []) rest) ∙ piece-comment (inner ++ 41 ∷ rest) rest (closing_rest-at rest hi))
+    (ap (next_piece_id_and_rest 40) (append_assoc inner (41 ∷ []) rest) ∙ piece-comment (inner ++ 41 ∷ rest) rest (closing_rest-at rest hi))
 begins_takes b bs (front, rest, e, inr (inl (value, (inside, hq, eq)))) =
     takes b 34 bs (inside ++ 34 ∷ []) rest None (e ∙ ap (λ (l : List ℕ). l ++ rest) eq) (simp length-append (omega arith))
-    (ap (next_piece 34) (append_assoc inside (34 ∷ []) rest) ∙ piece-quote (inside ++ 34 ∷ rest) rest (quote_ends rest hq))
+    (ap (next_piece_id_and_rest 34) (append_assoc inside (34 ∷ []) rest) ∙ piece-quote (inside ++ 34 ∷ rest) rest (quote_ends rest hq))
 begins_takes b bs (front, rest, e, inr (inr (id, hm))) =
     let middle : List ℕ = hm.0 ++ 64 ∷ id.right ++ 62 ∷ [] in
     let read : id_at (60 ∷ (middle ++ rest)) ≡ Some (id, rest) = ap id_at (ap (λ (l : List ℕ). l ++ rest) (sym hm.3)) ∙ id_reads front rest id hm in
     takes b 60 bs middle rest (Some id) (e ∙ ap (λ (l : List ℕ). l ++ rest) hm.3) (simp length-append (omega arith)) (piece-id (middle ++ rest) rest id read)
 
-left_of : Option Id × List ℕ → List ℕ
+left_of : Option MessageId × List ℕ → List ℕ
 left_of n = n.1
 
-nothing_begins : (b : ℕ) (bs : List ℕ) → next_piece b bs ≡ (None, bs) → ¬ Begins (b ∷ bs)
+nothing_begins : (b : ℕ) (bs : List ℕ) → next_piece_id_and_rest b bs ≡ (None, bs) → ¬ BeginsCommentQuoteOrId (b ∷ bs)
 unfolding left_of
 nothing_begins b bs h begins =
     let w = begins_takes b bs begins in
-    let same : length bs ≡ length w.1 = ap (λ (n : Option Id × List ℕ). length (left_of n)) (sym h ∙ w.2) in
+    let same : length bs ≡ length w.1 = ap (λ (n : Option MessageId × List ℕ). length (left_of n)) (sym h ∙ w.2) in
     let less = w.3 in omega (arith, same, less)
 
 -- the piece that begins a text
 abbrev First : ℕ → List ℕ → Type 0
-First b bs = (p : Piece) × (rest : List ℕ) × (b ∷ bs ≡ text_of p ++ rest) × Stands p rest × (length rest ≤ length bs)
+First b bs = (p : Piece) × (rest : List ℕ) × (b ∷ bs ≡ text_of_piece p ++ rest) × IsPieceBefore p rest × (length rest ≤ length bs)
 
 first_piece : (b : ℕ) (bs : List ℕ) → First b bs
 first_piece b bs = go (b == 40) refl (b == 34) refl
   where
-    byte : next_piece b bs ≡ (None, bs) → First b bs
+    byte : next_piece_id_and_rest b bs ≡ (None, bs) → First b bs
     byte h = (single b, bs, refl, nothing_begins b bs h, omega arith)
 
-    at : (k : ℕ) → b ≡ k → next_piece k bs ≡ (None, bs) → next_piece b bs ≡ (None, bs)
-    at k e h = ap (λ (x : ℕ). next_piece x bs) e ∙ h
+    at : (k : ℕ) → b ≡ k → next_piece_id_and_rest k bs ≡ (None, bs) → next_piece_id_and_rest b bs ≡ (None, bs)
+    at k e h = ap (λ (x : ℕ). next_piece_id_and_rest x bs) e ∙ h
 
     go : (s : Bool) → (b == 40) ≡ s → (t : Bool) → (b == 34) ≡ t → First b bs
-    go true e t f = closes (closing_rest false 1 bs) refl
+    go true e t f = closes (after_closing_paren false 1 bs) refl
       where
-        closes : (o : Option (List ℕ)) → closing_rest false 1 bs ≡ o → First b bs
+        closes : (o : Option (List ℕ)) → after_closing_paren false 1 bs ≡ o → First b bs
         closes None k = byte (at 40 (is_it b 40 e) (piece-open bs k))
         closes (Some r) k =
             let w = inside_of bs r k in
             let long : length bs ≡ length w.0 + suc (length r) = ap length w.2 ∙ length-append w.0 (41 ∷ r) in
             (comment (40 ∷ w.0 ++ 41 ∷ []), r, ap (λ (x : ℕ). x ∷ bs) (is_it b 40 e) ∙ ap (λ (l : List ℕ). 40 ∷ l) w.2 ∙ simp append_assoc, (w.0, w.1, refl), omega (arith, long))
-    go false e true f = ends (after_quote false bs) refl
+    go false e true f = ends (after_closing_quote false bs) refl
       where
-        ends : (o : Option (List ℕ)) → after_quote false bs ≡ o → First b bs
+        ends : (o : Option (List ℕ)) → after_closing_quote false bs ≡ o → First b bs
         ends None k = byte (at 34 (is_it b 34 f) (piece-no_quote bs k))
         ends (Some r) k =
             let w = quoted_of bs r k in
@@ -143,7 +145,7 @@ first_piece b bs = go (b == 40) refl (b == 34) refl
             (quoted_string (34 ∷ w.0 ++ 34 ∷ []), r, ap (λ (x : ℕ). x ∷ bs) (is_it b 34 f) ∙ ap (λ (l : List ℕ). 34 ∷ l) w.3 ∙ simp append_assoc, (w.1, (w.0, w.2, refl)), omega (arith, long))
     go false e false f = reads (id_at (b ∷ bs)) refl
       where
-        reads : (o : Option (Id × List ℕ)) → id_at (b ∷ bs) ≡ o → First b bs
+        reads : (o : Option (MessageId × List ℕ)) → id_at (b ∷ bs) ≡ o → First b bs
         reads None k = byte (piece-no_id b bs (is_not b 40 e) (is_not b 34 f) k)
         reads (Some (id, r)) k =
             let w = id_sound (b ∷ bs) r id k in
@@ -164,16 +166,16 @@ pub some_division : (text : List ℕ) → (ps : List Piece) × Pieces text ps
 some_division text = divided_within (length text) text (omega arith)
 
 -- what a piece leaves is what the function leaves
-identity_of : Piece → Option Id
+identity_of : Piece → Option MessageId
 identity_of (comment c) = None
 identity_of (quoted_string q) = None
 identity_of (msg_id m id) = Some id
 identity_of (single b) = None
 
 abbrev Leaves : Piece → List ℕ → Type 0
-Leaves p rest = (b : ℕ) × (bs : List ℕ) × (text_of p ++ rest ≡ b ∷ bs) × (o : Option Id) × (next_piece b bs ≡ (o, rest))
+Leaves p rest = (b : ℕ) × (bs : List ℕ) × (text_of_piece p ++ rest ≡ b ∷ bs) × (o : Option MessageId) × (next_piece_id_and_rest b bs ≡ (o, rest))
 
-leaves : (p : Piece) (rest : List ℕ) → Stands p rest → Leaves p rest
+leaves : (p : Piece) (rest : List ℕ) → IsPieceBefore p rest → Leaves p rest
 leaves (comment c) rest (inner, hi, ec) =
     (40, inner ++ 41 ∷ rest, ap (λ (l : List ℕ). l ++ rest) ec ∙ simp append_assoc, None, piece-comment (inner ++ 41 ∷ rest) rest (closing_rest-at rest hi))
 leaves (quoted_string q) rest (value, (inside, hq, eq)) =
@@ -184,13 +186,13 @@ leaves (msg_id m id) rest hm =
     (60, middle ++ rest, ap (λ (l : List ℕ). l ++ rest) hm.3, Some id, piece-id (middle ++ rest) rest id read)
 leaves (single b) rest h = (b, rest, refl, None, alone b rest h)
 
-same_rest : (p q : Piece) (r s : List ℕ) → Stands p r → Stands q s → text_of p ++ r ≡ text_of q ++ s → r ≡ s
+same_rest : (p q : Piece) (r s : List ℕ) → IsPieceBefore p r → IsPieceBefore q s → text_of_piece p ++ r ≡ text_of_piece q ++ s → r ≡ s
 unfolding left_of tail_of head_of
 same_rest p q r s hp hq e =
     let v = leaves p r hp in
     let w = leaves q s hq in
     let same : v.0 ∷ v.1 ≡ w.0 ∷ w.1 = sym v.2 ∙ e ∙ w.2 in
-    let next : next_piece v.0 v.1 ≡ next_piece w.0 w.1 = ap (λ (l : List ℕ). next_piece (head_of l) (tail_of l)) same in
+    let next : next_piece_id_and_rest v.0 v.1 ≡ next_piece_id_and_rest w.0 w.1 = ap (λ (l : List ℕ). next_piece_id_and_rest (head_of l) (tail_of l)) same in
     ap left_of (sym v.4 ∙ next ∙ w.4)
 
 same_front : (a b r s : List ℕ) → r ≡ s → a ++ r ≡ b ++ s → a ≡ b
@@ -213,7 +215,7 @@ two_bytes k b xs some h = let l : suc (length xs) ≡ 1 = ap length h in omega (
 last_some : (xs : List ℕ) (b : ℕ) → 0 < length (xs ++ b ∷ [])
 last_some xs b = simp length-append (omega arith)
 
-same_piece : (p q : Piece) (r s : List ℕ) → Stands p r → Stands q s → r ≡ s → text_of p ≡ text_of q → p ≡ q
+same_piece : (p q : Piece) (r s : List ℕ) → IsPieceBefore p r → IsPieceBefore q s → r ≡ s → text_of_piece p ≡ text_of_piece q → p ≡ q
 unfolding head_of
 same_piece (comment c) (comment d) r s hp hq e h = ap comment h
 same_piece (comment c) (quoted_string q) r s (i, hi, ec) (v, (k, hk, eq)) e h = absurd (heads_differ 40 34 _ _ (λ x. omega (arith, x)) (sym ec ∙ h ∙ eq))
@@ -237,12 +239,14 @@ same_piece (single b) (single c) r s hp hq e h = ap (λ (l : List ℕ). single (
 pub one_division : (ps qs : List Piece) (text : List ℕ) → Pieces text ps → Pieces text qs → ps ≡ qs
 one_division [] [] text h k = refl
 one_division [] (q ∷ qs) text h (s, e, hq, k) =
-    absurd (let w = leaves q s hq in let l : length (text_of q ++ s) ≡ suc (length w.1) = ap length w.2 in let z : length (text_of q ++ s) ≡ 0 = ap length (sym e ∙ h) in omega (arith, l, z))
+    absurd (let w = leaves q s hq in let l : length (text_of_piece q ++ s) ≡ suc (length w.1) = ap length w.2 in let z : length (text_of_piece q ++ s) ≡ 0 = ap length (sym e ∙ h) in omega
+    (arith, l, z))
 one_division (p ∷ ps) [] text (r, e, hp, h) k =
-    absurd (let w = leaves p r hp in let l : length (text_of p ++ r) ≡ suc (length w.1) = ap length w.2 in let z : length (text_of p ++ r) ≡ 0 = ap length (sym e ∙ k) in omega (arith, l, z))
+    absurd (let w = leaves p r hp in let l : length (text_of_piece p ++ r) ≡ suc (length w.1) = ap length w.2 in let z : length (text_of_piece p ++ r) ≡ 0 = ap length (sym e ∙ k) in omega
+    (arith, l, z))
 one_division (p ∷ ps) (q ∷ qs) text (r, e, hp, h) (s, f, hq, k) =
-    let whole : text_of p ++ r ≡ text_of q ++ s = sym e ∙ f in
+    let whole : text_of_piece p ++ r ≡ text_of_piece q ++ s = sym e ∙ f in
     let rest : r ≡ s = same_rest p q r s hp hq whole in
-    let piece : p ≡ q = same_piece p q r s hp hq rest (same_front (text_of p) (text_of q) r s rest whole) in
+    let piece : p ≡ q = same_piece p q r s hp hq rest (same_front (text_of_piece p) (text_of_piece q) r s rest whole) in
     let later : ps ≡ qs = one_division ps qs s (let P : List ℕ → Type 0 = λ l. Pieces l ps in subst P rest h) k in
     ap (λ (x : Piece). x ∷ ps) piece ∙ ap (λ (l : List Piece). q ∷ l) later

@@ -2,11 +2,11 @@
 use Rattle.std.proofs.Common.{◌≡◌, ℕ, zero, suc, ◌+◌, ◌-◌, ◌≤◌, Bool, true, false, ◌==◌, List, [], ◌∷◌, length, take, drop, refl, arith, ap, ◌∙◌, sym, Option, Some, None, length-drop}
 use Rattle.std.specs.List.{prefix_len, take_while}
 use Rattle.std.specs.Char.{is_ascii_alphabetic}
-use Rattle.mail_core.specs.Comments.{closing_rest}
+use Rattle.mail_core.specs.Comments.{after_closing_paren}
 use Rattle.civil_time.specs.Digits.{is_digit}
-use Rattle.mail_core.specs.Tokens.{Token, is_white, kind_by, kind_of, token_at, add_token, tokens_from, tokens_of}
-use Rattle.mail_core.specs.Tokens.Kind.{white, digit, letter, paren, other}
-use Rattle.mail_core.specs.Tokens.Token.{digits, letters, sign}
+use Rattle.mail_core.specs.DateTokens.{Token, is_white, byte_kind_by_tests, token_byte_kind, token_at, add_token, tokens_from, tokens_of}
+use Rattle.mail_core.specs.DateTokens.TokenByteKind.{white, digit, letter, paren, other}
+use Rattle.mail_core.specs.DateTokens.Token.{digits, letters, sign}
 
 pub tokens-nil : tokens_of [] ≡ []
 unfolding tokens_of tokens_from
@@ -22,28 +22,28 @@ tokens-cons : (b : ℕ) (bs : List ℕ) (o : Option Token) (n : ℕ) → token_a
 unfolding tokens_of tokens_from
 tokens-cons b bs o n h = ap (λ (t : Option Token × ℕ). add_token t.0 (tokens_from t.1 bs)) h ∙ ap (add_token o) (tokens-skip bs n)
 
-kind-white : (b : ℕ) → is_white b ≡ true → kind_of b ≡ white
-unfolding kind_of
-kind-white b h = ap (λ (p : Bool). kind_by p (is_digit b) (is_ascii_alphabetic b) (b == 40)) h
+kind-white : (b : ℕ) → is_white b ≡ true → token_byte_kind b ≡ white
+unfolding token_byte_kind
+kind-white b h = ap (λ (p : Bool). byte_kind_by_tests p (is_digit b) (is_ascii_alphabetic b) (b == 40)) h
 
-kind-digit : (b : ℕ) → is_white b ≡ false → is_digit b ≡ true → kind_of b ≡ digit
-unfolding kind_of
-kind-digit b w h = ap (λ (p : Bool). kind_by p (is_digit b) (is_ascii_alphabetic b) (b == 40)) w ∙ ap (λ (p : Bool). kind_by false p (is_ascii_alphabetic b) (b == 40)) h
+kind-digit : (b : ℕ) → is_white b ≡ false → is_digit b ≡ true → token_byte_kind b ≡ digit
+unfolding token_byte_kind
+kind-digit b w h = ap (λ (p : Bool). byte_kind_by_tests p (is_digit b) (is_ascii_alphabetic b) (b == 40)) w ∙ ap (λ (p : Bool). byte_kind_by_tests false p (is_ascii_alphabetic b) (b == 40)) h
 
-kind-letter : (b : ℕ) → is_white b ≡ false → is_digit b ≡ false → is_ascii_alphabetic b ≡ true → kind_of b ≡ letter
-unfolding kind_of
+kind-letter : (b : ℕ) → is_white b ≡ false → is_digit b ≡ false → is_ascii_alphabetic b ≡ true → token_byte_kind b ≡ letter
+unfolding token_byte_kind
 kind-letter b w d h =
-    ap (λ (p : Bool). kind_by p (is_digit b) (is_ascii_alphabetic b) (b == 40)) w ∙ ap (λ (p : Bool). kind_by false p (is_ascii_alphabetic b) (b == 40)) d
-    ∙ ap (λ (p : Bool). kind_by false false p (b == 40)) h
+    ap (λ (p : Bool). byte_kind_by_tests p (is_digit b) (is_ascii_alphabetic b) (b == 40)) w ∙ ap (λ (p : Bool). byte_kind_by_tests false p (is_ascii_alphabetic b) (b == 40)) d
+    ∙ ap (λ (p : Bool). byte_kind_by_tests false false p (b == 40)) h
 
-kind-other : (b : ℕ) → is_white b ≡ false → is_digit b ≡ false → is_ascii_alphabetic b ≡ false → (b == 40) ≡ false → kind_of b ≡ other
-unfolding kind_of
+kind-other : (b : ℕ) → is_white b ≡ false → is_digit b ≡ false → is_ascii_alphabetic b ≡ false → (b == 40) ≡ false → token_byte_kind b ≡ other
+unfolding token_byte_kind
 kind-other b w d a h =
-    ap (λ (p : Bool). kind_by p (is_digit b) (is_ascii_alphabetic b) (b == 40)) w ∙ ap (λ (p : Bool). kind_by false p (is_ascii_alphabetic b) (b == 40)) d
-    ∙ ap (λ (p : Bool). kind_by false false p (b == 40)) a ∙ ap (λ (p : Bool). kind_by false false false p) h
+    ap (λ (p : Bool). byte_kind_by_tests p (is_digit b) (is_ascii_alphabetic b) (b == 40)) w ∙ ap (λ (p : Bool). byte_kind_by_tests false p (is_ascii_alphabetic b) (b == 40)) d
+    ∙ ap (λ (p : Bool). byte_kind_by_tests false false p (b == 40)) a ∙ ap (λ (p : Bool). byte_kind_by_tests false false false p) h
 
-kind-paren : kind_of 40 ≡ paren
-unfolding kind_of
+kind-paren : token_byte_kind 40 ≡ paren
+unfolding token_byte_kind
 kind-paren = refl
 
 pub tokens-white : (b : ℕ) (bs : List ℕ) → is_white b ≡ true → tokens_of (b ∷ bs) ≡ tokens_of bs
@@ -72,11 +72,11 @@ pub tokens-sign : (b : ℕ) (bs : List ℕ) → is_white b ≡ false → is_digi
 unfolding token_at
 tokens-sign b bs w d a p = tokens-cons b bs (Some (sign b)) 0 (rw (kind-other b w d a p, token_at) refl)
 
-pub tokens-open : (b : ℕ) (bs : List ℕ) → b ≡ 40 → closing_rest false 1 bs ≡ None → tokens_of (b ∷ bs) ≡ sign b ∷ tokens_of bs
+pub tokens-open : (b : ℕ) (bs : List ℕ) → b ≡ 40 → after_closing_paren false 1 bs ≡ None → tokens_of (b ∷ bs) ≡ sign b ∷ tokens_of bs
 unfolding token_at
 tokens-open b bs e h = rw e (tokens-cons 40 bs (Some (sign 40)) 0 (rw (kind-paren, h, token_at) refl))
 
-pub tokens-comment : (b : ℕ) (bs : List ℕ) (e : ℕ) → b ≡ 40 → e ≤ length bs → closing_rest false 1 bs ≡ Some (drop e bs) → tokens_of (b ∷ bs) ≡ tokens_of (drop e bs)
+pub tokens-comment : (b : ℕ) (bs : List ℕ) (e : ℕ) → b ≡ 40 → e ≤ length bs → after_closing_paren false 1 bs ≡ Some (drop e bs) → tokens_of (b ∷ bs) ≡ tokens_of (drop e bs)
 unfolding token_at
 tokens-comment b bs e s le h =
     rw s (tokens-cons 40 bs None (length bs - length (drop e bs)) (rw (kind-paren, h, token_at) refl) ∙ ap (λ (n : ℕ). tokens_of (drop n bs))

@@ -19,28 +19,28 @@ abbrev pub BeginsWithComment : List ℕ → List ℕ → Type 0
 BeginsWithComment text rest = (c : List ℕ) × IsComment c × (text ≡ c ++ rest)
 
 -- The same by a count of depth: what a byte of a comment does to it. (`comments_are_counted` proves the two equal.)
-pub data CommentMark : Type 0 where
-  opening : CommentMark
-  closing : CommentMark
-  escape : CommentMark
-  ordinary : CommentMark
+pub data CommentByteKind : Type 0 where
+  opening : CommentByteKind
+  closing : CommentByteKind
+  escape : CommentByteKind
+  ordinary : CommentByteKind
 
-unfoldable pub comment_mark : ℕ → CommentMark
-comment_mark b = if b == open_paren then opening else (if b == close_paren then closing else (if b == backslash then escape else ordinary))
+unfoldable pub comment_byte_kind : ℕ → CommentByteKind
+comment_byte_kind b = if b == open_paren then opening else (if b == close_paren then closing else (if b == backslash then escape else ordinary))
 
 -- what follows the byte that brings the depth to 0; true: the next byte is quoted by a backslash
-unfoldable pub closing_rest : Bool → ℕ → List ℕ → Option (List ℕ)
-closing_rest q zero bs = Some bs
-closing_rest q (suc d) [] = None
-closing_rest true (suc d) (b ∷ bs) = closing_rest false (suc d) bs
-closing_rest false (suc d) (b ∷ bs) = elim (comment_mark b) [
-  | opening ↦ closing_rest false (suc (suc d)) bs
-  | closing ↦ closing_rest false d bs
-  | escape ↦ closing_rest true (suc d) bs
-  | ordinary ↦ closing_rest false (suc d) bs
+unfoldable pub after_closing_paren : Bool → ℕ → List ℕ → Option (List ℕ)
+after_closing_paren q zero bs = Some bs
+after_closing_paren q (suc d) [] = None
+after_closing_paren true (suc d) (b ∷ bs) = after_closing_paren false (suc d) bs
+after_closing_paren false (suc d) (b ∷ bs) = elim (comment_byte_kind b) [
+  | opening ↦ after_closing_paren false (suc (suc d)) bs
+  | closing ↦ after_closing_paren false d bs
+  | escape ↦ after_closing_paren true (suc d) bs
+  | ordinary ↦ after_closing_paren false (suc d) bs
 ]
 
 -- what follows the comment that begins the text, if one does
 abbrev pub after_comment : List ℕ → Option (List ℕ)
 after_comment [] = None
-after_comment (b ∷ bs) = if b == open_paren then closing_rest false 1 bs else None
+after_comment (b ∷ bs) = if b == open_paren then after_closing_paren false 1 bs else None

@@ -4,8 +4,8 @@
 use Rattle.std.specs.Prelude.{ℕ, ℤ, List, [], ◌∷◌, Option, Some, None, unwrap_or, codes}
 use Rattle.mail_core.specs.Fields.{field_of, unfolded}
 use Rattle.mail_core.specs.Author.{trimmed}
-use Rattle.mail_core.specs.MsgIds.{Id, ids_of}
-use Rattle.mail_core.specs.Sent.{sent_of}
+use Rattle.mail_core.specs.MsgIds.{MessageId, ids_of}
+use Rattle.mail_core.specs.Sent.{sent_date_of_body}
 
 -- the bodies of these fields, as they stand
 pub record Header : Type 0 where
@@ -31,33 +31,33 @@ abbrev pub or_empty : Option (List ℕ) → List ℕ
 or_empty body = unwrap_or body []
 
 -- the identities of a field, in order
-abbrev pub ids_in_field : Option (List ℕ) → List Id
+abbrev pub ids_in_field : Option (List ℕ) → List MessageId
 ids_in_field body = ids_of (unfolded (or_empty body))
 
 -- the first of some, where there is one
-abbrev pub first_of : List Id → Option Id
-first_of [] = None
-first_of (id ∷ ids) = Some id
+abbrev pub first_id_of_list : List MessageId → Option MessageId
+first_id_of_list [] = None
+first_id_of_list (id ∷ ids) = Some id
 
 -- the message's own identity: the first of its Message-ID field
-abbrev pub own_id_in : Header → Option Id
-own_id_in header = first_of (ids_in_field header.message_id)
+abbrev pub own_id_in : Header → Option MessageId
+own_id_in header = first_id_of_list (ids_in_field header.message_id)
 
-abbrev pub alone : Option Id → List Id
-alone None = []
-alone (Some id) = id ∷ []
+abbrev pub id_option_to_list : Option MessageId → List MessageId
+id_option_to_list None = []
+id_option_to_list (Some id) = id ∷ []
 
-abbrev pub or_alone : List Id → Option Id → List Id
-or_alone [] reply = alone reply
-or_alone (id ∷ ids) reply = id ∷ ids
+abbrev pub references_or_reply_id : List MessageId → Option MessageId → List MessageId
+references_or_reply_id [] reply = id_option_to_list reply
+references_or_reply_id (id ∷ ids) reply = id ∷ ids
 
 -- what the message refers to: all identities of References; where it has none, the first of In-Reply-To alone
-abbrev pub references_in : Header → List Id
-references_in header = or_alone (ids_in_field header.references) (first_of (ids_in_field header.in_reply_to))
+abbrev pub references_in : Header → List MessageId
+references_in header = references_or_reply_id (ids_in_field header.references) (first_id_of_list (ids_in_field header.in_reply_to))
 
 -- when the message was sent, where it arrived at this instant
 abbrev pub sent_date_in : Header → ℤ → ℤ
-sent_date_in header arrival = sent_of (or_empty header.date) arrival
+sent_date_in header arrival = sent_date_of_body (or_empty header.date) arrival
 
 -- the unfolded body of the Subject field (RFC 5322 section 3.6.5), spaces and tabs at its ends included; empty without the field
 abbrev pub unfolded_subject_in : Header → List ℕ
@@ -68,10 +68,10 @@ abbrev pub subject_line_in : Header → List ℕ
 subject_line_in header = trimmed (unfolded_subject_in header)
 
 -- The same of a message's whole text. (The author key is `author_of`.)
-abbrev pub own_id_of : List ℕ → Option Id
+abbrev pub own_id_of : List ℕ → Option MessageId
 own_id_of text = own_id_in (header_of text)
 
-abbrev pub references_of : List ℕ → List Id
+abbrev pub references_of : List ℕ → List MessageId
 references_of text = references_in (header_of text)
 
 -- the sent date of a message (RFC 5256 section 2.2), in seconds since 1970-01-01 00:00:00 UTC; the second argument is its arrival

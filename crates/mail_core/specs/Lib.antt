@@ -13,4 +13,4 @@ pub mod Quotes
 pub mod Reading
 pub mod Sent
 pub mod TokenViews
-pub mod Tokens
+pub mod DateTokens

@@ -17,12 +17,12 @@ abbrev pub ends_in : ℕ → List ℕ → Bool
 ends_in b text = slice_index text (length text - 1) == b
 
 -- the text without this byte at its end
-abbrev pub without_end : ℕ → List ℕ → List ℕ
-without_end b text = if ends_in b text then take (length text - 1) text else text
+abbrev pub without_final_byte : ℕ → List ℕ → List ℕ
+without_final_byte b text = if ends_in b text then take (length text - 1) text else text
 
 -- a line without its LF, and without a CR before that LF or before the end of the text
 unfoldable pub content : List ℕ → List ℕ
-content line = without_end cr (without_end lf line)
+content line = without_final_byte cr (without_final_byte lf line)
 
 -- a line whose content is empty
 unfoldable pub is_empty_line : List ℕ → Bool

@@ -13,29 +13,29 @@ pub data IsQuotedContent : List ℕ → List ℕ → Type 0 where
 abbrev pub IsClosedQuote : List ℕ → List ℕ → Type 0
 IsClosedQuote text value = (inside : List ℕ) × IsQuotedContent inside value × (text ≡ quote ∷ inside ++ quote ∷ [])
 
-pub data QuoteMark : Type 0 where
-  ending : QuoteMark
-  escape : QuoteMark
-  plain : QuoteMark
+pub data QuoteByteKind : Type 0 where
+  ending : QuoteByteKind
+  escape : QuoteByteKind
+  plain : QuoteByteKind
 
-unfoldable pub quote_mark : ℕ → QuoteMark
-quote_mark b = if b == quote then ending else (if b == backslash then escape else plain)
+unfoldable pub quote_byte_kind : ℕ → QuoteByteKind
+quote_byte_kind b = if b == quote then ending else (if b == backslash then escape else plain)
 
 -- what follows the quote that ends the string; true: the next byte is quoted by a backslash
-unfoldable pub after_quote : Bool → List ℕ → Option (List ℕ)
-after_quote q [] = None
-after_quote true (b ∷ bs) = after_quote false bs
-after_quote false (b ∷ bs) = elim (quote_mark b) [
+unfoldable pub after_closing_quote : Bool → List ℕ → Option (List ℕ)
+after_closing_quote q [] = None
+after_closing_quote true (b ∷ bs) = after_closing_quote false bs
+after_closing_quote false (b ∷ bs) = elim (quote_byte_kind b) [
   | ending ↦ Some bs
-  | escape ↦ after_quote true bs
-  | plain ↦ after_quote false bs
+  | escape ↦ after_closing_quote true bs
+  | plain ↦ after_closing_quote false bs
 ]
 
 -- the text between the quotes without the backslashes that quote
 unfoldable pub unquoted : Bool → List ℕ → List ℕ
 unquoted q [] = []
 unquoted true (b ∷ bs) = b ∷ unquoted false bs
-unquoted false (b ∷ bs) = elim (quote_mark b) [
+unquoted false (b ∷ bs) = elim (quote_byte_kind b) [
   | ending ↦ b ∷ unquoted false bs
   | escape ↦ unquoted true bs
   | plain ↦ b ∷ unquoted false bs

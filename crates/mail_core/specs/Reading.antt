@@ -1,10 +1,10 @@
 -- What the reading of a msg-id leaves behind.
 use Rattle.std.specs.Prelude.{◌≡◌, ℕ, ◌<◌, ◌≤◌, List, [], ◌∷◌, ◌++◌, length, drop, Option, Some}
-use Rattle.mail_core.specs.MsgIds.{Id}
+use Rattle.mail_core.specs.MsgIds.{MessageId}
 
 -- what was read is an identity, which stands behind those before, and the text that follows from a later place on
-pub record IsTaken (before after : List Id) (read : Option (Id × List ℕ)) (text : List ℕ) (from end : ℕ) : Type 0 where
-  pub id : Id
+pub record AppendsReadId (before after : List MessageId) (read : Option (MessageId × List ℕ)) (text : List ℕ) (from end : ℕ) : Type 0 where
+  pub id : MessageId
   pub later : from < end
   pub inside : end ≤ length text
   pub is : read ≡ Some (id, drop end text)

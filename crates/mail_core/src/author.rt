@@ -1,7 +1,7 @@
 //! Who wrote a message (RFC 5322 section 3.6.2).
 ghost use Rattle.std.specs.Prelude.{◌≡◌, MatchOption, Some, None, IfOk};
 ghost use Rattle.std.specs.Option.{option_copied};
-ghost use Rattle.mail_core.specs.Author.{in_angles, address_in, trim_end, trimmed, key_of_body, author_of};
+ghost use Rattle.mail_core.specs.Author.{text_in_angle_brackets, address_in, trim_end, trimmed, author_of_body, author_of};
 
 use crate::field_blocks::is_blank_byte;
 use crate::field_reading::behind_blanks;
@@ -13,8 +13,8 @@ use std::alloc::Global;
 
 /// The text between the last `<` and the first `>` behind it.
 fn between_angles<'a>(text: &'a [u8]) -> Option<&'a [u8]>
-    ensures { MatchOption result (in_angles text.entry.now ≡ None)
-        (λ address. in_angles text.entry.now ≡ Some address.now) }
+    ensures { MatchOption result (text_in_angle_brackets text.entry.now ≡ None)
+        (λ address. text_in_angle_brackets text.entry.now ≡ Some address.now) }
 {
     let open = memrchr(b'<', text)?;
     let (_, behind) = text.split_at(open + 1);
@@ -57,7 +57,7 @@ pub fn trimmed<'a>(text: &'a [u8]) -> &'a [u8]
 
 /// The author that the body of a From field names, in a form that can be compared.
 pub(crate) fn key_of_field(alloc: Global, from: Option<&[u8]>) -> Result<Vec<u8>, Memory>
-    ensures { IfOk result (λ key. key.items ≡ key_of_body (option_copied from.entry)) }
+    ensures { IfOk result (λ key. key.items ≡ author_of_body (option_copied from.entry)) }
 {
     let Some(folded) = from else {
         return Ok(Vec::new(alloc));

@@ -1,7 +1,7 @@
 //! Where comments end (RFC 5322 section 3.2.2).
 ghost use Rattle.std.specs.Prelude.{◌≡◌, ◌+◌, ◌<◌, ◌≤◌, length, IfOk, MatchOption, Some, None, false, drop};
-ghost use Rattle.mail_core.specs.Comments.{closing_rest};
-ghost use Rattle.mail_core.specs.Closings.{closings_of};
+ghost use Rattle.mail_core.specs.Comments.{after_closing_paren};
+ghost use Rattle.mail_core.specs.Closings.{comment_closed_flags};
 
 use civil_time::Memory;
 use std::alloc::Global;
@@ -9,7 +9,7 @@ use std::marker::Model;
 
 /// For each byte of a text, the last one first, whether a comment that it opens is closed behind it.
 fn closings(alloc: Global, text: &[u8]) -> Result<Vec<bool>, Memory>
-    ensures { IfOk result (λ closed. closed.items ≡ closings_of text.now) }
+    ensures { IfOk result (λ closed. closed.items ≡ comment_closed_flags text.now) }
 {
     let mut closed = Vec::with_capacity(alloc, text.len())?;
     let mut after: usize = 0;
@@ -41,13 +41,13 @@ pub(crate) struct Comments<'a> {
 
 impl<'a> Model for Comments<'a> {
     ghost use Rattle.std.specs.Prelude.{◌≡◌, ◌≤◌, List, ℕ, length, drop};
-    ghost use Rattle.mail_core.specs.Closings.{closings_of};
+    ghost use Rattle.mail_core.specs.Closings.{comment_closed_flags};
 
     ghost Value = { List ℕ };
 
     ghost view = { λ s. s.text.now };
 
-    ghost invariant = { λ s. (s.from ≤ length s.text.now) × (s.closed.items ≡ closings_of (drop s.from s.text.now)) };
+    ghost invariant = { λ s. (s.from ≤ length s.text.now) × (s.closed.items ≡ comment_closed_flags (drop s.from s.text.now)) };
 }
 
 impl<'a> Comments<'a> {
@@ -66,9 +66,9 @@ impl<'a> Comments<'a> {
         requires { at < length self.old }
         ensures same { self.new ≡ self.old }
         ensures end { IfOk result (λ end. MatchOption end
-            (closing_rest false 1 (drop (at + 1) self.old) ≡ None)
+            (after_closing_paren false 1 (drop (at + 1) self.old) ≡ None)
             (λ e. (at + 1 < e) × (e ≤ length self.old)
-            × (closing_rest false 1 (drop (at + 1) self.old) ≡ Some (drop e self.old)))) }
+            × (after_closing_paren false 1 (drop (at + 1) self.old) ≡ Some (drop e self.old)))) }
     {
         if at < self.from {
             self.closed = closings(alloc, &self.text[at..])?;
@@ -85,9 +85,9 @@ impl<'a> Comments<'a> {
 /// The place behind the comment inside which a place stands, found by one scan and no memory.
 pub(crate) fn comment_end(text: &[u8], from: usize) -> Option<usize>
     requires { from ≤ length text.now }
-    ensures { MatchOption result (closing_rest false 1 (drop from text.now) ≡ None)
+    ensures { MatchOption result (after_closing_paren false 1 (drop from text.now) ≡ None)
         (λ end. (from < end) × (end ≤ length text.now)
-        × (closing_rest false 1 (drop from text.now) ≡ Some (drop end text.now))) }
+        × (after_closing_paren false 1 (drop from text.now) ≡ Some (drop end text.now))) }
 {
     let mut at = from;
     let mut depth: usize = 1;

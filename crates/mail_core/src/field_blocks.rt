@@ -1,13 +1,13 @@
 //! The blocks of header lines that fields are read from (RFC 5322 sections 2.1 and 2.2.3).
 ghost use Rattle.std.specs.Prelude.{◌≡◌, ◌∷◌, ◌<◌, ◌≤◌, [], length, take, drop, MatchOption, IsTrue};
 ghost use Rattle.mail_core.specs.Lines.{lines, is_empty_line};
-ghost use Rattle.mail_core.specs.Fields.{is_blank, blocks, header_lines, header_blocks, continues};
+ghost use Rattle.mail_core.specs.Fields.{is_wsp, continued_blocks, header_lines, header_blocks, is_continuation_line};
 
 use crate::lines::{line_content, line_end};
 
 /// Whether a byte is a space or a tab.
 pub(crate) fn is_blank_byte(byte: u8) -> bool
-    ensures { result ≡ is_blank byte }
+    ensures { result ≡ is_wsp byte }
 {
     byte == b' ' || byte == b'\t'
 }
@@ -22,7 +22,7 @@ fn has_no_content(line: &[u8]) -> bool
 
 /// Whether the first line of a text continues the line before it.
 fn begins_blank(text: &[u8]) -> bool
-    ensures { result ≡ continues text.now }
+    ensures { result ≡ is_continuation_line text.now }
 {
     match text.first() {
         Some(byte) => is_blank_byte(*byte),
@@ -36,7 +36,7 @@ fn block_end(text: &[u8], first: usize) -> usize
     requires within { first ≤ length text.now }
     ensures some { first ≤ result }
     ensures within { result ≤ length text.now }
-    ensures cuts { blocks (take first text.now ∷ header_lines (lines (drop first text.now))) ≡ take result text.now ∷ header_blocks (drop result text.now) }
+    ensures cuts { continued_blocks (take first text.now ∷ header_lines (lines (drop first text.now))) ≡ take result text.now ∷ header_blocks (drop result text.now) }
 {
     let mut end = first;
     while begins_blank(&text[end..]) {

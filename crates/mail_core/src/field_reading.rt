@@ -3,7 +3,7 @@ ghost use Rattle.std.specs.Prelude.{◌≡◌, ◌∷◌, ◌≤◌, [], length,
 ghost use Rattle.std.specs.List.{prefix_len};
 ghost use Rattle.std.specs.Iterator.{YieldsFirst, item_count};
 ghost use Rattle.mail_core.specs.Lines.{content};
-ghost use Rattle.mail_core.specs.Fields.{is_name_byte, is_blank, skip_blanks, field_in, fields_of, field_of};
+ghost use Rattle.mail_core.specs.Fields.{is_field_name_byte, is_wsp, skip_wsp, field_in, fields_of, field_of};
 
 use crate::field_blocks::{first_block, is_blank_byte};
 use crate::lines::line_content;
@@ -19,9 +19,9 @@ pub struct Field<'a> {
 }
 
 impl<'a> Model for Field<'a> {
-    ghost use Rattle.mail_core.specs.Fields.{Entry};
+    ghost use Rattle.mail_core.specs.Fields.{HeaderField};
 
-    ghost Value = { Entry };
+    ghost Value = { HeaderField };
 
     ghost view = { λ s. record { name = s.name.now; body = s.body.now } };
 }
@@ -34,9 +34,9 @@ pub struct Fields<'a> {
 
 impl<'a> Model for Fields<'a> {
     ghost use Rattle.std.specs.Prelude.{List};
-    ghost use Rattle.mail_core.specs.Fields.{Entry, fields_of};
+    ghost use Rattle.mail_core.specs.Fields.{HeaderField, fields_of};
 
-    ghost Value = { List Entry };
+    ghost Value = { List HeaderField };
 
     ghost view = { λ s. fields_of s.rest.now };
 }
@@ -51,14 +51,14 @@ impl<'a> Fields<'a> {
 
 /// Whether a byte may stand in the name of a field.
 fn is_ftext(byte: u8) -> bool
-    ensures { result ≡ is_name_byte byte }
+    ensures { result ≡ is_field_name_byte byte }
 {
     byte >= 33 && byte <= 126 && byte != b':'
 }
 
 /// How many bytes of a name begin a text.
 fn name_len(text: &[u8]) -> usize
-    ensures value { result ≡ prefix_len is_name_byte text.now }
+    ensures value { result ≡ prefix_len is_field_name_byte text.now }
     ensures within { result ≤ length text.now }
 {
     for (len, byte) in text.iter().enumerate() {
@@ -71,7 +71,7 @@ fn name_len(text: &[u8]) -> usize
 
 /// How many spaces and tabs begin a text.
 fn blanks(text: &[u8]) -> usize
-    ensures value { result ≡ prefix_len is_blank text.now }
+    ensures value { result ≡ prefix_len is_wsp text.now }
     ensures within { result ≤ length text.now }
 {
     for (len, byte) in text.iter().enumerate() {
@@ -84,7 +84,7 @@ fn blanks(text: &[u8]) -> usize
 
 /// The text behind the spaces and tabs that begin it.
 pub(crate) fn behind_blanks<'a>(text: &'a [u8]) -> &'a [u8]
-    ensures { result.now ≡ skip_blanks text.entry.now }
+    ensures { result.now ≡ skip_wsp text.entry.now }
 {
     let (_, behind) = text.split_at(blanks(text));
     behind

@@ -1,7 +1,7 @@
 //! The msg-id at a place of a text (RFC 5322 section 3.6.4).
 ghost use Rattle.std.specs.Prelude.{◌≡◌, ◌<◌, ◌≤◌, length, IfOk, IfSome, IfNone, None, drop, slice_index};
 ghost use Rattle.mail_core.specs.MsgIds.{id_at, quoted_id, plain_id};
-ghost use Rattle.mail_core.specs.Reading.{IsTaken};
+ghost use Rattle.mail_core.specs.Reading.{AppendsReadId};
 
 use crate::id_sides::{divide, right_end};
 use crate::msg_id_ref::MsgIdRef;
@@ -18,7 +18,7 @@ fn push_quoted_id(
     from: usize,
 ) -> Result<Option<usize>, Memory>
     requires { from ≤ length text.now }
-    ensures found { IfOk result (λ read. IfSome read (λ end. IsTaken found.old found.new (quoted_id (drop from text.now)) text.now from end)) }
+    ensures found { IfOk result (λ read. IfSome read (λ end. AppendsReadId found.old found.new (quoted_id (drop from text.now)) text.now from end)) }
     ensures none { IfOk result (λ read. IfNone read ((quoted_id (drop from text.now) ≡ None) × (found.new ≡ found.old))) }
 {
     let Some(end) = quote_end(text, from) else {
@@ -41,7 +41,7 @@ fn push_quoted_id(
 /// The same for the msg-id without quotes whose left side begins here, behind `<`.
 fn push_plain_id(found: &mut References, text: &[u8], from: usize) -> Result<Option<usize>, Memory>
     requires { from ≤ length text.now }
-    ensures found { IfOk result (λ read. IfSome read (λ end. IsTaken found.old found.new (plain_id (drop from text.now)) text.now from end)) }
+    ensures found { IfOk result (λ read. IfSome read (λ end. AppendsReadId found.old found.new (plain_id (drop from text.now)) text.now from end)) }
     ensures none { IfOk result (λ read. IfNone read ((plain_id (drop from text.now) ≡ None) × (found.new ≡ found.old))) }
 {
     let Some((at, close)) = divide(text, from) else {
@@ -63,7 +63,7 @@ pub(crate) fn push_id(
 ) -> Result<Option<usize>, Memory>
     requires at { from < length text.now }
     requires opens { slice_index text.now from ≡ 60 }
-    ensures found { IfOk result (λ read. IfSome read (λ end. IsTaken found.old found.new (id_at (drop from text.now)) text.now from end)) }
+    ensures found { IfOk result (λ read. IfSome read (λ end. AppendsReadId found.old found.new (id_at (drop from text.now)) text.now from end)) }
     ensures none { IfOk result (λ read. IfNone read ((id_at (drop from text.now) ≡ None) × (found.new ≡ found.old))) }
 {
     if text.len() - from < 2 {

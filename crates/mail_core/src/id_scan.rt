@@ -1,7 +1,7 @@
 //! The msg-ids of a text.
 ghost use Rattle.std.specs.Prelude.{◌≡◌, IfOk, take};
 ghost use Rattle.mail_core.specs.MsgIds.{ids_of};
-ghost use Rattle.mail_core.specs.Headers.{first_of};
+ghost use Rattle.mail_core.specs.Headers.{first_id_of_list};
 
 use crate::comments::Comments;
 use crate::id_reading::push_id;
@@ -58,7 +58,7 @@ pub fn ids(alloc: Global, text: &[u8]) -> Result<References, Memory>
 /// The first msg-id of an unfolded text, as `ids` finds it, if there is one, without the others. `Memory`
 /// where no memory is left.
 pub fn first_id(alloc: Global, text: &[u8]) -> Result<Option<MsgId>, Memory>
-    ensures { IfOk result (λ found. found ≡ first_of (ids_of text.now)) }
+    ensures { IfOk result (λ found. found ≡ first_id_of_list (ids_of text.now)) }
 {
     let found = scan(alloc, text, 1)?;
     if found.is_empty() {

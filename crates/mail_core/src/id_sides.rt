@@ -1,19 +1,19 @@
 //! The two sides of a msg-id (RFC 5322 section 3.6.4).
 ghost use Rattle.std.specs.Prelude.{◌≡◌, ◌+◌, ◌-◌, ◌<◌, ◌≤◌, length, MatchOption, Some, None, take, drop};
-ghost use Rattle.mail_core.specs.MsgIds.{right_at, sides_of, is_left, is_right};
+ghost use Rattle.mail_core.specs.MsgIds.{nonempty_id_right, sides_of, is_id_left_byte, is_id_right_byte};
 
 /// Whether a byte may stand right of the last `@`.
-#[tactic(auto, unfolding(crate::specs::MsgIds::is_right))]
+#[tactic(auto, unfolding(crate::specs::MsgIds::is_id_right_byte))]
 fn right_byte(byte: u8) -> bool
-    ensures { result ≡ is_right byte }
+    ensures { result ≡ is_id_right_byte byte }
 {
     byte >= 33 && byte <= 126 && byte != b'<' && byte != b'>' && byte != b'@'
 }
 
 /// Whether a byte may stand left of the last `@`.
-#[tactic(auto, unfolding(crate::specs::MsgIds::is_left))]
+#[tactic(auto, unfolding(crate::specs::MsgIds::is_id_left_byte))]
 fn left_byte(byte: u8) -> bool
-    ensures { result ≡ is_left byte }
+    ensures { result ≡ is_id_left_byte byte }
 {
     byte >= 33 && byte <= 126 && byte != b'<' && byte != b'>' && byte != b'"'
 }
@@ -21,9 +21,9 @@ fn left_byte(byte: u8) -> bool
 /// The place of the `>` behind the right side that begins here.
 pub(crate) fn right_end(text: &[u8], from: usize) -> Option<usize>
     requires { from ≤ length text.now }
-    ensures { MatchOption result (right_at (drop from text.now) ≡ None)
+    ensures { MatchOption result (nonempty_id_right (drop from text.now) ≡ None)
         (λ end. (from < end) × (end < length text.now)
-        × (right_at (drop from text.now) ≡ Some (take (end - from) (drop from text.now), drop (end + 1) text.now))) }
+        × (nonempty_id_right (drop from text.now) ≡ Some (take (end - from) (drop from text.now), drop (end + 1) text.now))) }
 {
     let mut at = from;
     while at < text.len() {

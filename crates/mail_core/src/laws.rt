@@ -2,7 +2,7 @@
 
 ghost use Rattle.std.specs.Prelude.{◌≡◌, ◌++◌, List, ℕ, Some};
 ghost use Rattle.mail_core.specs.Comments.{BeginsWithComment, after_comment};
-ghost use Rattle.mail_core.specs.MsgIds.{Id, IsMsgId};
+ghost use Rattle.mail_core.specs.MsgIds.{MessageId, IsMsgId};
 ghost use Rattle.mail_core.specs.Pieces.{Piece, Pieces, ids_in};
 ghost use Rattle.mail_core.specs.MsgIds.{ids_of};
 
@@ -15,11 +15,11 @@ pub fn comments_are_counted()
 
 /// No msg-id has two readings.
 pub fn one_reading()
-    ensures { (m n : List ℕ) (i j : Id) (r s : List ℕ) → IsMsgId m i → IsMsgId n j → m ++ r ≡ n ++ s → i ≡ j }
+    ensures { (m n : List ℕ) (i j : MessageId) (r s : List ℕ) → IsMsgId m i → IsMsgId n j → m ++ r ≡ n ++ s → i ≡ j }
 {}
 
 /// Each text has exactly one division into pieces, and its identities are those of the function.
-pub fn divisions()
+pub fn each_text_has_one_division()
     ensures some { (text : List ℕ) → (ps : List Piece) × Pieces text ps }
     ensures one { (ps qs : List Piece) (text : List ℕ) → Pieces text ps → Pieces text qs → ps ≡ qs }
     ensures one_list { (ps : List Piece) (text : List ℕ) → Pieces text ps → ids_in ps ≡ ids_of text }

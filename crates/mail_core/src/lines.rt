@@ -1,6 +1,6 @@
 //! Lines and their contents (RFC 5322 section 2.1).
 ghost use Rattle.std.specs.Prelude.{◌≡◌, ◌∷◌, ◌<◌, ◌≤◌, length, take, drop};
-ghost use Rattle.mail_core.specs.Lines.{lines, content, without_end};
+ghost use Rattle.mail_core.specs.Lines.{lines, content, without_final_byte};
 
 use memchr::memchr;
 
@@ -19,7 +19,7 @@ pub fn line_end(text: &[u8]) -> usize
 
 /// The text without this byte at its end.
 fn without<'a>(line: &'a [u8], byte: u8) -> &'a [u8]
-    ensures { result.now ≡ without_end byte line.entry.now }
+    ensures { result.now ≡ without_final_byte byte line.entry.now }
 {
     if !line.is_empty() && line[line.len() - 1] == byte {
         &line[..line.len() - 1]

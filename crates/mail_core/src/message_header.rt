@@ -2,9 +2,9 @@
 ghost use Rattle.std.specs.Prelude.{◌≡◌, IfOk};
 ghost use Rattle.std.specs.Option.{option_copied};
 ghost use Rattle.mail_core.specs.Fields.{unfolded};
-ghost use Rattle.mail_core.specs.Author.{key_of_body};
-ghost use Rattle.mail_core.specs.Headers.{header_of, or_empty, ids_in_field, first_of, own_id_in, references_in, sent_date_in, unfolded_subject_in};
-ghost use Rattle.mail_core.specs.Gathering.{or_field, with_field};
+ghost use Rattle.mail_core.specs.Author.{author_of_body};
+ghost use Rattle.mail_core.specs.Headers.{header_of, or_empty, ids_in_field, first_id_of_list, own_id_in, references_in, sent_date_in, unfolded_subject_in};
+ghost use Rattle.mail_core.specs.Gathering.{found_or_field_body, with_field};
 
 use crate::author::key_of_field;
 use crate::field_reading::{Field, next_field};
@@ -49,7 +49,7 @@ impl<'a> Model for Header<'a> {
 
 /// The body that was found before, and else that of this field, where it has the name.
 fn or_body<'a>(found: Option<&'a [u8]>, field: &Field<'a>, name: &[u8]) -> Option<&'a [u8]>
-    ensures { option_copied result ≡ or_field name.now field.now (option_copied found.entry) }
+    ensures { option_copied result ≡ found_or_field_body name.now field.now (option_copied found.entry) }
 {
     match found {
         Some(body) => Some(body),
@@ -136,7 +136,7 @@ impl<'a> Header<'a> {
 
     /// The author's key, as `author_key` makes it. `Memory` where no memory is left.
     pub fn author_key(&self, alloc: Global) -> Result<Vec<u8>, Memory>
-        ensures { IfOk result (λ key. key.items ≡ key_of_body self.now.from) }
+        ensures { IfOk result (λ key. key.items ≡ author_of_body self.now.from) }
     {
         key_of_field(alloc, self.from)
     }
@@ -159,7 +159,7 @@ fn ids_in(alloc: Global, body: Option<&[u8]>) -> Result<References, Memory>
 
 /// The first identity in a field.
 fn first_id_in(alloc: Global, body: Option<&[u8]>) -> Result<Option<MsgId>, Memory>
-    ensures { IfOk result (λ id. id ≡ first_of (ids_in_field (option_copied body.entry))) }
+    ensures { IfOk result (λ id. id ≡ first_id_of_list (ids_in_field (option_copied body.entry))) }
 {
     let text = unfold_field(alloc, body)?;
     first_id(alloc, text.as_slice())

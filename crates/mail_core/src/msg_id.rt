@@ -16,9 +16,9 @@ pub struct MsgId {
 }
 
 impl Model for MsgId {
-    ghost use Rattle.mail_core.specs.MsgIds.{Id};
+    ghost use Rattle.mail_core.specs.MsgIds.{MessageId};
 
-    ghost Value = { Id };
+    ghost Value = { MessageId };
 
     ghost view = { λ s. record { left = s.left; right = s.right } };
 
@@ -58,12 +58,12 @@ impl MsgId {
     }
 
     /// The same identity once more. `Memory` where no memory is left.
-    pub fn try_copy(&self, alloc: Global) -> Result<MsgId, Memory>
+    pub fn try_clone(&self, alloc: Global) -> Result<MsgId, Memory>
         ensures { IfOk result (λ copy. copy ≡ self.now) }
     {
         Ok(MsgId {
-            left: self.left.try_copy(alloc)?,
-            right: self.right.try_copy(alloc)?,
+            left: self.left.try_clone(alloc)?,
+            right: self.right.try_clone(alloc)?,
         })
     }
 }

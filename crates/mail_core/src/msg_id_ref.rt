@@ -15,9 +15,9 @@ pub struct MsgIdRef<'a> {
 }
 
 impl<'a> Model for MsgIdRef<'a> {
-    ghost use Rattle.mail_core.specs.MsgIds.{Id};
+    ghost use Rattle.mail_core.specs.MsgIds.{MessageId};
 
-    ghost Value = { Id };
+    ghost Value = { MessageId };
 
     ghost view = { λ s. record { left = s.left; right = s.right } };
 

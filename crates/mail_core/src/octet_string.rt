@@ -40,7 +40,7 @@ impl Octets {
     }
 
     /// The same bytes once more. `Memory` where no memory is left.
-    pub fn try_copy(&self, alloc: Global) -> Result<Octets, Memory>
+    pub fn try_clone(&self, alloc: Global) -> Result<Octets, Memory>
         ensures { IfOk result (λ copy. copy ≡ self.now) }
     {
         Ok(Octets::new(Vec::from_slice(alloc, self.as_slice())?))

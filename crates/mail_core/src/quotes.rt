@@ -1,13 +1,14 @@
 //! Quoted strings (RFC 5322 section 3.2.4).
 ghost use Rattle.std.specs.Prelude.{◌≡◌, ◌<◌, ◌≤◌, length, OnOk, MatchOption, Some, None, false, drop};
-ghost use Rattle.mail_core.specs.Quotes.{after_quote, unquoted};
+ghost use Rattle.mail_core.specs.Quotes.{after_closing_quote, unquoted};
 
 use civil_time::Memory;
 
 /// The place behind the quote that ends the quoted string whose text begins here.
 pub(crate) fn quote_end(text: &[u8], from: usize) -> Option<usize>
     requires { from ≤ length text.now }
-    ensures { MatchOption result (after_quote false (drop from text.now) ≡ None) (λ end. (from < end) × (end ≤ length text.now) × (after_quote false (drop from text.now) ≡ Some (drop end text.now))) }
+    ensures { MatchOption result (after_closing_quote false (drop from text.now) ≡ None) (λ end. (from < end) × (end ≤ length text.now)
+        × (after_closing_quote false (drop from text.now) ≡ Some (drop end text.now))) }
 {
     let mut at = from;
     let mut quoted = false;

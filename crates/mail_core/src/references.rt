@@ -1,7 +1,7 @@
 //! The message ids of a field, in few growths.
 ghost use Rattle.std.specs.Prelude.{◌≡◌, ◌==◌, ◌<◌, ◌++◌, ◌∷◌, [], length, get_or, IfOk, OnOk, OnErr};
-ghost use Rattle.mail_core.specs.MsgIds.{Id};
-ghost use Rattle.mail_core.specs.Places.{id_there, IsWithin, Begins};
+ghost use Rattle.mail_core.specs.MsgIds.{MessageId};
+ghost use Rattle.mail_core.specs.Places.{id_at_place, IsPlaceWithin, IsPrefixOfBytes};
 
 use crate::msg_id_ref::MsgIdRef;
 use civil_time::Memory;
@@ -26,14 +26,14 @@ pub struct References {
 
 impl Model for References {
     ghost use Rattle.std.specs.Prelude.{List, length};
-    ghost use Rattle.mail_core.specs.MsgIds.{Id};
-    ghost use Rattle.mail_core.specs.Places.{ids_there, AreWithin};
+    ghost use Rattle.mail_core.specs.MsgIds.{MessageId};
+    ghost use Rattle.mail_core.specs.Places.{ids_at_places, ArePlacesWithin};
 
-    ghost Value = { List Id };
+    ghost Value = { List MessageId };
 
-    ghost view = { λ s. ids_there s.bytes.items s.places.items };
+    ghost view = { λ s. ids_at_places s.bytes.items s.places.items };
 
-    ghost invariant = { λ s. AreWithin (length s.bytes.items) s.places.items };
+    ghost invariant = { λ s. ArePlacesWithin (length s.bytes.items) s.places.items };
 }
 
 /// A length as 32 bits. `Memory` where it takes more.
@@ -48,9 +48,9 @@ fn short(length: usize) -> Result<u32, Memory>
 
 /// Puts the sides of an id behind these bytes.
 fn push_sides(bytes: &mut Vec<u8>, left: &[u8], right: &[u8]) -> Result<Place, Memory>
-    ensures place { IfOk result (λ place. IsWithin (length bytes.new.items) place
-        × (id_there bytes.new.items place ≡ record { left = left.now; right = right.now })) }
-    ensures kept { Begins bytes.old.items bytes.new.items }
+    ensures place { IfOk result (λ place. IsPlaceWithin (length bytes.new.items) place
+        × (id_at_place bytes.new.items place ≡ record { left = left.now; right = right.now })) }
+    ensures kept { IsPrefixOfBytes bytes.old.items bytes.new.items }
 {
     let start = short(bytes.len())?;
     bytes.extend_from_slice(left)?;
@@ -62,8 +62,8 @@ fn push_sides(bytes: &mut Vec<u8>, left: &[u8], right: &[u8]) -> Result<Place, M
 
 /// The id that stands there.
 fn read_place<'a>(bytes: &'a [u8], place: &Place) -> MsgIdRef<'a>
-    requires { IsWithin (length bytes.now) place.now }
-    ensures { result ≡ id_there bytes.entry.now place.now }
+    requires { IsPlaceWithin (length bytes.now) place.now }
+    ensures { result ≡ id_at_place bytes.entry.now place.now }
 {
     let (start, middle, end) = (
         place.start as usize,
@@ -101,7 +101,7 @@ impl References {
     /// The one at a place, from 0 on.
     pub fn get(&self, at: usize) -> MsgIdRef<'_>
         requires { at < length self.now }
-        ensures { (other : Id) → result ≡ get_or self.now at other }
+        ensures { (other : MessageId) → result ≡ get_or self.now at other }
     {
         let place = &self.places[at];
         read_place(self.bytes.as_slice(), place)

@@ -1,7 +1,8 @@
 //! When a message was sent (RFC 5322 sections 3.3 and 4.3).
 ghost use Rattle.std.specs.Prelude.{◌≡◌, ◌<◌, MatchOption, IfSome, Some, None, pos, neg_ℤ, ◌≤ℤ◌, unwrap_or};
-ghost use Rattle.mail_core.specs.Tokens.{tokens_of};
-ghost use Rattle.mail_core.specs.Sent.{year_of, without_comma, without_weekday, date_at, second_at, seconds_at, time_at, signed_zone_at, zone_at, seconds_of, sent_of};
+ghost use Rattle.mail_core.specs.DateTokens.{tokens_of};
+ghost use Rattle.mail_core.specs.Sent.{year_of_digits, without_comma, without_weekday, date_at, second_at};
+ghost use Rattle.mail_core.specs.Sent.{second_after_colon, time_at, signed_zone_at, zone_at, utc_seconds_of_time, sent_date_of_body};
 
 use crate::tokens::{behind_sign, next_digits, next_letters, next_sign};
 use civil_time::calendar::day_number;
@@ -13,7 +14,7 @@ use civil_time::{Instant, zone};
 
 /// A year of two, three or four digits.
 fn read_year(digits: &[u8]) -> Option<u16>
-    ensures { result ≡ year_of digits.now }
+    ensures { result ≡ year_of_digits digits.now }
 {
     match digits {
         [a, b] => {
@@ -77,7 +78,7 @@ fn read_second<'a>(text: &'a [u8]) -> Option<(u8, &'a [u8])>
 
 /// The second behind a colon that comes first, 0 where none does, and what follows it.
 fn read_seconds<'a>(text: &'a [u8]) -> Option<(u8, &'a [u8])>
-    ensures { MatchOption result (seconds_at (tokens_of text.entry.now) ≡ None) (λ found. seconds_at (tokens_of text.entry.now) ≡ Some (found.0, tokens_of found.1.now)) }
+    ensures { MatchOption result (second_after_colon (tokens_of text.entry.now) ≡ None) (λ found. second_after_colon (tokens_of text.entry.now) ≡ Some (found.0, tokens_of found.1.now)) }
 {
     match behind_sign(text, b':') {
         Some(rest) => read_second(rest),
@@ -125,7 +126,7 @@ fn read_zone(text: &[u8]) -> Option<i32>
 
 /// The seconds since the day's 00:00:00 in UTC.
 fn read_seconds_of_day(text: &[u8]) -> i32
-    ensures value { result ≡ seconds_of (tokens_of text.now) }
+    ensures value { result ≡ utc_seconds_of_time (tokens_of text.now) }
     ensures low { neg_ℤ (pos 500_000) ≤ℤ result }
     ensures high { result ≤ℤ pos 500_000 }
 {
@@ -139,7 +140,7 @@ fn read_seconds_of_day(text: &[u8]) -> i32
 /// arrival where the body is no date, or its instant lies outside the years 1900 to 9998. A body without a valid time
 /// is the beginning of its day in UTC. It takes no memory.
 pub fn sent(date: &[u8], arrival: Instant) -> Instant
-    ensures { result ≡ sent_of date.now arrival }
+    ensures { result ≡ sent_date_of_body date.now arrival }
 {
     match read_date(skip_weekday(date)) {
         Some((day, rest)) => {

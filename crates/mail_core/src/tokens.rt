@@ -3,8 +3,8 @@ ghost use Rattle.std.specs.Prelude.{◌≡◌, ◌∷◌, ◌≤◌, [], length,
 ghost use Rattle.std.specs.List.{prefix_len};
 ghost use Rattle.std.specs.Char.{is_ascii_alphabetic};
 ghost use Rattle.civil_time.specs.Digits.{is_digit};
-ghost use Rattle.mail_core.specs.Tokens.{is_white, tokens_of, digits_first, letters_first, sign_first, after_sign};
-ghost use Rattle.mail_core.specs.TokenViews.{seen};
+ghost use Rattle.mail_core.specs.DateTokens.{is_white, tokens_of, leading_digits_token, leading_letters_token, leading_byte_token, after_byte_token};
+ghost use Rattle.mail_core.specs.TokenViews.{spec_token_of};
 
 use crate::comments::comment_end;
 
@@ -51,7 +51,7 @@ fn letters_len(text: &[u8]) -> usize
 
 /// The first token of a text, and what follows it. White space and comments before it are passed over.
 fn next_token<'a>(text: &'a [u8]) -> Option<(Token<'a>, &'a [u8])>
-    ensures { MatchOption result (tokens_of text.entry.now ≡ []) (λ found. tokens_of text.entry.now ≡ seen found.0 ∷ tokens_of found.1.now) }
+    ensures { MatchOption result (tokens_of text.entry.now ≡ []) (λ found. tokens_of text.entry.now ≡ spec_token_of found.0 ∷ tokens_of found.1.now) }
 {
     let mut rest = text;
     while let Some((first, behind)) = rest.split_first() {
@@ -81,7 +81,7 @@ fn next_token<'a>(text: &'a [u8]) -> Option<(Token<'a>, &'a [u8])>
 
 /// The digits that come first, and what follows them.
 pub(crate) fn next_digits<'a>(text: &'a [u8]) -> Option<(&'a [u8], &'a [u8])>
-    ensures { MatchOption result (digits_first (tokens_of text.entry.now) ≡ None) (λ found. digits_first (tokens_of text.entry.now) ≡ Some (found.0.now, tokens_of found.1.now)) }
+    ensures { MatchOption result (leading_digits_token (tokens_of text.entry.now) ≡ None) (λ found. leading_digits_token (tokens_of text.entry.now) ≡ Some (found.0.now, tokens_of found.1.now)) }
 {
     match next_token(text)? {
         (Token::Digits(digits), rest) => Some((digits, rest)),
@@ -91,7 +91,7 @@ pub(crate) fn next_digits<'a>(text: &'a [u8]) -> Option<(&'a [u8], &'a [u8])>
 
 /// The letters that come first, and what follows them.
 pub(crate) fn next_letters<'a>(text: &'a [u8]) -> Option<(&'a [u8], &'a [u8])>
-    ensures { MatchOption result (letters_first (tokens_of text.entry.now) ≡ None) (λ found. letters_first (tokens_of text.entry.now) ≡ Some (found.0.now, tokens_of found.1.now)) }
+    ensures { MatchOption result (leading_letters_token (tokens_of text.entry.now) ≡ None) (λ found. leading_letters_token (tokens_of text.entry.now) ≡ Some (found.0.now, tokens_of found.1.now)) }
 {
     match next_token(text)? {
         (Token::Letters(letters), rest) => Some((letters, rest)),
@@ -101,7 +101,7 @@ pub(crate) fn next_letters<'a>(text: &'a [u8]) -> Option<(&'a [u8], &'a [u8])>
 
 /// The single byte that comes first, and what follows it.
 pub(crate) fn next_sign<'a>(text: &'a [u8]) -> Option<(u8, &'a [u8])>
-    ensures { MatchOption result (sign_first (tokens_of text.entry.now) ≡ None) (λ found. sign_first (tokens_of text.entry.now) ≡ Some (found.0, tokens_of found.1.now)) }
+    ensures { MatchOption result (leading_byte_token (tokens_of text.entry.now) ≡ None) (λ found. leading_byte_token (tokens_of text.entry.now) ≡ Some (found.0, tokens_of found.1.now)) }
 {
     match next_token(text)? {
         (Token::Sign(byte), rest) => Some((byte, rest)),
@@ -111,7 +111,7 @@ pub(crate) fn next_sign<'a>(text: &'a [u8]) -> Option<(u8, &'a [u8])>
 
 /// What follows this byte, where it comes first.
 pub(crate) fn behind_sign<'a>(text: &'a [u8], sign: u8) -> Option<&'a [u8]>
-    ensures { MatchOption result (after_sign sign (tokens_of text.entry.now) ≡ None) (λ rest. after_sign sign (tokens_of text.entry.now) ≡ Some (tokens_of rest.now)) }
+    ensures { MatchOption result (after_byte_token sign (tokens_of text.entry.now) ≡ None) (λ rest. after_byte_token sign (tokens_of text.entry.now) ≡ Some (tokens_of rest.now)) }
 {
     let (byte, rest) = next_sign(text)?;
     if byte == sign { Some(rest) } else { None }

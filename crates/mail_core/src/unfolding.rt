@@ -1,6 +1,6 @@
 //! Unfolding of header fields (RFC 5322 section 2.2.3).
 ghost use Rattle.std.specs.Prelude.{◌≡◌, ◌<◌, length, drop, IfOk};
-ghost use Rattle.mail_core.specs.Fields.{folds, is_fold, unfolded};
+ghost use Rattle.mail_core.specs.Fields.{is_lf_before_wsp, is_folding_line_end, unfolded};
 
 use crate::field_blocks::is_blank_byte;
 use civil_time::Memory;
@@ -8,7 +8,7 @@ use std::alloc::Global;
 
 /// Whether an LF stands at this place, directly before space or tab.
 fn folds_at(text: &[u8], at: usize) -> bool
-    ensures { result ≡ folds (drop at text.now) }
+    ensures { result ≡ is_lf_before_wsp (drop at text.now) }
 {
     if at >= text.len() {
         return false;
@@ -22,7 +22,7 @@ fn folds_at(text: &[u8], at: usize) -> bool
 /// Whether unfolding leaves out the byte at this place.
 fn is_fold_at(text: &[u8], at: usize) -> bool
     requires { at < length text.now }
-    ensures { result ≡ is_fold (drop at text.now) }
+    ensures { result ≡ is_folding_line_end (drop at text.now) }
 {
     folds_at(text, at) || (text[at] == b'\r' && folds_at(text, at + 1))
 }

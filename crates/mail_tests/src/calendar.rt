@@ -2,7 +2,7 @@
 use civil_time::calendar::day_number;
 use civil_time::clocks::seconds_of_day;
 use civil_time::digits::{digit_pair, read_four, read_one_or_two, read_two};
-use civil_time::names::{month_name, names_weekday, read_month, weekday_name};
+use civil_time::names::{is_weekday_name, month_name, read_month, weekday_name};
 use civil_time::{Day, Instant, Memory, Month};
 use std::test::Fail;
 
@@ -164,9 +164,12 @@ fn names_that_are_written_are_read_again(rt: HostRuntime) {
         assert_eq!(rt; read_month(&month_name(month)), Some(month));
     }
     for weekday in 0u8..7 {
-        assert!(rt; names_weekday(&weekday_name(weekday)));
+        assert!(rt; is_weekday_name(&weekday_name(weekday)));
     }
-    assert_eq!(rt; (read_month(b"Sept"), names_weekday(b"jan")), (None, false));
+    assert_eq!(rt;
+        (read_month(b"Sept"), is_weekday_name(b"jan")),
+        (None, false)
+    );
 }
 
 #[test]

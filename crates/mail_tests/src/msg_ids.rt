@@ -161,7 +161,7 @@ fn ids_are_equal_and_hash_alike_where_both_sides_are_the_same(rt: HostRuntime) -
 
 #[test]
 fn a_copy_of_an_id_is_equal_to_it(rt: HostRuntime) -> Result<(), Fail> {
-    let copy = id(rt.alloc(), b"A", b"b")?.try_copy(rt.alloc())?;
+    let copy = id(rt.alloc(), b"A", b"b")?.try_clone(rt.alloc())?;
     assert_eq!(rt;
         (copy.left(), copy.right()),
         (b"A".as_slice(), b"b".as_slice())
@@ -172,7 +172,7 @@ fn a_copy_of_an_id_is_equal_to_it(rt: HostRuntime) -> Result<(), Fail> {
 #[test]
 fn octets_give_their_bytes_back(rt: HostRuntime) -> Result<(), Fail> {
     let octets = Octets::new(Vec::from_slice(rt.alloc(), b"xyz")?);
-    let copy = octets.try_copy(rt.alloc())?;
+    let copy = octets.try_clone(rt.alloc())?;
     assert!(rt; octets == copy);
     assert_eq!(rt; copy.as_slice(), b"xyz".as_slice());
     Ok(())

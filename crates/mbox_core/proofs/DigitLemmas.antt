@@ -5,23 +5,23 @@ use Rattle.std.proofs.lemmas.Bool.Decides.{nat_tests}
 use Rattle.civil_time.specs.Digits.{as_two_digits, as_four_digits}
 use Rattle.civil_time.specs.Names.{name_at, weekday_names, month_names}
 use Rattle.civil_time.proofs.DigitLemmas.{digit_is, two_read, four_read}
-use Rattle.mbox_items.specs.Separator.{day_of, clock_of, year_of}
+use Rattle.mbox_items.specs.Separator.{parsed_day_of_month, parsed_time_of_day, parsed_four_digit_year}
 use Rattle.mbox_items.specs.Written.{clock_text}
 use Rattle.mbox_items.proofs.RunLemmas.{is_plain, is_run}
 
 -- a day of one digit, and of two
-pub day_one : (n : ℕ) → n < 10 → day_of ((48 + n) ∷ []) ≡ Some n
-unfolding day_of
+pub day_one : (n : ℕ) → n < 10 → parsed_day_of_month ((48 + n) ∷ []) ≡ Some n
+unfolding parsed_day_of_month
 day_one n h =
     let same : 48 + n - 48 ≡ n = omega arith in
     rw (digit_is n (omega (arith, h))) (ap (λ x. Some x) same)
 
-pub day_two : (n : ℕ) → n < 100 → day_of (as_two_digits n) ≡ Some n
-unfolding day_of
+pub day_two : (n : ℕ) → n < 100 → parsed_day_of_month (as_two_digits n) ≡ Some n
+unfolding parsed_day_of_month
 day_two n h = two_read n h
 
-pub clock_read : (n : ℕ) → n < 86400 → clock_of (clock_text n) ≡ Some n
-unfolding clock_of
+pub clock_read : (n : ℕ) → n < 86400 → parsed_time_of_day (clock_text n) ≡ Some n
+unfolding parsed_time_of_day
 clock_read n h =
     let hour : n / 3600 < 24 = omega (arith, h) in
     let minute : n / 60 % 60 < 60 = omega arith in
@@ -37,8 +37,8 @@ clock_read n h =
       le-leb (n % 60) 60 (omega arith),
     ) (ap (λ x. Some (3600 * (n / 3600) + 60 * (n / 60 % 60) + x)) least ∙ ap (λ x. Some x) same)
 
-pub year_read : (n : ℕ) → n < 10000 → year_of (as_four_digits n) ≡ Some n
-unfolding year_of
+pub year_read : (n : ℕ) → n < 10000 → parsed_four_digit_year (as_four_digits n) ≡ Some n
+unfolding parsed_four_digit_year
 year_read n h = four_read n h
 
 -- ---- bytes of a token

@@ -4,11 +4,11 @@ use Rattle.std.proofs.Common.{◌++◌, length, drop, length-take, length-drop, 
 use Rattle.std.proofs.lemmas.Bool.Decides.{nat_tests}
 use Rattle.std.proofs.lemmas.Int.{ints}
 use Rattle.std.specs.Int.{int_rem_euclid}
-use Rattle.civil_time.specs.Calendar.{month_days, day_of_instant, weekday, is_instant, instant_at}
+use Rattle.civil_time.specs.Calendar.{month_days, day_of_instant, weekday, is_instant, checked_instant}
 use Rattle.mail_core.specs.Lines.{onto_first_line}
-use Rattle.mbox_items.specs.Separator.{Envelope, IsSeparator, IsSentBy, AreSenderTokens, spaced, tokens, day_of, instant_of}
-use Rattle.civil_time.specs.Dates.{Date, date_after, days_since_1900}
-use Rattle.mbox_items.specs.Written.{IsEnvelope, heading, time_text, date_text, as_day_digits, clock_text}
+use Rattle.mbox_items.specs.Separator.{Envelope, IsSeparator, AreTokensOfSender, AreSenderTokens, joined_by_spaces, tokens, parsed_day_of_month, instant_of_local_time}
+use Rattle.civil_time.specs.Dates.{Date, date_of_days_since_1900, days_since_1900}
+use Rattle.mbox_items.specs.Written.{IsEnvelope, separator_line_text, time_text, ctime_text, as_day_digits, clock_text}
 use Rattle.civil_time.specs.Digits.{as_two_digits, as_four_digits}
 use Rattle.civil_time.specs.Names.{name_at, weekday_names, month_names}
 use Rattle.civil_time.proofs.DateLemmas.{both, date_is, found_number, split_is}
@@ -55,10 +55,10 @@ day_then n r = cases (nat_lt n 10)
     cases true = after_space ((48 + n) ∷ 32 ∷ r) ∙ token_then ((48 + n) ∷ []) r (λ e. cc) (one_plain n)
     cases false = token_then (as_two_digits n) r (λ e. cc) (two_plain n)
 
-day_read : (n : ℕ) → n < 100 → day_of (day_token n) ≡ Some n
+day_read : (n : ℕ) → n < 100 → parsed_day_of_month (day_token n) ≡ Some n
 day_read n h = cases (nat_lt n 10) refl
   where
-    cases : (t : Bool) → nat_lt n 10 ≡ t → day_of (if t then (48 + n) ∷ [] else as_two_digits n) ≡ Some n
+    cases : (t : Bool) → nat_lt n 10 ≡ t → parsed_day_of_month (if t then (48 + n) ∷ [] else as_two_digits n) ≡ Some n
     cases true e = day_one n (let g : n < 10 = grind (arith, nat_tests) in g)
     cases false e = day_two n h
 
@@ -89,7 +89,7 @@ month_some (suc (suc (suc (suc (suc (suc (suc (suc (suc (suc (suc (suc n))))))))
 
 -- the tokens of a time
 date_tokens : (w : ℕ) (date : Date) (s : ℕ) → w < 7 → date.month - 1 < 12
-    → tokens (date_text w date s) ≡ name_at w weekday_names ∷ name_at (date.month - 1) month_names ∷ day_token date.day ∷ clock_text s ∷ as_four_digits date.year ∷ []
+    → tokens (ctime_text w date s) ≡ name_at w weekday_names ∷ name_at (date.month - 1) month_names ∷ day_token date.day ∷ clock_text s ∷ as_four_digits date.year ∷ []
 date_tokens w date s hw hm =
     let year = as_four_digits date.year in
     let clock = clock_text s ++ 32 ∷ year in
@@ -111,7 +111,7 @@ rest_small (pos a) = omega arith
 rest_small (negsuc a) = omega arith
 
 -- the tokens of a sender, and what follows a space behind it
-who_then : (who : List (List ℕ)) (r : List ℕ) → AreSenderTokens who → tokens (spaced who ++ 32 ∷ r) ≡ who ++ tokens r
+who_then : (who : List (List ℕ)) (r : List ℕ) → AreSenderTokens who → tokens (joined_by_spaces who ++ 32 ∷ r) ≡ who ++ tokens r
 who_then [] r h = absurd h
 who_then (a ∷ []) r h = token_then a r (sender_some a h) (sender_run a h)
 who_then (a ∷ b ∷ []) r h = absurd h
@@ -124,42 +124,42 @@ who_then (a ∷ word ∷ b ∷ []) r (left, at, right) =
     ∙ ap (λ ts. word ∷ ts) (token_then b r (sender_some b right) (sender_run b right)))
 who_then (a ∷ b ∷ c ∷ d ∷ who) r h = absurd h
 
-heading_tokens : (sender : List ℕ) (who : List (List ℕ)) (z : ℤ) (date : Date) (s : ℕ) → IsSentBy who sender → date.month - 1 < 12
-    → tokens (sender ++ 32 ∷ date_text (weekday z) date s)
+heading_tokens : (sender : List ℕ) (who : List (List ℕ)) (z : ℤ) (date : Date) (s : ℕ) → AreTokensOfSender who sender → date.month - 1 < 12
+    → tokens (sender ++ 32 ∷ ctime_text (weekday z) date s)
     ≡ who ++ (name_at (weekday z) weekday_names ∷ name_at (date.month - 1) month_names ∷ day_token date.day ∷ clock_text s ∷ as_four_digits date.year ∷ [])
 heading_tokens sender who z date s h hm =
-    ap (λ x. tokens (x ++ 32 ∷ date_text (weekday z) date s)) h.1
-    ∙ who_then who (date_text (weekday z) date s) h.0
+    ap (λ x. tokens (x ++ 32 ∷ ctime_text (weekday z) date s)) h.1
+    ∙ who_then who (ctime_text (weekday z) date s) h.0
     ∙ ap (λ ts. who ++ ts) (date_tokens (weekday z) date s (rest_small (z +ℤ pos 3)) hm)
 
 less_none : (z : ℤ) → z -ℤ pos 0 ≡ z
 less_none z = omega (arith, ints)
 
-instant_is : (z day : ℤ) (s : ℕ) → is_instant z ≡ true → day *ℤ pos 86400 +ℤ pos s ≡ z → instant_of day s (pos 0) ≡ Some z
-unfolding instant_of
-instant_is z day s h e = ap instant_at (less_none (day *ℤ pos 86400 +ℤ pos s) ∙ e) ∙ rw h refl
+instant_is : (z day : ℤ) (s : ℕ) → is_instant z ≡ true → day *ℤ pos 86400 +ℤ pos s ≡ z → instant_of_local_time day s (pos 0) ≡ Some z
+unfolding instant_of_local_time
+instant_is z day s h e = ap checked_instant (less_none (day *ℤ pos 86400 +ℤ pos s) ∙ e) ∙ rw h refl
 
 -- the month of an arrival
-pub in_year_after : (e : Envelope) → IsEnvelope e → (date_after (days_since_1900 (day_of_instant e.arrival))).month - 1 < 12
+pub in_year_after : (e : Envelope) → IsEnvelope e → (date_of_days_since_1900 (days_since_1900 (day_of_instant e.arrival))).month - 1 < 12
 in_year_after e is =
     let split = split_is e.arrival is.arrival in
     let found = date_is (days_since_1900 (day_of_instant e.arrival)) split.high in
     omega (arith, found.in_year)
 
-pub heading_says : (e : Envelope) → IsEnvelope e → IsSeparator (heading e) e
+pub heading_says : (e : Envelope) → IsEnvelope e → IsSeparator (separator_line_text e) e
 unfolding time_text
 heading_says e is =
     let z = e.arrival in
     let split = split_is z is.arrival in
     let day = day_of_instant z in
     let n = days_since_1900 day in
-    let date = date_after n in
+    let date = date_of_days_since_1900 n in
     let found = date_is n split.high in
     let s = unsigned_abs (int_rem_euclid z (pos 86400)) in
     let in_year : date.month - 1 < 12 = omega (arith, found.in_year) in
     let month : date.month - 1 + 1 ≡ date.month = omega (arith, found.some_month) in
     record {
-      after = e.sender ++ 32 ∷ date_text (weekday day) date s;
+      after = e.sender ++ 32 ∷ ctime_text (weekday day) date s;
       begins = refl;
       weekday = name_at (weekday day) weekday_names;
       month_name = name_at (date.month - 1) month_names;
@@ -171,7 +171,7 @@ heading_says e is =
       are_tokens = heading_tokens e.sender is.sender.0 day date s is.sender.1 in_year;
       sender = is.sender.1;
       arrival = record {
-        any_weekday = weekday_read (weekday day) (rest_small (day +ℤ pos 3));
+        weekday_is_day_name = weekday_read (weekday day) (rest_small (day +ℤ pos 3));
         month = date.month;
         is_month = month_read (date.month - 1) in_year ∙ ap (λ m. Some m) month;
         day = date.day;
@@ -234,7 +234,7 @@ pub line_is : (weekday : ℕ) (date : Date) (seconds : ℕ) (w m d h n s y z : L
     → 32 ∷ get_or w 0 0 ∷ get_or w 1 0 ∷ get_or w 2 0 ∷ 32 ∷ get_or m 0 0 ∷ get_or m 1 0 ∷ get_or m 2 0 ∷ 32 ∷ get_or d 0 0 ∷ get_or d 1 0
     ∷ 32 ∷ get_or h 0 0 ∷ get_or h 1 0 ∷ 58 ∷ get_or n 0 0 ∷ get_or n 1 0 ∷ 58 ∷ get_or s 0 0 ∷ get_or s 1 0
     ∷ 32 ∷ get_or y 0 0 ∷ get_or y 1 0 ∷ get_or z 0 0 ∷ get_or z 1 0 ∷ 10 ∷ []
-    ≡ (32 ∷ date_text weekday date seconds) ++ 10 ∷ []
+    ≡ (32 ∷ ctime_text weekday date seconds) ++ 10 ∷ []
 line_is weekday date seconds w m d h n s y z hw hm ew em ed eh en es ey ez = sym (by_bytes
     (get_or w 0 0) (get_or w 1 0) (get_or w 2 0) (get_or m 0 0) (get_or m 1 0) (get_or m 2 0) (get_or d 0 0) (get_or d 1 0)
     (get_or h 0 0) (get_or h 1 0) (get_or n 0 0) (get_or n 1 0) (get_or s 0 0) (get_or s 1 0) (get_or y 0 0) (get_or y 1 0) (get_or z 0 0) (get_or z 1 0)
@@ -245,14 +245,14 @@ line_is weekday date seconds w m d h n s y z hw hm ew em ed eh en es ey ez = sym
     (two_of d _ ed (day_length date.day)) (two_of h _ eh refl) (two_of n _ en refl) (two_of s _ es refl) (two_of y _ ey refl) (two_of z _ ez refl))
 
 -- the time of an instant, from its day, its date and the seconds in the day
-pub time_is : (z day : ℤ) (date : Date) (s : ℕ) → day ≡ day_of_instant z → date_after (days_since_1900 day) ≡ date
-    → unsigned_abs (int_rem_euclid z (pos 86400)) ≡ s → time_text z ≡ date_text (weekday day) date s
+pub time_is : (z day : ℤ) (date : Date) (s : ℕ) → day ≡ day_of_instant z → date_of_days_since_1900 (days_since_1900 day) ≡ date
+    → unsigned_abs (int_rem_euclid z (pos 86400)) ≡ s → time_text z ≡ ctime_text (weekday day) date s
 unfolding time_text
 time_is z day date s e f g = rw (← e, f, g) refl
 
 -- a line of the same parts
 pub same_line : (r : List ℕ) (z : ℤ) (w s y m d : ℕ) (w' s' y' m' d' : ℕ)
-    → r ≡ (32 ∷ date_text w (record { year = y; month = m; day = d }) s) ++ 10 ∷ []
-    → time_text z ≡ date_text w' (record { year = y'; month = m'; day = d' }) s' → w ≡ w' → s ≡ s' → y ≡ y' → m ≡ m' → d ≡ d'
+    → r ≡ (32 ∷ ctime_text w (record { year = y; month = m; day = d }) s) ++ 10 ∷ []
+    → time_text z ≡ ctime_text w' (record { year = y'; month = m'; day = d' }) s' → w ≡ w' → s ≡ s' → y ≡ y' → m ≡ m' → d ≡ d'
     → r ≡ (32 ∷ time_text z) ++ 10 ∷ []
 same_line r z w s y m d w' s' y' m' d' h t ew es ey em ed = h ∙ rw (t, ew, es, ey, em, ed) refl

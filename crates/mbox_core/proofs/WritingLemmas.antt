@@ -1,7 +1,7 @@
 -- Pieces of what is written.
 use Rattle.std.proofs.Common.{◌≡◌, ℕ, zero, suc, ◌+◌, ◌-◌, ◌^◌, ◌<◌, ◌≤◌, min, List, [], ◌∷◌, ◌++◌, length, take, drop, refl, arith, ap, ◌∙◌, sym, codes, append_assoc, length-append, length-take}
 use Rattle.std.proofs.lemmas.List.{take_at}
-use Rattle.mbox_items.specs.Written.{IsCutShort}
+use Rattle.mbox_items.specs.Written.{AppendsPrefixOfText}
 
 take_front : (x r : List ℕ) (k : ℕ) → k ≡ length x → take k (x ++ r) ≡ x
 take_front x r k e = take_at x r k (sym e)
@@ -30,7 +30,7 @@ take_past [] r k = ap (λ n. take n r) (let z : 0 + k ≡ k = omega arith in z)
 take_past (a ∷ x) r k = ap (λ n. take n (a ∷ (x ++ r))) (let z : suc (length x) + k ≡ suc (length x + k) = omega arith in z) ∙ ap (λ l. a ∷ l) (take_past x r k)
 
 -- cut short in the first of two pieces
-pub first_short : (before after a b : List ℕ) (n : ℕ) → IsCutShort before after a n → IsCutShort before after (a ++ b) n
+pub first_short : (before after a b : List ℕ) (n : ℕ) → AppendsPrefixOfText before after a n → AppendsPrefixOfText before after (a ++ b) n
 first_short before after a b n h = (
   omega (arith, h.0, length-append a b),
   h.1 ∙ ap (λ x. before ++ x) (sym (take_less a b n h.0)),
@@ -42,14 +42,14 @@ first_short before after a b n h = (
     take_less (x ∷ a) b (suc n) h = ap (λ l. x ∷ l) (take_less a b n (let g : suc n ≤ suc (length a) = h in omega (arith, g)))
 
 -- and in the second
-pub second_short : (before mid after a b : List ℕ) (n k : ℕ) → mid ≡ before ++ a → IsCutShort mid after b n → k ≡ length a + n → IsCutShort before after (a ++ b) k
+pub second_short : (before mid after a b : List ℕ) (n k : ℕ) → mid ≡ before ++ a → AppendsPrefixOfText mid after b n → k ≡ length a + n → AppendsPrefixOfText before after (a ++ b) k
 second_short before mid after a b n k m h e = (
   omega (arith, h.0, e, length-append a b),
   h.1 ∙ ap (λ x. x ++ take n b) m ∙ append_assoc before a (take n b) ∙ ap (λ x. before ++ x) (sym (take_past a b n) ∙ ap (λ j. take j (a ++ b)) (sym e)),
 )
 
 -- a count that fits is exact
-pub exact_count : (before mid after a b : List ℕ) (n len k : ℕ) → mid ≡ before ++ a → IsCutShort mid after b n → len ≡ min (length a) (2 ^ 64 - 1)
+pub exact_count : (before mid after a b : List ℕ) (n len k : ℕ) → mid ≡ before ++ a → AppendsPrefixOfText mid after b n → len ≡ min (length a) (2 ^ 64 - 1)
     → k ≡ min (len + n) (2 ^ 64 - 1) → length after < 2 ^ 64 → k ≡ length a + n
 exact_count before mid after a b n len k m h e s low =
     omega (arith, e, s, low, h.0, ap length m, length-append before a, ap length h.1, length-append mid (take n b), length-take n b)

@@ -9,10 +9,10 @@ use Rattle.civil_time.specs.Calendar.{weekday, day_of_instant, is_instant}
 use Rattle.std.proofs.lemmas.Bool.{eqb-true}
 use Rattle.std.proofs.lemmas.Bool.Decides.{nat_tests}
 use Rattle.mail_core.specs.Lines.{lines, content, ends_in}
-use Rattle.mbox_items.specs.Separator.{Envelope, IsSeparator, IsSenderText, AreSenderTokens, spaced, instant_of}
-use Rattle.mbox_items.specs.Division.{Item, IsBlank, NoneSeparates, AreBlocks, Divides, is_whole, whole}
-use Rattle.civil_time.specs.Dates.{Date, date_after, days_since_1900}
-use Rattle.mbox_items.specs.Written.{IsEnvelope, IsItem, heading, ended, written, whole_item, time_text, date_text, as_day_digits, clock_text}
+use Rattle.mbox_items.specs.Separator.{Envelope, IsSeparator, IsSenderText, AreSenderTokens, joined_by_spaces, instant_of_local_time}
+use Rattle.mbox_items.specs.Division.{Item, IsBlankLine, NoneSeparates, AreBlocks, DividesIntoItems, is_empty_or_ends_in_lf, whole}
+use Rattle.civil_time.specs.Dates.{Date, date_of_days_since_1900, days_since_1900}
+use Rattle.mbox_items.specs.Written.{IsEnvelope, IsItem, separator_line_text, with_lf, written, whole_item, time_text, ctime_text, as_day_digits, clock_text}
 use Rattle.civil_time.specs.Digits.{as_two_digits, as_four_digits}
 use Rattle.civil_time.specs.Names.{name_at, weekday_names, month_names}
 use Rattle.mbox_items.proofs.LineLemmas.{lines-nil, lines-append, IsEnded, lf_first, more_ended, lf_ended}
@@ -46,7 +46,7 @@ ended_day n x e = cases (nat_lt n 10)
     cases true = ended_space ((48 + n) ∷ x) (ended_run ((48 + n) ∷ []) (one_plain n) x e)
     cases false = ended_run (as_two_digits n) (two_plain n) x e
 
-date_ended : (w : ℕ) (date : Date) (s : ℕ) → w < 7 → date.month - 1 < 12 → IsEnded (date_text w date s ++ 10 ∷ [])
+date_ended : (w : ℕ) (date : Date) (s : ℕ) → w < 7 → date.month - 1 < 12 → IsEnded (ctime_text w date s ++ 10 ∷ [])
 date_ended w date s hw hm =
     let year = as_four_digits date.year in
     let clock = clock_text s ++ 32 ∷ year in
@@ -70,7 +70,7 @@ other_digit n b h = grind (arith, nat_tests)
 year_ends : (n b : ℕ) → b < 48 → ends_in b (as_four_digits n) ≡ false
 year_ends n b h = other_digit (n % 100 % 10) b h
 
-date_ends : (w : ℕ) (date : Date) (s b : ℕ) → b < 48 → ends_in b (32 ∷ date_text w date s) ≡ false
+date_ends : (w : ℕ) (date : Date) (s b : ℕ) → b < 48 → ends_in b (32 ∷ ctime_text w date s) ≡ false
 date_ends w date s b h =
     let year = as_four_digits date.year in
     let clock = clock_text s ++ 32 ∷ year in
@@ -83,27 +83,27 @@ date_ends w date s b h =
     ∙ ends_cons 32 (48 + date.year / 100 / 10) ((48 + date.year / 100 % 10) ∷ (48 + date.year % 100 / 10) ∷ (48 + date.year % 100 % 10) ∷ []) b
     ∙ year_ends date.year b h
 
-heading_ends : (e : Envelope) (b : ℕ) → b < 48 → ends_in b (heading e) ≡ false
+heading_ends : (e : Envelope) (b : ℕ) → b < 48 → ends_in b (separator_line_text e) ≡ false
 unfolding time_text
 heading_ends e b h =
     let day = day_of_instant e.arrival in
     ends-append b (codes "From " ++ e.sender) 32 (time_text e.arrival)
-    ∙ date_ends (weekday day) (date_after (days_since_1900 day)) (unsigned_abs (int_rem_euclid e.arrival (pos 86400))) b h
+    ∙ date_ends (weekday day) (date_of_days_since_1900 (days_since_1900 day)) (unsigned_abs (int_rem_euclid e.arrival (pos 86400))) b h
 
 -- what it says is itself
 says_itself : (l : List ℕ) → ends_in 10 l ≡ false → ends_in 13 l ≡ false → content (l ++ 10 ∷ []) ≡ l
 unfolding content
 says_itself l h g = content-lf l h ∙ rw (h, g) refl
 
-heading_content : (e : Envelope) → content (heading e ++ 10 ∷ []) ≡ heading e
-heading_content e = says_itself (heading e) (heading_ends e 10 (omega arith)) (heading_ends e 13 (omega arith))
+heading_content : (e : Envelope) → content (separator_line_text e ++ 10 ∷ []) ≡ separator_line_text e
+heading_content e = says_itself (separator_line_text e) (heading_ends e 10 (omega arith)) (heading_ends e 13 (omega arith))
 
-sender_ended : (who : List (List ℕ)) (x : List ℕ) → AreSenderTokens who → IsEnded (x ++ 10 ∷ []) → IsEnded ((spaced who ++ x) ++ 10 ∷ [])
+sender_ended : (who : List (List ℕ)) (x : List ℕ) → AreSenderTokens who → IsEnded (x ++ 10 ∷ []) → IsEnded ((joined_by_spaces who ++ x) ++ 10 ∷ [])
 sender_ended [] x h e = absurd h
 sender_ended (a ∷ []) x h e = ended_run a (sender_run a h) x e
 sender_ended (a ∷ b ∷ []) x h e = absurd h
 sender_ended (a ∷ word ∷ b ∷ []) x (left, at, right) e =
-    let same : spaced (a ∷ word ∷ b ∷ []) ++ x ≡ a ++ 32 ∷ (word ++ 32 ∷ (b ++ x)) =
+    let same : joined_by_spaces (a ∷ word ∷ b ∷ []) ++ x ≡ a ++ 32 ∷ (word ++ 32 ∷ (b ++ x)) =
     append_assoc a (32 ∷ (word ++ 32 ∷ b)) x ∙ ap (λ y. a ++ 32 ∷ y) (append_assoc word (32 ∷ b) x) in
     let P : List ℕ → Type 0 = λ y. IsEnded (y ++ 10 ∷ []) in
     subst P (sym same) (ended_run a (sender_run a left) (32 ∷ (word ++ 32 ∷ (b ++ x)))
@@ -114,18 +114,18 @@ sender_ended (a ∷ b ∷ c ∷ d ∷ who) x h e = absurd h
 text_ended : (s x : List ℕ) → IsSenderText s → IsEnded (x ++ 10 ∷ []) → IsEnded ((s ++ x) ++ 10 ∷ [])
 text_ended s x (who, (h, same)) e = let P : List ℕ → Type 0 = λ y. IsEnded ((y ++ x) ++ 10 ∷ []) in subst P (sym same) (sender_ended who x h e)
 
-heading_ended : (e : Envelope) → IsEnvelope e → IsEnded (heading e ++ 10 ∷ [])
+heading_ended : (e : Envelope) → IsEnvelope e → IsEnded (separator_line_text e ++ 10 ∷ [])
 unfolding time_text
 heading_ended e is =
     let day = day_of_instant e.arrival in
     ended_run (codes "From") refl (32 ∷ (e.sender ++ 32 ∷ time_text e.arrival))
     (ended_space (e.sender ++ 32 ∷ time_text e.arrival) (text_ended e.sender (32 ∷ time_text e.arrival) is.sender
-    (ended_space (time_text e.arrival) (date_ended (weekday day) (date_after (days_since_1900 day)) (unsigned_abs (int_rem_euclid e.arrival (pos 86400)))
+    (ended_space (time_text e.arrival) (date_ended (weekday day) (date_of_days_since_1900 (days_since_1900 day)) (unsigned_abs (int_rem_euclid e.arrival (pos 86400)))
     (rest_small (day +ℤ pos 3)) (in_year_after e is)))))
 
 -- ---- its length
 
-date_length : (w : ℕ) (date : Date) (s : ℕ) → w < 7 → date.month - 1 < 12 → length (date_text w date s) ≡ 24
+date_length : (w : ℕ) (date : Date) (s : ℕ) → w < 7 → date.month - 1 < 12 → length (ctime_text w date s) ≡ 24
 date_length w date s hw hm =
     let year = as_four_digits date.year in
     let clock = clock_text s ++ 32 ∷ year in
@@ -147,9 +147,9 @@ time_length : (e : Envelope) → IsEnvelope e → length (time_text e.arrival) �
 unfolding time_text
 time_length e is =
     let day = day_of_instant e.arrival in
-    date_length (weekday day) (date_after (days_since_1900 day)) (unsigned_abs (int_rem_euclid e.arrival (pos 86400))) (rest_small (day +ℤ pos 3)) (in_year_after e is)
+    date_length (weekday day) (date_of_days_since_1900 (days_since_1900 day)) (unsigned_abs (int_rem_euclid e.arrival (pos 86400))) (rest_small (day +ℤ pos 3)) (in_year_after e is)
 
-pub heading_length : (e : Envelope) → IsEnvelope e → length (ended (heading e)) ≡ 31 + length e.sender
+pub heading_length : (e : Envelope) → IsEnvelope e → length (with_lf (separator_line_text e)) ≡ 31 + length e.sender
 heading_length e is =
     let t = time_text e.arrival in
     omega (arith, time_length e is, length-append (codes "From " ++ (e.sender ++ 32 ∷ t)) (10 ∷ []), length-append e.sender (32 ∷ t))
@@ -157,7 +157,7 @@ heading_length e is =
 -- ---- the division of what is written
 
 -- a text that is empty or ends in LF
-ends_split : (t : List ℕ) → is_whole t ≡ true → (t ≡ []) ⊎ ((u : List ℕ) × (t ≡ u ++ 10 ∷ []))
+ends_split : (t : List ℕ) → is_empty_or_ends_in_lf t ≡ true → (t ≡ []) ⊎ ((u : List ℕ) × (t ≡ u ++ 10 ∷ []))
 ends_split [] h = inl refl
 ends_split (b ∷ t) h =
     let n = length t in
@@ -171,14 +171,14 @@ after_whole : (t x : List ℕ) → (t ≡ []) ⊎ ((u : List ℕ) × (t ≡ u ++
 after_whole t x (inl e) = ap (λ u. lines (u ++ x)) e ∙ ap (λ ls. ls ++ lines x) (sym lines-nil) ∙ ap (λ u. lines u ++ lines x) (sym e)
 after_whole t x (inr (u, e)) = ap (λ v. lines (v ++ x)) e ∙ ap lines (append_assoc u (10 ∷ []) x) ∙ lines-append u x ∙ ap (λ v. lines v ++ lines x) (sym e)
 
-whole_ends : (t : List ℕ) (w : Bool) → is_whole t ≡ w → (whole t ≡ []) ⊎ ((u : List ℕ) × (whole t ≡ u ++ 10 ∷ []))
+whole_ends : (t : List ℕ) (w : Bool) → is_empty_or_ends_in_lf t ≡ w → (whole t ≡ []) ⊎ ((u : List ℕ) × (whole t ≡ u ++ 10 ∷ []))
 whole_ends t true k = let e : whole t ≡ t = rw k refl in subst (λ (x : List ℕ). (x ≡ []) ⊎ ((u : List ℕ) × (x ≡ u ++ 10 ∷ []))) (sym e) (ends_split t k)
 whole_ends t false k = inr (t, rw k refl)
 
 pub whole_then : (t x : List ℕ) → lines (whole t ++ 10 ∷ x) ≡ lines (whole t) ++ (10 ∷ []) ∷ lines x
-whole_then t x = after_whole (whole t) (10 ∷ x) (whole_ends t (is_whole t) refl) ∙ ap (λ ls. lines (whole t) ++ ls) (lf_first x)
+whole_then t x = after_whole (whole t) (10 ∷ x) (whole_ends t (is_empty_or_ends_in_lf t) refl) ∙ ap (λ ls. lines (whole t) ++ ls) (lf_first x)
 
-lf_blank : IsBlank (10 ∷ [])
+lf_blank : IsBlankLine (10 ∷ [])
 unfolding content
 lf_blank = refl
 
@@ -186,22 +186,22 @@ blocks_written : (items : List Item) → All IsItem items → AreBlocks (map who
 blocks_written [] h = lines-nil
 blocks_written (i ∷ is) h =
     let item : IsItem i = h 0 i (omega arith) in (
-      heading i.envelope ++ 10 ∷ [],
+      separator_line_text i.envelope ++ 10 ∷ [],
       subst (λ (x : List ℕ). IsSeparator x i.envelope) (sym (heading_content i.envelope)) (heading_says i.envelope item.envelope),
       item.none,
       inr (
         10 ∷ [],
         lines (written is),
         lf_blank,
-        ap lines (append_assoc (heading i.envelope ++ 10 ∷ []) (whole i.text ++ 10 ∷ []) (written is))
+        ap lines (append_assoc (separator_line_text i.envelope ++ 10 ∷ []) (whole i.text ++ 10 ∷ []) (written is))
             ∙ heading_ended i.envelope item.envelope ((whole i.text ++ 10 ∷ []) ++ written is)
-            ∙ ap (λ ls. (heading i.envelope ++ 10 ∷ []) ∷ ls) (ap lines (append_assoc (whole i.text) (10 ∷ []) (written is)) ∙ whole_then i.text (written is)),
+            ∙ ap (λ ls. (separator_line_text i.envelope ++ 10 ∷ []) ∷ ls) (ap lines (append_assoc (whole i.text) (10 ∷ []) (written is)) ∙ whole_then i.text (written is)),
         blocks_written is (All-tail IsItem i is h),
       ),
     )
 
 -- the division of what is written has the same envelopes, and the whole texts
-pub written_is_cut : (items : List Item) → All IsItem items → Divides (written items) (map whole_item items)
+pub written_is_cut : (items : List Item) → All IsItem items → DividesIntoItems (written items) (map whole_item items)
 written_is_cut items h = ([], lines (written items), refl, tt, blocks_written items h)
 
 -- ---- what is cut
@@ -211,13 +211,13 @@ in_range z arrival true e h = let same : z ≡ arrival = cc in ap is_instant (sy
 in_range z arrival false e h = absurd (cc)
 
 said_envelope : (said : List ℕ) (e : Envelope) → IsSeparator said e → IsEnvelope e
-unfolding instant_of
+unfolding instant_of_local_time
 said_envelope said e s =
     let z : ℤ = s.arrival.day_number *ℤ pos 86400 +ℤ pos s.arrival.seconds -ℤ s.arrival.east in
     record { sender = (s.who, s.sender); arrival = in_range z e.arrival (is_instant z) refl s.arrival.instant }
 
-block_item : (heading : List ℕ) (i : Item) → IsSeparator (content heading) i.envelope → NoneSeparates (lines i.text) → IsItem i
-block_item heading i s n = record { envelope = said_envelope (content heading) i.envelope s; none = whole_none i.text n }
+block_item : (separator_line_text : List ℕ) (i : Item) → IsSeparator (content separator_line_text) i.envelope → NoneSeparates (lines i.text) → IsItem i
+block_item separator_line_text i s n = record { envelope = said_envelope (content separator_line_text) i.envelope s; none = whole_none i.text n }
 
 blocks_items : (items : List Item) (ls : List (List ℕ)) → AreBlocks items ls → All IsItem items
 blocks_items [] ls h = All-nil IsItem
@@ -225,5 +225,5 @@ blocks_items (i ∷ is) ls (h, sep, none, inl last) = All-cons IsItem i is (bloc
 blocks_items (i ∷ is) ls (h, sep, none, inr more) = All-cons IsItem i is (block_item h i sep none) (blocks_items is more.1 more.4)
 
 -- the items of a division are such that they can be written
-pub divided_are_items : (bytes : List ℕ) (items : List Item) → Divides bytes items → All IsItem items
+pub divided_are_items : (bytes : List ℕ) (items : List Item) → DividesIntoItems bytes items → All IsItem items
 divided_are_items bytes items (blanks, rest, e, b, blocks) = blocks_items items rest blocks

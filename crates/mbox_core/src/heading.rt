@@ -1,6 +1,6 @@
 //! The time of a separator line, as it is written (RFC 4155, appendix A).
 ghost use Rattle.std.specs.Prelude.{◌≡◌, ◌<◌, ◌≤◌, ◌∷◌, ◌++◌, []};
-ghost use Rattle.mbox_items.specs.Written.{as_day_digits, date_text, time_text};
+ghost use Rattle.mbox_items.specs.Written.{as_day_digits, ctime_text, time_text};
 
 use civil_time::Instant;
 use civil_time::digits::digit_pair;
@@ -33,7 +33,7 @@ fn date_line(weekday: u8, date: Date, seconds: u32) -> [u8; 26]
     requires day { date.day < 100 }
     requires year { date.year < 10000 }
     requires seconds { seconds < 86400 }
-    ensures { result ≡ (32 ∷ date_text weekday (record {
+    ensures { result ≡ (32 ∷ ctime_text weekday (record {
       year = date.year;
       month = date.month;
       day = date.day;

@@ -1,7 +1,7 @@
 //! What holds of all mbox files: each contract is a law over the definitions of `specs/` alone, and no call does anything.
 ghost use Rattle.std.specs.Prelude.{◌≡◌, ◌⊎◌, ℕ, List, map};
 ghost use Rattle.std.specs.List.{All};
-ghost use Rattle.mbox_items.specs.Division.{Item, Divides, IsPreamble};
+ghost use Rattle.mbox_items.specs.Division.{Item, DividesIntoItems, IsPreamble};
 ghost use Rattle.mbox_items.specs.Written.{IsItem, written, whole_item};
 
 pub use mbox_items::laws::{
@@ -10,17 +10,17 @@ pub use mbox_items::laws::{
 
 /// No bytes have two divisions.
 pub fn one_division()
-    ensures { (bytes : List ℕ) (is js : List Item) → Divides bytes is → Divides bytes js → is ≡ js }
+    ensures { (bytes : List ℕ) (is js : List Item) → DividesIntoItems bytes is → DividesIntoItems bytes js → is ≡ js }
 {}
 
 /// Bytes have a division, or their first line that is not empty is no separator line.
 pub fn some_division()
-    ensures { (bytes : List ℕ) → ((is : List Item) × Divides bytes is) ⊎ ((offset : ℕ) × IsPreamble bytes offset) }
+    ensures { (bytes : List ℕ) → ((is : List Item) × DividesIntoItems bytes is) ⊎ ((offset : ℕ) × IsPreamble bytes offset) }
 {}
 
 /// Bytes whose first line that is not empty is no separator line have no division.
 pub fn never_both()
-    ensures { (bytes : List ℕ) (is : List Item) (offset : ℕ) → Divides bytes is → ¬ IsPreamble bytes offset }
+    ensures { (bytes : List ℕ) (is : List Item) (offset : ℕ) → DividesIntoItems bytes is → ¬ IsPreamble bytes offset }
 {}
 
 /// The first line that is not empty has one offset.
@@ -31,10 +31,10 @@ pub fn one_preamble()
 /// Each message of a division is one that can be written: its sender is a written form, its arrival lies in the years
 /// 1900 to 9998, and its whole text holds no separator line that follows an empty line.
 pub fn divided_are_items()
-    ensures { (bytes : List ℕ) (items : List Item) → Divides bytes items → All IsItem items }
+    ensures { (bytes : List ℕ) (items : List Item) → DividesIntoItems bytes items → All IsItem items }
 {}
 
 /// What is written is cut again: its division has the same envelopes, and the whole texts as its texts.
 pub fn written_is_cut()
-    ensures { (items : List Item) → All IsItem items → Divides (written items) (map whole_item items) }
+    ensures { (items : List Item) → All IsItem items → DividesIntoItems (written items) (map whole_item items) }
 {}

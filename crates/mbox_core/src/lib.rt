@@ -9,7 +9,8 @@ pub use byte_device as device;
 pub use cutting::{Messages, cut};
 pub use faults::MboxFault;
 pub use mbox_items::{
-    Envelope, Item, OwnedItem, Sender, is_complete, last_line, separator, written_sender,
+    Envelope, Item, OwnedItem, Sender, ends_with_newline, last_line_start, separator,
+    written_sender,
 };
 pub use writing::{write_item, written_len};
 

@@ -1,7 +1,7 @@
 //! Writing messages (RFC 4155).
 ghost use Rattle.std.specs.Prelude.{◌≡◌, ◌≤◌, ◌<◌, ◌+◌, ◌-◌, ◌^◌, ◌++◌, ◌∷◌, [], length, min, take, drop, OnOk, IfErr, OnErr, codes};
 ghost use Rattle.mbox_items.specs.Division.{whole};
-ghost use Rattle.mbox_items.specs.Written.{IsCutShort, heading, at_line, written_item, ended};
+ghost use Rattle.mbox_items.specs.Written.{AppendsPrefixOfText, separator_line_text, two_token_separator_line, written_item, with_lf};
 
 use crate::heading::time_line;
 use byte_device::{Sink, WriteFault, write_bytes, write_two};
@@ -32,7 +32,7 @@ fn short_line(sender: &[u8], end: [u8; 26]) -> [u8; 256]
 
 /// What follows a text: an LF, and one before it where the text does not end in one.
 fn tail_of(item: &Item) -> &'static [u8]
-    ensures value { item.now.text ++ result.now ≡ ended (whole item.now.text) }
+    ensures value { item.now.text ++ result.now ≡ with_lf (whole item.now.text) }
     ensures short { length result.now ≤ 2 }
 {
     if item.complete { b"\n" } else { b"\n\n" }
@@ -41,7 +41,7 @@ fn tail_of(item: &Item) -> &'static [u8]
 /// Writes a separator line, piece by piece.
 fn write_long<W: Sink>(out: &mut W, sender: &[u8], end: [u8; 26]) -> Result<(), WriteFault>
     ensures ok { OnOk result (W.told out.new ≡ W.told out.old ++ (codes "From " ++ (sender.now ++ end))) }
-    ensures fault { IfErr result (λ e. IsCutShort (W.told out.old) (W.told out.new) (codes "From " ++ (sender.now ++ end)) e.written) }
+    ensures fault { IfErr result (λ e. AppendsPrefixOfText (W.told out.old) (W.told out.new) (codes "From " ++ (sender.now ++ end)) e.written) }
     ensures quiet { OnOk result (W.failures out.new ≡ W.failures out.old) }
     ensures cause { OnErr result (W.failures out.old < W.failures out.new) }
 {
@@ -57,7 +57,7 @@ fn write_long<W: Sink>(out: &mut W, sender: &[u8], end: [u8; 26]) -> Result<(), 
 /// Writes a separator line. One with a short sender, as nearly all are, goes out by one write.
 fn write_line<W: Sink>(out: &mut W, sender: &[u8], end: [u8; 26]) -> Result<(), WriteFault>
     ensures ok { OnOk result (W.told out.new ≡ W.told out.old ++ (codes "From " ++ (sender.now ++ end))) }
-    ensures fault { IfErr result (λ e. IsCutShort (W.told out.old) (W.told out.new) (codes "From " ++ (sender.now ++ end)) e.written) }
+    ensures fault { IfErr result (λ e. AppendsPrefixOfText (W.told out.old) (W.told out.new) (codes "From " ++ (sender.now ++ end)) e.written) }
     ensures quiet { OnOk result (W.failures out.new ≡ W.failures out.old) }
     ensures cause { OnErr result (W.failures out.old < W.failures out.new) }
 {
@@ -75,9 +75,9 @@ fn write_at_line<W: Sink>(
     right: &[u8],
     end: [u8; 26],
 ) -> Result<(), WriteFault>
-    ensures ok { OnOk result (W.told out.new ≡ W.told out.old ++ at_line left.now right.now end) }
+    ensures ok { OnOk result (W.told out.new ≡ W.told out.old ++ two_token_separator_line left.now right.now end) }
     ensures fault { IfErr result (λ e. length (W.told out.new) < 2 ^ 64
-        → IsCutShort (W.told out.old) (W.told out.new) (at_line left.now right.now end) e.written) }
+        → AppendsPrefixOfText (W.told out.old) (W.told out.new) (two_token_separator_line left.now right.now end) e.written) }
     ensures quiet { OnOk result (W.failures out.new ≡ W.failures out.old) }
     ensures cause { OnErr result (W.failures out.old < W.failures out.new) }
 {
@@ -99,9 +99,9 @@ fn write_at_line<W: Sink>(
 
 /// Writes the separator line of an envelope.
 fn write_heading<W: Sink>(out: &mut W, envelope: &Envelope) -> Result<(), WriteFault>
-    ensures ok { OnOk result (W.told out.new ≡ W.told out.old ++ ended (heading envelope.now)) }
+    ensures ok { OnOk result (W.told out.new ≡ W.told out.old ++ with_lf (separator_line_text envelope.now)) }
     ensures fault { IfErr result (λ e. length (W.told out.new) < 2 ^ 64
-        → IsCutShort (W.told out.old) (W.told out.new) (ended (heading envelope.now)) e.written) }
+        → AppendsPrefixOfText (W.told out.old) (W.told out.new) (with_lf (separator_line_text envelope.now)) e.written) }
     ensures quiet { OnOk result (W.failures out.new ≡ W.failures out.old) }
     ensures cause { OnErr result (W.failures out.old < W.failures out.new) }
 {
@@ -128,7 +128,7 @@ fn at_line_len(left: &[u8], right: &[u8]) -> u64
 
 /// The length of the separator line of an envelope, with its LF: 2^64 - 1 where it is more.
 fn heading_len(envelope: &Envelope) -> u64
-    ensures { result ≡ min (length (ended (heading envelope.now))) (2 ^ 64 - 1) }
+    ensures { result ≡ min (length (with_lf (separator_line_text envelope.now))) (2 ^ 64 - 1) }
 {
     match envelope.sender {
         Sender::One(token) => line_len(token),
@@ -149,7 +149,7 @@ pub fn written_len(item: &Item) -> u64
 pub fn write_item<W: Sink>(out: &mut W, item: &Item) -> Result<(), WriteFault>
     ensures ok { OnOk result (W.told out.new ≡ W.told out.old ++ written_item item.now) }
     ensures fault { IfErr result (λ e. length (W.told out.new) < 2 ^ 64
-        → IsCutShort (W.told out.old) (W.told out.new) (written_item item.now) e.written) }
+        → AppendsPrefixOfText (W.told out.old) (W.told out.new) (written_item item.now) e.written) }
     ensures quiet { OnOk result (W.failures out.new ≡ W.failures out.old) }
     ensures cause { OnErr result (W.failures out.old < W.failures out.new) }
 {

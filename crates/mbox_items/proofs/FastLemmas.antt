@@ -6,9 +6,9 @@ use Rattle.std.proofs.lemmas.List.{take-append-drop, get_or_append_left, take-ta
 use Rattle.std.proofs.lemmas.Bool.{eqb-true, cases_lt}
 use Rattle.std.specs.List.{concat, AllByRecursion}
 use Rattle.memchr.specs.Find.{OccursAt, Nowhere}
-use Rattle.mail_core.specs.Lines.{lines, onto_first_line, content, ends_in, without_end}
+use Rattle.mail_core.specs.Lines.{lines, onto_first_line, content, ends_in, without_final_byte}
 use Rattle.mbox_items.specs.Separator.{Envelope, separator_of}
-use Rattle.mbox_items.specs.Division.{is_blank, Split, body, split_lines, text_in, items_in}
+use Rattle.mbox_items.specs.Division.{is_blank_line, FrontAndItems, item_text_of_lines, front_and_items_of_lines, text_before_separator, items_from_separator}
 use Rattle.mbox_items.proofs.LineLemmas.{concat-lines, lines-append, lines-nil, lines-cut, lines-whole}
 use Rattle.mbox_items.proofs.SeparatorLemmas.{separator_is}
 use Rattle.mbox_items.proofs.SplitLemmas.{Quiet, last_blank, last_append, heads, body-blank, body-some, concat_snoc, with_lines, nothing, split-quiet, split-nil}
@@ -22,7 +22,7 @@ abbrev pub IsPlain : List ℕ → Type 0
 IsPlain l = separator_of (content l) ≡ None
 
 -- what a line says stands at its front
-without_front : (b : ℕ) (t : List ℕ) → (r : List ℕ) × (t ≡ without_end b t ++ r)
+without_front : (b : ℕ) (t : List ℕ) → (r : List ℕ) × (t ≡ without_final_byte b t ++ r)
 without_front b t = cases (ends_in b t)
   where
     cases : (c : Bool) → (r : List ℕ) × (t ≡ (if c then take (length t - 1) t else t) ++ r)
@@ -33,8 +33,8 @@ content_front : (l : List ℕ) → (r : List ℕ) × (l ≡ content l ++ r)
 unfolding content
 content_front l =
     let a = without_front 10 l in
-    let b = without_front 13 (without_end 10 l) in
-    (b.0 ++ a.0, a.1 ∙ ap (λ x. x ++ a.0) b.1 ∙ append_assoc (without_end 13 (without_end 10 l)) b.0 a.0)
+    let b = without_front 13 (without_final_byte 10 l) in
+    (b.0 ++ a.0, a.1 ∙ ap (λ x. x ++ a.0) b.1 ∙ append_assoc (without_final_byte 13 (without_final_byte 10 l)) b.0 a.0)
 
 -- a line that says an envelope begins so
 begins : (l : List ℕ) (e : Envelope) → separator_of (content l) ≡ Some e → (r : List ℕ) × (l ≡ codes "From " ++ r)
@@ -98,7 +98,7 @@ heads_plain false l h = refl
 
 quiet_plain : (p : Bool) (ls : List (List ℕ)) → AllByRecursion IsPlain ls → Quiet p ls
 quiet_plain p [] h = tt
-quiet_plain p (l ∷ ls) h = (heads_plain p l h.0, quiet_plain (is_blank l) ls h.1)
+quiet_plain p (l ∷ ls) h = (heads_plain p l h.0, quiet_plain (is_blank_line l) ls h.1)
 
 -- the first line begins no item
 abbrev pub FirstQuiet : Bool → List (List ℕ) → Type 0
@@ -107,7 +107,7 @@ FirstQuiet p (l ∷ ls) = heads p l ≡ None
 
 pub quiet_chunk : (p : Bool) (ls : List (List ℕ)) → FirstQuiet p ls → AllByRecursion IsPlain (later ls) → Quiet p ls
 quiet_chunk p [] h g = tt
-quiet_chunk p (l ∷ ls) h g = (h, quiet_plain (is_blank l) ls g)
+quiet_chunk p (l ∷ ls) h g = (h, quiet_plain (is_blank_line l) ls g)
 
 -- ---- up to the next mark
 
@@ -187,19 +187,19 @@ module _ (bytes : List ℕ) (at : ℕ) (calm : Calm bytes at) (none : (k : ℕ) 
   rest_quiet : Quiet (last_blank false (lines (take at bytes))) (lines (drop at bytes))
   rest_quiet = quiet_chunk (last_blank false (lines (take at bytes))) (lines (drop at bytes)) calm.first (later_plain (drop at bytes) none)
 
-  pub split_all : split_lines false (lines bytes) ≡ with_lines (lines bytes) nothing
+  pub split_all : front_and_items_of_lines false (lines bytes) ≡ with_lines (lines bytes) nothing
   split_all =
       let b = last_blank false (lines (take at bytes)) in
       calm.front.split
-      ∙ ap (λ ls. with_lines (lines (take at bytes)) (split_lines b ls)) (sym (append-nil (lines (drop at bytes))))
+      ∙ ap (λ ls. with_lines (lines (take at bytes)) (front_and_items_of_lines b ls)) (sym (append-nil (lines (drop at bytes))))
       ∙ ap (with_lines (lines (take at bytes))) (split-quiet b (lines (drop at bytes)) [] rest_quiet ∙ ap (with_lines (lines (drop at bytes))) (split-nil (last_blank b (lines (drop at bytes)))))
       ∙ ap (λ (x : List (List ℕ)). record { front = x; items = [] }) (ap (λ x. lines (take at bytes) ++ x) (append-nil (lines (drop at bytes))) ∙ sym calm.front.cut ∙ sym (append-nil (lines bytes)))
 
-  pub text_all : body (lines bytes) ≡ text_in bytes
-  text_all = sym (ap (λ (x : Split). body x.front) split_all ∙ ap body (append-nil (lines bytes)))
+  pub text_all : item_text_of_lines (lines bytes) ≡ text_before_separator bytes
+  text_all = sym (ap (λ (x : FrontAndItems). item_text_of_lines x.front) split_all ∙ ap item_text_of_lines (append-nil (lines bytes)))
 
-  pub items_all : items_in bytes ≡ []
-  items_all = ap (λ (x : Split). x.items) split_all
+  pub items_all : items_from_separator bytes ≡ []
+  items_all = ap (λ (x : FrontAndItems). x.items) split_all
 
 -- ---- the last line
 
@@ -238,17 +238,17 @@ last_lines xs p h none at = cases at
         ap lines (sym (take-append-drop p xs) ∙ ap (λ x. x ++ drop p xs) t ∙ append_assoc (take q xs) (10 ∷ []) (drop p xs))
         ∙ lines-append (take q xs) (drop p xs) ∙ ap (λ x. lines x ++ lines (drop p xs)) (sym t) ∙ ap (λ ls. lines (take p xs) ++ ls) tail
 
-pub last-body : (xs line : List ℕ) (p : ℕ) → lines xs ≡ lines (take p xs) ++ line ∷ [] → is_blank line ≡ true → body (lines xs) ≡ take p xs
-last-body xs line p e k = ap body e ∙ body-blank (lines (take p xs)) line k ∙ concat-lines (take p xs)
+pub last-body : (xs line : List ℕ) (p : ℕ) → lines xs ≡ lines (take p xs) ++ line ∷ [] → is_blank_line line ≡ true → item_text_of_lines (lines xs) ≡ take p xs
+last-body xs line p e k = ap item_text_of_lines e ∙ body-blank (lines (take p xs)) line k ∙ concat-lines (take p xs)
 
-pub whole-body : (xs line : List ℕ) (p : ℕ) → lines xs ≡ lines (take p xs) ++ line ∷ [] → is_blank line ≡ false → body (lines xs) ≡ xs
-whole-body xs line p e k = ap body e ∙ body-some (lines (take p xs)) line k ∙ sym (concat_snoc (lines (take p xs)) line) ∙ ap concat (sym e) ∙ concat-lines xs
+pub whole-body : (xs line : List ℕ) (p : ℕ) → lines xs ≡ lines (take p xs) ++ line ∷ [] → is_blank_line line ≡ false → item_text_of_lines (lines xs) ≡ xs
+whole-body xs line p e k = ap item_text_of_lines e ∙ body-some (lines (take p xs)) line k ∙ sym (concat_snoc (lines (take p xs)) line) ∙ ap concat (sym e) ∙ concat-lines xs
 
-pub last-blank : (xs line : List ℕ) (p : ℕ) → lines xs ≡ lines (take p xs) ++ line ∷ [] → last_blank false (lines xs) ≡ is_blank line
+pub last-blank : (xs line : List ℕ) (p : ℕ) → lines xs ≡ lines (take p xs) ++ line ∷ [] → last_blank false (lines xs) ≡ is_blank_line line
 last-blank xs line p e = ap (last_blank false) e ∙ last_append false (lines (take p xs)) (line ∷ [])
 
 pub found_state : (bytes line : List ℕ) (at last : ℕ) → Front bytes at (last_blank false (lines (take at bytes)))
-    → lines (take at bytes) ≡ lines (take last (take at bytes)) ++ line ∷ [] → is_blank line ≡ true → last ≤ at → State bytes at last true
+    → lines (take at bytes) ≡ lines (take last (take at bytes)) ++ line ∷ [] → is_blank_line line ≡ true → last ≤ at → State bytes at last true
 found_state bytes line at last f e k low = record {
   front = subst (λ (b : Bool). Front bytes at b) (last-blank (take at bytes) line last e ∙ k) f;
   stop = low;
@@ -257,11 +257,11 @@ found_state bytes line at last f e k low = record {
 
 -- the line after the mark begins no item
 abbrev pub Refused : List ℕ → List (List ℕ) → Type 0
-Refused line ls = (is_blank line ≡ false) ⊎ ((l : List ℕ) × (ms : List (List ℕ)) × (ls ≡ l ∷ ms) × IsPlain l)
+Refused line ls = (is_blank_line line ≡ false) ⊎ ((l : List ℕ) × (ms : List (List ℕ)) × (ls ≡ l ∷ ms) × IsPlain l)
 
-refused_first : (line : List ℕ) (ls : List (List ℕ)) → Refused line ls → FirstQuiet (is_blank line) ls
+refused_first : (line : List ℕ) (ls : List (List ℕ)) → Refused line ls → FirstQuiet (is_blank_line line) ls
 refused_first line ls (inl h) = subst (λ (b : Bool). FirstQuiet b ls) (sym h) (first_off ls)
-refused_first line ls (inr (l, ms, e, h)) = subst (λ (x : List (List ℕ)). FirstQuiet (is_blank line) x) (sym e) (heads_plain (is_blank line) l h)
+refused_first line ls (inr (l, ms, e, h)) = subst (λ (x : List (List ℕ)). FirstQuiet (is_blank_line line) x) (sym e) (heads_plain (is_blank_line line) l h)
 
 pub calm_next : (bytes line : List ℕ) (at last : ℕ) → Front bytes at (last_blank false (lines (take at bytes)))
     → lines (take at bytes) ≡ lines (take last (take at bytes)) ++ line ∷ [] → Refused line (lines (drop at bytes)) → Calm bytes at

@@ -4,9 +4,10 @@ use Rattle.std.proofs.Common.{if◌then◌else◌, Option, Some, None, append-ni
 use Rattle.std.proofs.lemmas.List.{get_or_at, take_at}
 use Rattle.std.proofs.lemmas.Bool.Decides.{nat_tests}
 use Rattle.std.specs.Option.{is_some}
-use Rattle.mail_core.specs.Lines.{lines, onto_first_line, content, ends_in, without_end}
+use Rattle.mail_core.specs.Lines.{lines, onto_first_line, content, ends_in, without_final_byte}
 use Rattle.mbox_items.specs.Separator.{Envelope, IsSeparator}
-use Rattle.mbox_items.specs.Division.{is_blank, Item, Split, IsBlank, IsSeparatorLine, NoneSeparates, AreBlocks, body, split_lines, is_whole, whole, text_in, items_in, items_after}
+use Rattle.mbox_items.specs.Division.{is_blank_line, Item, FrontAndItems, IsBlankLine, IsSeparatorLine, NoneSeparates, AreBlocks}
+use Rattle.mbox_items.specs.Division.{item_text_of_lines, front_and_items_of_lines, is_empty_or_ends_in_lf, whole, text_before_separator, items_from_separator, items_after_separator}
 use Rattle.mbox_items.proofs.LineLemmas.{lines_are, AreLines, are_front, lines-concat, lines-nil}
 use Rattle.mbox_items.proofs.SplitLemmas.{Quiet, none_separates, quiet_false, quiet_front, reads, split-quiet, split-nil, last_blank}
 use Rattle.mbox_items.proofs.SplitLemmas.{with_lines, last_line, body-blank, body-some, body-nil, concat_snoc}
@@ -15,30 +16,32 @@ pub never : (n : ℕ) → (suc n == 0) ≡ false
 never n = grind (arith, nat_tests)
 
 -- a text in which no item begins
-pub none_in : (t : List ℕ) → items_in t ≡ [] → NoneSeparates (lines t)
+pub none_in : (t : List ℕ) → items_from_separator t ≡ [] → NoneSeparates (lines t)
 none_in t h =
     let r = reads false (lines t) (lines_are t) in
     let z : r.rest ≡ [] = subst (λ (is : List Item). AreBlocks is r.rest) h r.blocks in
-    let e : lines t ≡ (split_lines false (lines t)).front = r.are ∙ ap (λ x. (split_lines false (lines t)).front ++ x) z ∙ append-nil (split_lines false (lines t)).front in
-    subst (λ (ls : List (List ℕ)). NoneSeparates ls) (sym e) (none_separates false (split_lines false (lines t)).front r.quiet)
+    let e : lines t ≡ (front_and_items_of_lines false (lines t)).front = r.are ∙ ap (λ x. (front_and_items_of_lines false (lines t)).front ++ x) z ∙ append-nil
+    (front_and_items_of_lines false (lines t)).front in
+    subst (λ (ls : List (List ℕ)). NoneSeparates ls) (sym e) (none_separates false (front_and_items_of_lines false (lines t)).front r.quiet)
 
-pub in_none : (t : List ℕ) → NoneSeparates (lines t) → items_in t ≡ []
+pub in_none : (t : List ℕ) → NoneSeparates (lines t) → items_from_separator t ≡ []
 in_none t h =
-    ap (λ (s : Split). s.items) (ap (split_lines false) (sym (append-nil (lines t))) ∙ split-quiet false (lines t) [] (quiet_false (lines t) h)
+    ap (λ (s : FrontAndItems). s.items) (ap (front_and_items_of_lines false) (sym (append-nil (lines t))) ∙ split-quiet false (lines t) [] (quiet_false (lines t) h)
     ∙ ap (with_lines (lines t)) (split-nil (last_blank false (lines t))))
 
 -- the text of the first message of some bytes
-quiet_body : (f : List (List ℕ)) → AreLines f → Quiet false f → NoneSeparates (lines (body f))
+quiet_body : (f : List (List ℕ)) → AreLines f → Quiet false f → NoneSeparates (lines (item_text_of_lines f))
 quiet_body f are q = cases (last_line f)
   where
-    cases : (f ≡ []) ⊎ ((ts : List (List ℕ)) × (b : List ℕ) × (f ≡ ts ++ b ∷ [])) → NoneSeparates (lines (body f))
-    cases (inl z) = let P : List (List ℕ) → Type 0 = λ x. NoneSeparates x in subst P (sym (ap (λ x. lines (body x)) z ∙ ap lines body-nil ∙ lines-nil)) tt
+    cases : (f ≡ []) ⊎ ((ts : List (List ℕ)) × (b : List ℕ) × (f ≡ ts ++ b ∷ [])) → NoneSeparates (lines (item_text_of_lines f))
+    cases (inl z) = let P : List (List ℕ) → Type 0 = λ x. NoneSeparates x in subst P (sym (ap (λ x. lines (item_text_of_lines x)) z ∙ ap lines body-nil ∙ lines-nil)) tt
     cases (inr (ts, b, e)) =
         let A : List (List ℕ) → Type 0 = λ x. AreLines x in
-        let P : List (List ℕ) → Type 0 = λ x. NoneSeparates (lines (body x)) in
-        subst P (sym e) (by_last ts b (subst A e are) (subst (Quiet false) e q) (is_blank b) refl)
+        let P : List (List ℕ) → Type 0 = λ x. NoneSeparates (lines (item_text_of_lines x)) in
+        subst P (sym e) (by_last ts b (subst A e are) (subst (Quiet false) e q) (is_blank_line b) refl)
       where
-        by_last : (ts : List (List ℕ)) (b : List ℕ) → AreLines (ts ++ b ∷ []) → Quiet false (ts ++ b ∷ []) → (k : Bool) → is_blank b ≡ k → NoneSeparates (lines (body (ts ++ b ∷ [])))
+        by_last : (ts : List (List ℕ)) (b : List ℕ) → AreLines (ts ++ b ∷ []) → Quiet false (ts ++ b ∷ []) → (k : Bool) → is_blank_line b ≡ k
+            → NoneSeparates (lines (item_text_of_lines (ts ++ b ∷ [])))
         by_last ts b are q true k =
             let N : List (List ℕ) → Type 0 = λ x. NoneSeparates x in
             subst N (sym (ap lines (body-blank ts b k) ∙ lines-concat ts (are_front ts (b ∷ []) are))) (none_separates false ts (quiet_front false ts (b ∷ []) q))
@@ -46,21 +49,21 @@ quiet_body f are q = cases (last_line f)
             let N : List (List ℕ) → Type 0 = λ x. NoneSeparates x in
             subst N (sym (ap lines (body-some ts b k ∙ sym (concat_snoc ts b)) ∙ lines-concat (ts ++ b ∷ []) are)) (none_separates false (ts ++ b ∷ []) q)
 
-pub none_in_text : (bytes : List ℕ) → NoneSeparates (lines (text_in bytes))
+pub none_in_text : (bytes : List ℕ) → NoneSeparates (lines (text_before_separator bytes))
 none_in_text bytes =
-    let s = split_lines false (lines bytes) in
+    let s = front_and_items_of_lines false (lines bytes) in
     let r = reads false (lines bytes) (lines_are bytes) in
     let A : List (List ℕ) → Type 0 = λ x. AreLines x in
     quiet_body s.front (are_front s.front r.rest (subst A r.are (lines_are bytes))) r.quiet
 
 -- what a search for the next item says of a whole text
-pub none_after : (o : Option Envelope) (rest t : List ℕ) → items_after o rest ≡ items_in t → is_some o ≡ false → NoneSeparates (lines t)
+pub none_after : (o : Option Envelope) (rest t : List ℕ) → items_after_separator o rest ≡ items_from_separator t → is_some o ≡ false → NoneSeparates (lines t)
 none_after None rest t h e = none_in t (sym h)
 none_after (Some v) rest t h e = absurd (cc)
 
-pub some_after : (o : Option Envelope) (rest t : List ℕ) → items_after o rest ≡ items_in t → is_some o ≡ true → ¬ NoneSeparates (lines t)
+pub some_after : (o : Option Envelope) (rest t : List ℕ) → items_after_separator o rest ≡ items_from_separator t → is_some o ≡ true → ¬ NoneSeparates (lines t)
 some_after None rest t h e n = absurd (cc)
-some_after (Some v) rest t h e n = let bad : items_after (Some v) rest ≡ [] = h ∙ in_none t n in absurd (cc)
+some_after (Some v) rest t h e n = let bad : items_after_separator (Some v) rest ≡ [] = h ∙ in_none t n in absurd (cc)
 
 -- ---- the whole text: an LF more at its end changes what no line says
 
@@ -134,14 +137,14 @@ unfolding content
 content-lf l h =
     let n : length (l ++ 10 ∷ []) - 1 ≡ length l = omega (arith, length-append l (10 ∷ [])) in
     let e : ends_in 10 (l ++ 10 ∷ []) ≡ true = rw (n, get_or_at l 10 [] 0 (length l) refl) refl in
-    let t : without_end 10 (l ++ 10 ∷ []) ≡ l = rw (e, n, take_at l (10 ∷ []) (length l) refl) refl in
-    let u : without_end 10 l ≡ l = rw h refl in
-    ap (without_end 13) (t ∙ sym u)
+    let t : without_final_byte 10 (l ++ 10 ∷ []) ≡ l = rw (e, n, take_at l (10 ∷ []) (length l) refl) refl in
+    let u : without_final_byte 10 l ≡ l = rw h refl in
+    ap (without_final_byte 13) (t ∙ sym u)
 
 same_says : (l m : List ℕ) → content m ≡ content l → ¬ IsSeparatorLine l → ¬ IsSeparatorLine m
 same_says l m e h s = h (s.0, subst (λ (x : List ℕ). IsSeparator x s.0) e s.1)
 
-says_same : (l m : List ℕ) → content m ≡ content l → IsBlank m → IsBlank l
+says_same : (l m : List ℕ) → content m ≡ content l → IsBlankLine m → IsBlankLine l
 says_same l m e h = sym e ∙ h
 
 on_last_none : (ls : List (List ℕ)) → LastOpen ls → NoneSeparates ls → NoneSeparates (on_last ls)
@@ -156,38 +159,38 @@ none_on_last (l ∷ []) o h = tt
 none_on_last (l ∷ m ∷ []) o h = (λ b. same_says (m ++ 10 ∷ []) m (sym (content-lf m o)) (h.0 b), tt)
 none_on_last (l ∷ m ∷ k ∷ ls) o h = (h.0, none_on_last (m ∷ k ∷ ls) o h.1)
 
-open_text : (t : List ℕ) → is_whole t ≡ false → LastOpen (lines t) × (lines (t ++ 10 ∷ []) ≡ on_last (lines t))
+open_text : (t : List ℕ) → is_empty_or_ends_in_lf t ≡ false → LastOpen (lines t) × (lines (t ++ 10 ∷ []) ≡ on_last (lines t))
 open_text [] h = absurd (cc)
 open_text (x ∷ t) h = let e : ends_in 10 (x ∷ t) ≡ false = rw (never (length t)) at h in (open_lines x t e, lines-lf x t e)
 
 -- the whole text holds no separator line that follows an empty line exactly where the text holds none
 pub whole_none : (t : List ℕ) → NoneSeparates (lines t) → NoneSeparates (lines (whole t))
-whole_none t h = cases (is_whole t) refl
+whole_none t h = cases (is_empty_or_ends_in_lf t) refl
   where
-    cases : (w : Bool) → is_whole t ≡ w → NoneSeparates (lines (if w then t else t ++ 10 ∷ []))
+    cases : (w : Bool) → is_empty_or_ends_in_lf t ≡ w → NoneSeparates (lines (if w then t else t ++ 10 ∷ []))
     cases true e = h
     cases false e = let o = open_text t e in subst (λ (ls : List (List ℕ)). NoneSeparates ls) (sym o.1) (on_last_none (lines t) o.0 h)
 
 pub none_whole : (t : List ℕ) → NoneSeparates (lines (whole t)) → NoneSeparates (lines t)
-none_whole t h = cases (is_whole t) refl h
+none_whole t h = cases (is_empty_or_ends_in_lf t) refl h
   where
-    cases : (w : Bool) → is_whole t ≡ w → NoneSeparates (lines (if w then t else t ++ 10 ∷ [])) → NoneSeparates (lines t)
+    cases : (w : Bool) → is_empty_or_ends_in_lf t ≡ w → NoneSeparates (lines (if w then t else t ++ 10 ∷ [])) → NoneSeparates (lines t)
     cases true e g = g
     cases false e g = let o = open_text t e in none_on_last (lines t) o.0 (subst (λ (ls : List (List ℕ)). NoneSeparates ls) o.1 g)
 
 -- a whole text is whole
-lf_at_end : (t : List ℕ) (n : ℕ) → length (t ++ 10 ∷ []) ≡ suc n → length t ≡ n → is_whole (t ++ 10 ∷ []) ≡ true
+lf_at_end : (t : List ℕ) (n : ℕ) → length (t ++ 10 ∷ []) ≡ suc n → length t ≡ n → is_empty_or_ends_in_lf (t ++ 10 ∷ []) ≡ true
 lf_at_end t n long h = rw (long, never n, sub_one n, get_or_at t 10 [] 0 n h) refl
   where
     sub_one : (n : ℕ) → suc n - 1 ≡ n
     sub_one n = omega arith
 
-completed : (t : List ℕ) (w : Bool) → is_whole t ≡ w → is_whole (if w then t else t ++ 10 ∷ []) ≡ true
+completed : (t : List ℕ) (w : Bool) → is_empty_or_ends_in_lf t ≡ w → is_empty_or_ends_in_lf (if w then t else t ++ 10 ∷ []) ≡ true
 completed t true h = h
 completed t false h = lf_at_end t (length t) (let long = length-append t (10 ∷ []) in omega (arith, long)) refl
 
-pub is_whole-whole : (t : List ℕ) → is_whole (whole t) ≡ true
-is_whole-whole t = completed t (is_whole t) refl
+pub is_whole-whole : (t : List ℕ) → is_empty_or_ends_in_lf (whole t) ≡ true
+is_whole-whole t = completed t (is_empty_or_ends_in_lf t) refl
 
 pub whole-whole : (t : List ℕ) → whole (whole t) ≡ whole t
 whole-whole t = rw (is_whole-whole t) refl

@@ -6,16 +6,16 @@ use Rattle.std.proofs.lemmas.List.{nil_from_length}
 use Rattle.std.proofs.lemmas.Bool.{eqb-true}
 use Rattle.std.specs.List.{concat}
 use Rattle.mail_core.specs.Lines.{lines, onto_first_line, content}
-use Rattle.mbox_items.specs.Division.{is_blank, IsBlank}
+use Rattle.mbox_items.specs.Division.{is_blank_line, IsBlankLine}
 
 pub lines-nil : lines [] ≡ []
 unfolding lines
 lines-nil = refl
 
-pub blank_says : (l : List ℕ) → is_blank l ≡ true → IsBlank l
+pub blank_says : (l : List ℕ) → is_blank_line l ≡ true → IsBlankLine l
 blank_says l h = nil_from_length (content l) (eqb-true (length (content l)) 0 h)
 
-pub says_blank : (l : List ℕ) → IsBlank l → is_blank l ≡ true
+pub says_blank : (l : List ℕ) → IsBlankLine l → is_blank_line l ≡ true
 says_blank l h = rw h refl
 
 concat_first : (b : ℕ) (ls : List (List ℕ)) → concat (onto_first_line b ls) ≡ b ∷ concat ls

@@ -5,7 +5,7 @@ use Rattle.std.proofs.Math.Seq.{take-add}
 use Rattle.std.specs.List.{concat}
 use Rattle.mail_core.specs.Lines.{lines, content}
 use Rattle.mbox_items.specs.Separator.{Envelope, separator_of}
-use Rattle.mbox_items.specs.Division.{is_blank, Split, body, with_item, split_lines, items_after, text_in, items_in}
+use Rattle.mbox_items.specs.Division.{is_blank_line, FrontAndItems, item_text_of_lines, with_new_item, front_and_items_of_lines, items_after_separator, text_before_separator, items_from_separator}
 use Rattle.mbox_items.proofs.LineLemmas.{concat-lines, AreLines, are_front, lines-concat, lines_are, lines-nil}
 use Rattle.mbox_items.proofs.SplitLemmas.{Quiet, last_blank, heads, with_lines, nothing, split-nil, split-some, split-quiet, body-blank, body-some, body-nil}
 
@@ -17,13 +17,13 @@ concat_append (l ∷ a) b = ap (λ x. l ++ x) (concat_append a b) ∙ sym (appen
 pub record Front (bytes : List ℕ) (at : ℕ) (after_blank : Bool) : Type 0 where
   pub low : at ≤ length bytes
   pub cut : lines bytes ≡ lines (take at bytes) ++ lines (drop at bytes)
-  pub split : split_lines false (lines bytes) ≡ with_lines (lines (take at bytes)) (split_lines after_blank (lines (drop at bytes)))
+  pub split : front_and_items_of_lines false (lines bytes) ≡ with_lines (lines (take at bytes)) (front_and_items_of_lines after_blank (lines (drop at bytes)))
 
 pub front_start : (bytes : List ℕ) → Front bytes 0 false
 front_start bytes = record {
   low = omega arith;
   cut = ap (λ ls. ls ++ lines bytes) (sym lines-nil);
-  split = ap (λ ls. with_lines ls (split_lines false (lines bytes))) (sym lines-nil);
+  split = ap (λ ls. with_lines ls (front_and_items_of_lines false (lines bytes))) (sym lines-nil);
 }
 
 -- some lines more
@@ -54,10 +54,10 @@ front_more bytes at n b cs fits next joined f q = record {
   low = fits;
   cut = cut_on bytes at n cs fits next joined f.cut;
   split =
-      let s = split_lines (last_blank b cs) (lines (drop (at + n) bytes)) in
-      let here : split_lines b (lines (drop at bytes)) ≡ with_lines cs s =
-      ap (split_lines b) next ∙ split-quiet b cs (lines (drop n (drop at bytes))) q
-      ∙ ap (λ x. with_lines cs (split_lines (last_blank b cs) (lines x))) (drop-drop n at bytes) in
+      let s = front_and_items_of_lines (last_blank b cs) (lines (drop (at + n) bytes)) in
+      let here : front_and_items_of_lines b (lines (drop at bytes)) ≡ with_lines cs s =
+      ap (front_and_items_of_lines b) next ∙ split-quiet b cs (lines (drop n (drop at bytes))) q
+      ∙ ap (λ x. with_lines cs (front_and_items_of_lines (last_blank b cs) (lines x))) (drop-drop n at bytes) in
       f.split ∙ ap (with_lines (lines (take at bytes))) here
       ∙ ap (λ (x : List (List ℕ)). record { front = x; items = s.items }) (sym (append_assoc (lines (take at bytes)) cs s.front))
       ∙ ap (λ x. with_lines x s) (sym (taken_more bytes at n cs fits next joined f.cut));
@@ -67,10 +67,10 @@ front_more bytes at n b cs fits next joined f q = record {
 pub record State (bytes : List ℕ) (at end : ℕ) (after_blank : Bool) : Type 0 where
   pub front : Front bytes at after_blank
   pub stop : end ≤ at
-  pub text : body (lines (take at bytes)) ≡ take end bytes
+  pub text : item_text_of_lines (lines (take at bytes)) ≡ take end bytes
 
 pub state_start : (bytes : List ℕ) → State bytes 0 0 false
-state_start bytes = record { front = front_start bytes; stop = omega arith; text = ap body lines-nil ∙ body-nil }
+state_start bytes = record { front = front_start bytes; stop = omega arith; text = ap item_text_of_lines lines-nil ∙ body-nil }
 
 -- one line more
 module _ (bytes : List ℕ) (at n : ℕ) (line : List ℕ) (is : line ≡ take n (drop at bytes)) (fits : at + n ≤ length bytes)
@@ -81,17 +81,17 @@ module _ (bytes : List ℕ) (at n : ℕ) (line : List ℕ) (is : line ≡ take n
   pub joined_line : concat (line ∷ []) ≡ take n (drop at bytes)
   joined_line = append-nil line ∙ is
 
-  pub text_blank : lines bytes ≡ lines (take at bytes) ++ lines (drop at bytes) → is_blank line ≡ true → body (lines (take (at + n) bytes)) ≡ take at bytes
-  text_blank cut k = ap body (taken_more bytes at n (line ∷ []) fits next_line joined_line cut)
+  pub text_blank : lines bytes ≡ lines (take at bytes) ++ lines (drop at bytes) → is_blank_line line ≡ true → item_text_of_lines (lines (take (at + n) bytes)) ≡ take at bytes
+  text_blank cut k = ap item_text_of_lines (taken_more bytes at n (line ∷ []) fits next_line joined_line cut)
       ∙ body-blank (lines (take at bytes)) line k ∙ concat-lines (take at bytes)
 
-  pub text_some : lines bytes ≡ lines (take at bytes) ++ lines (drop at bytes) → is_blank line ≡ false → body (lines (take (at + n) bytes)) ≡ take (at + n) bytes
-  text_some cut k = ap body (taken_more bytes at n (line ∷ []) fits next_line joined_line cut)
+  pub text_some : lines bytes ≡ lines (take at bytes) ++ lines (drop at bytes) → is_blank_line line ≡ false → item_text_of_lines (lines (take (at + n) bytes)) ≡ take (at + n) bytes
+  text_some cut k = ap item_text_of_lines (taken_more bytes at n (line ∷ []) fits next_line joined_line cut)
       ∙ body-some (lines (take at bytes)) line k ∙ ap (λ x. x ++ line) (concat-lines (take at bytes))
       ∙ ap (λ x. take at bytes ++ x) is ∙ sym (take-add at n bytes)
 
   -- a line that begins no item
-  pub state_more : (end new : ℕ) (b c : Bool) → State bytes at end b → heads b line ≡ None → is_blank line ≡ c
+  pub state_more : (end new : ℕ) (b c : Bool) → State bytes at end b → heads b line ≡ None → is_blank_line line ≡ c
       → new ≡ (if c then at else at + n) → State bytes (at + n) new c
   state_more end new b true s h k e = record {
     front = subst (λ (x : Bool). Front bytes (at + n) x) k (front_more bytes at n b (line ∷ []) fits next_line joined_line s.front (h, tt));
@@ -106,27 +106,27 @@ module _ (bytes : List ℕ) (at n : ℕ) (line : List ℕ) (is : line ≡ take n
 
   -- a line that begins an item
   pub split_here : (end : ℕ) (e : Envelope) → State bytes at end true → separator_of (content line) ≡ Some e
-      → split_lines false (lines bytes) ≡ with_lines (lines (take at bytes)) (with_item e (split_lines false (lines (drop n (drop at bytes)))))
+      → front_and_items_of_lines false (lines bytes) ≡ with_lines (lines (take at bytes)) (with_new_item e (front_and_items_of_lines false (lines (drop n (drop at bytes)))))
   split_here end e s h = s.front.split
-      ∙ ap (λ ls. with_lines (lines (take at bytes)) (split_lines true ls)) next_line
+      ∙ ap (λ ls. with_lines (lines (take at bytes)) (front_and_items_of_lines true ls)) next_line
       ∙ ap (with_lines (lines (take at bytes))) (split-some true line (lines (drop n (drop at bytes))) e h)
 
-  pub text_here : (end : ℕ) (e : Envelope) → State bytes at end true → separator_of (content line) ≡ Some e → take end bytes ≡ text_in bytes
-  text_here end e s h = sym (ap (λ (x : Split). body x.front) (split_here end e s h) ∙ ap body (append-nil (lines (take at bytes))) ∙ s.text)
+  pub text_here : (end : ℕ) (e : Envelope) → State bytes at end true → separator_of (content line) ≡ Some e → take end bytes ≡ text_before_separator bytes
+  text_here end e s h = sym (ap (λ (x : FrontAndItems). item_text_of_lines x.front) (split_here end e s h) ∙ ap item_text_of_lines (append-nil (lines (take at bytes))) ∙ s.text)
 
   pub items_here : (end : ℕ) (e : Envelope) → State bytes at end true → separator_of (content line) ≡ Some e
-      → items_after (Some e) (drop n (drop at bytes)) ≡ items_in bytes
-  items_here end e s h = sym (ap (λ (x : Split). x.items) (split_here end e s h))
+      → items_after_separator (Some e) (drop n (drop at bytes)) ≡ items_from_separator bytes
+  items_here end e s h = sym (ap (λ (x : FrontAndItems). x.items) (split_here end e s h))
 
 -- at the end of the bytes
 split_end : (bytes : List ℕ) (at end : ℕ) (b : Bool) → State bytes at end b → length bytes ≤ at
-    → split_lines false (lines bytes) ≡ with_lines (lines (take at bytes)) nothing
+    → front_and_items_of_lines false (lines bytes) ≡ with_lines (lines (take at bytes)) nothing
 split_end bytes at end b s h = s.front.split
-    ∙ ap (λ x. with_lines (lines (take at bytes)) (split_lines b x)) (ap lines (drop_all at bytes h) ∙ lines-nil)
+    ∙ ap (λ x. with_lines (lines (take at bytes)) (front_and_items_of_lines b x)) (ap lines (drop_all at bytes h) ∙ lines-nil)
     ∙ ap (with_lines (lines (take at bytes))) (split-nil b)
 
-pub text_end : (bytes : List ℕ) (at end : ℕ) (b : Bool) → State bytes at end b → length bytes ≤ at → take end bytes ≡ text_in bytes
-text_end bytes at end b s h = sym (ap (λ (x : Split). body x.front) (split_end bytes at end b s h) ∙ ap body (append-nil (lines (take at bytes))) ∙ s.text)
+pub text_end : (bytes : List ℕ) (at end : ℕ) (b : Bool) → State bytes at end b → length bytes ≤ at → take end bytes ≡ text_before_separator bytes
+text_end bytes at end b s h = sym (ap (λ (x : FrontAndItems). item_text_of_lines x.front) (split_end bytes at end b s h) ∙ ap item_text_of_lines (append-nil (lines (take at bytes))) ∙ s.text)
 
-pub items_end : (bytes rest : List ℕ) (at end : ℕ) (b : Bool) → State bytes at end b → length bytes ≤ at → items_after None rest ≡ items_in bytes
-items_end bytes rest at end b s h = sym (ap (λ (x : Split). x.items) (split_end bytes at end b s h))
+pub items_end : (bytes rest : List ℕ) (at end : ℕ) (b : Bool) → State bytes at end b → length bytes ≤ at → items_after_separator None rest ≡ items_from_separator bytes
+items_end bytes rest at end b s h = sym (ap (λ (x : FrontAndItems). x.items) (split_end bytes at end b s h))

@@ -3,7 +3,7 @@ use Rattle.std.proofs.Common.{◌≡◌, ℕ, zero, suc, ◌<◌, ◌≤◌, Boo
 use Rattle.std.proofs.Common.{get_or, refl, arith, ap, ◌∙◌, sym, ℤ, codes, length-append, ◌⊎◌, inl, inr}
 use Rattle.std.proofs.lemmas.List.{get_or_at, take_at, drop_at}
 use Rattle.civil_time.specs.Calendar.{is_instant}
-use Rattle.mbox_items.specs.Separator.{IsSenderText, is_sender_token, spaced}
+use Rattle.mbox_items.specs.Separator.{IsSenderText, is_sender_token, joined_by_spaces}
 use Rattle.mbox_items.specs.Written.{IsEnvelope}
 use Rattle.mbox_items.specs.Senders.{IsSender, sender_text}
 use Rattle.mbox_items.specs.declared.senders.Sender.{Sender}
@@ -55,7 +55,7 @@ space_at text t r e = (
 )
 
 -- what stands before that space, and what from there on
-pub cut_at : (text left right : List ℕ) (k : ℕ) → text ≡ spaced (left ∷ codes "at" ∷ right ∷ []) → is_sender_token left ≡ true
+pub cut_at : (text left right : List ℕ) (k : ℕ) → text ≡ joined_by_spaces (left ∷ codes "at" ∷ right ∷ []) → is_sender_token left ≡ true
     → ((j : ℕ) → j < k → (get_or text j 0 == 32) ≡ true → ⊥) → (get_or text k 0 == 32) ≡ true → (take k text ≡ left) × (drop k text ≡ codes " at " ++ right)
 cut_at text left right k e is none here =
     let rest : List ℕ = codes "at" ++ 32 ∷ right in

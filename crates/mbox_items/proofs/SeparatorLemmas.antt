@@ -4,11 +4,12 @@ use Rattle.std.proofs.Common.{if◌then◌else◌, Option, Some, None, ℤ, pos,
 use Rattle.std.specs.Str.{bytes_eq}
 use Rattle.std.specs.Option.{MatchOption, IfSome, IfNone, is_some}
 use Rattle.std.proofs.lemmas.Slice.Eq.{bytes_eq-Decides}
-use Rattle.civil_time.specs.Calendar.{day_number_of, instant_at}
+use Rattle.civil_time.specs.Calendar.{checked_day_number, checked_instant}
 use Rattle.civil_time.specs.Zones.{zone_of}
-use Rattle.mbox_items.specs.Separator.{◌>>=◌, Envelope, IsSeparator, IsArrival, IsSentBy, separator_of, envelope_of, arrival_of, sent_by_one}
-use Rattle.mbox_items.specs.Separator.{sent_by_two, east_of, spaced, tokens, is_sender_token, day_of, clock_of, year_of, instant_of}
-use Rattle.civil_time.specs.Names.{is_weekday, month_of}
+use Rattle.mbox_items.specs.Separator.{◌>>=◌, Envelope, IsSeparator, IsArrival, AreTokensOfSender, separator_of, envelope_of, arrival_of, envelope_of_one_token}
+use Rattle.mbox_items.specs.Separator.{envelope_of_two_tokens, seconds_east_of_utc, joined_by_spaces, tokens}
+use Rattle.mbox_items.specs.Separator.{is_sender_token, parsed_day_of_month, parsed_time_of_day, parsed_four_digit_year, instant_of_local_time}
+use Rattle.civil_time.specs.Names.{is_day_name, month_of_name}
 
 pub bind_some : {A B : Type 0} (o : Option A) (f : A → Option B) (y : B) → (o >>= f) ≡ Some y → (x : A) × (o ≡ Some x) × (f x ≡ Some y)
 bind_some None f y h = absurd (cc)
@@ -34,19 +35,19 @@ some_is x y h = cc
 
 -- ---- arrivals
 
-arrival_says : (b c d e : List ℕ) (zone : List (List ℕ)) (f : List ℕ) (arrival : ℤ) → arrival_of b c d e (east_of zone) f ≡ Some arrival
+arrival_says : (b c d e : List ℕ) (zone : List (List ℕ)) (f : List ℕ) (arrival : ℤ) → arrival_of b c d e (seconds_east_of_utc zone) f ≡ Some arrival
     → IsArrival b c d e zone f arrival
 unfolding arrival_of
 arrival_says b c d e zone f arrival h =
-    let g = guard_some (is_weekday b) _ arrival h in
-    let m = bind_some (month_of c) _ arrival g.1 in
-    let n = bind_some (day_of d) _ arrival m.2 in
-    let s = bind_some (clock_of e) _ arrival n.2 in
-    let o = bind_some (east_of zone) _ arrival s.2 in
-    let y = bind_some (year_of f) _ arrival o.2 in
-    let i = bind_some (day_number_of y.0 m.0 n.0) _ arrival y.2 in
+    let g = guard_some (is_day_name b) _ arrival h in
+    let m = bind_some (month_of_name c) _ arrival g.1 in
+    let n = bind_some (parsed_day_of_month d) _ arrival m.2 in
+    let s = bind_some (parsed_time_of_day e) _ arrival n.2 in
+    let o = bind_some (seconds_east_of_utc zone) _ arrival s.2 in
+    let y = bind_some (parsed_four_digit_year f) _ arrival o.2 in
+    let i = bind_some (checked_day_number y.0 m.0 n.0) _ arrival y.2 in
     record {
-      any_weekday = g.0;
+      weekday_is_day_name = g.0;
       month = m.0;
       is_month = m.1;
       day = n.0;
@@ -62,46 +63,46 @@ arrival_says b c d e zone f arrival h =
       instant = i.2;
     }
 
-says_arrival : (b c d e : List ℕ) (zone : List (List ℕ)) (f : List ℕ) (o : Option ℤ) (arrival : ℤ) → o ≡ east_of zone
+says_arrival : (b c d e : List ℕ) (zone : List (List ℕ)) (f : List ℕ) (o : Option ℤ) (arrival : ℤ) → o ≡ seconds_east_of_utc zone
     → IsArrival b c d e zone f arrival → arrival_of b c d e o f ≡ Some arrival
 unfolding arrival_of
 says_arrival b c d e zone f o arrival h s =
     let is : o ≡ Some s.east = h ∙ s.is_zone in
-    rw (s.any_weekday, s.is_month, s.is_day, s.is_time, is, s.is_year, s.exists, s.instant) refl
+    rw (s.weekday_is_day_name, s.is_month, s.is_day, s.is_time, is, s.is_year, s.exists, s.instant) refl
 
 -- ---- senders
 
-one_says : (a : List ℕ) (o : Option ℤ) (e : Envelope) → sent_by_one a o ≡ Some e → IsSentBy (a ∷ []) e.sender × (o ≡ Some e.arrival)
-unfolding sent_by_one
+one_says : (a : List ℕ) (o : Option ℤ) (e : Envelope) → envelope_of_one_token a o ≡ Some e → AreTokensOfSender (a ∷ []) e.sender × (o ≡ Some e.arrival)
+unfolding envelope_of_one_token
 one_says a o e h =
     let g = guard_some (is_sender_token a) _ e h in
     let w = bind_some o _ e g.1 in
     let same : record { sender = a; arrival = w.0 } ≡ e = some_is (record { sender = a; arrival = w.0 }) e w.2 in
     ((g.0, sym (ap (λ (x : Envelope). x.sender) same)), w.1 ∙ ap (λ (x : Envelope). Some x.arrival) same)
 
-says_one : (a : List ℕ) (o : Option ℤ) (e : Envelope) → IsSentBy (a ∷ []) e.sender → o ≡ Some e.arrival → sent_by_one a o ≡ Some e
-unfolding sent_by_one
+says_one : (a : List ℕ) (o : Option ℤ) (e : Envelope) → AreTokensOfSender (a ∷ []) e.sender → o ≡ Some e.arrival → envelope_of_one_token a o ≡ Some e
+unfolding envelope_of_one_token
 says_one a o e s h =
     let is : record { sender = a; arrival = e.arrival } ≡ e = ap (λ (x : List ℕ). record { sender = x; arrival = e.arrival }) (sym s.1) in
     rw (s.0, h) (ap (λ (x : Envelope). Some x) is)
 
-two_says : (a at b : List ℕ) (o : Option ℤ) (e : Envelope) → sent_by_two a at b o ≡ Some e → IsSentBy (a ∷ at ∷ b ∷ []) e.sender × (o ≡ Some e.arrival)
-unfolding sent_by_two
+two_says : (a at b : List ℕ) (o : Option ℤ) (e : Envelope) → envelope_of_two_tokens a at b o ≡ Some e → AreTokensOfSender (a ∷ at ∷ b ∷ []) e.sender × (o ≡ Some e.arrival)
+unfolding envelope_of_two_tokens
 two_says a at b o e h =
     let g = guard_some (is_sender_token a && (bytes_eq at (codes "at") && is_sender_token b)) _ e h in
     let first = both (is_sender_token a) (bytes_eq at (codes "at") && is_sender_token b) g.0 in
     let second = both (bytes_eq at (codes "at")) (is_sender_token b) first.1 in
     let w = bind_some o _ e g.1 in
-    let text = spaced (a ∷ at ∷ b ∷ []) in
+    let text = joined_by_spaces (a ∷ at ∷ b ∷ []) in
     let same : record { sender = text; arrival = w.0 } ≡ e = some_is (record { sender = text; arrival = w.0 }) e w.2 in (
       ((first.0, (bytes_eq-Decides at (codes "at")).0 second.0, second.1), sym (ap (λ (x : Envelope). x.sender) same)),
       w.1 ∙ ap (λ (x : Envelope). Some x.arrival) same,
     )
 
-says_two : (a at b : List ℕ) (o : Option ℤ) (e : Envelope) → IsSentBy (a ∷ at ∷ b ∷ []) e.sender → o ≡ Some e.arrival → sent_by_two a at b o ≡ Some e
-unfolding sent_by_two
+says_two : (a at b : List ℕ) (o : Option ℤ) (e : Envelope) → AreTokensOfSender (a ∷ at ∷ b ∷ []) e.sender → o ≡ Some e.arrival → envelope_of_two_tokens a at b o ≡ Some e
+unfolding envelope_of_two_tokens
 says_two a at b o e ((left, word, right), text) h =
-    let is : record { sender = spaced (a ∷ at ∷ b ∷ []); arrival = e.arrival } ≡ e = ap (λ (x : List ℕ). record { sender = x; arrival = e.arrival }) (sym text) in
+    let is : record { sender = joined_by_spaces (a ∷ at ∷ b ∷ []); arrival = e.arrival } ≡ e = ap (λ (x : List ℕ). record { sender = x; arrival = e.arrival }) (sym text) in
     let ok : (is_sender_token a && (bytes_eq at (codes "at") && is_sender_token b)) ≡ true = rw (left, word, right) refl in
     rw (ok, h) (ap (λ (x : Envelope). Some x) is)
 
@@ -116,13 +117,13 @@ record Says (ts : List (List ℕ)) (e : Envelope) : Type 0 where
   pub zone : List (List ℕ)
   pub year_text : List ℕ
   pub are_tokens : ts ≡ who ++ (weekday ∷ month_name ∷ day_text ∷ time_text ∷ (zone ++ (year_text ∷ [])))
-  pub sender : IsSentBy who e.sender
+  pub sender : AreTokensOfSender who e.sender
   pub arrival : IsArrival weekday month_name day_text time_text zone year_text e.arrival
 
-by_one : (a b c d e : List ℕ) (zone : List (List ℕ)) (f : List ℕ) (v : Envelope) → sent_by_one a (arrival_of b c d e (east_of zone) f) ≡ Some v
+by_one : (a b c d e : List ℕ) (zone : List (List ℕ)) (f : List ℕ) (v : Envelope) → envelope_of_one_token a (arrival_of b c d e (seconds_east_of_utc zone) f) ≡ Some v
     → Says (a ∷ b ∷ c ∷ d ∷ e ∷ (zone ++ (f ∷ []))) v
 by_one a b c d e zone f v h =
-    let s = one_says a (arrival_of b c d e (east_of zone) f) v h in
+    let s = one_says a (arrival_of b c d e (seconds_east_of_utc zone) f) v h in
     record {
       who = a ∷ [];
       weekday = b;
@@ -136,10 +137,10 @@ by_one a b c d e zone f v h =
       arrival = arrival_says b c d e zone f v.arrival s.1;
     }
 
-by_two : (a at g b c d e : List ℕ) (zone : List (List ℕ)) (f : List ℕ) (v : Envelope) → sent_by_two a at g (arrival_of b c d e (east_of zone) f) ≡ Some v
+by_two : (a at g b c d e : List ℕ) (zone : List (List ℕ)) (f : List ℕ) (v : Envelope) → envelope_of_two_tokens a at g (arrival_of b c d e (seconds_east_of_utc zone) f) ≡ Some v
     → Says (a ∷ at ∷ g ∷ b ∷ c ∷ d ∷ e ∷ (zone ++ (f ∷ []))) v
 by_two a at g b c d e zone f v h =
-    let s = two_says a at g (arrival_of b c d e (east_of zone) f) v h in
+    let s = two_says a at g (arrival_of b c d e (seconds_east_of_utc zone) f) v h in
     record {
       who = a ∷ at ∷ g ∷ [];
       weekday = b;
@@ -167,7 +168,7 @@ tokens_say (a ∷ b ∷ c ∷ d ∷ e ∷ f ∷ g ∷ i ∷ []) v h = by_two a b
 tokens_say (a ∷ b ∷ c ∷ d ∷ e ∷ f ∷ g ∷ i ∷ j ∷ []) v h = by_two a b c d e f g (i ∷ []) j v h
 tokens_say (a ∷ b ∷ c ∷ d ∷ e ∷ f ∷ g ∷ i ∷ j ∷ k ∷ ts) v h = absurd (cc)
 
-say_tokens : (who : List (List ℕ)) (b c d e : List ℕ) (zone : List (List ℕ)) (f : List ℕ) (v : Envelope) → IsSentBy who v.sender
+say_tokens : (who : List (List ℕ)) (b c d e : List ℕ) (zone : List (List ℕ)) (f : List ℕ) (v : Envelope) → AreTokensOfSender who v.sender
     → IsArrival b c d e zone f v.arrival → envelope_of (who ++ (b ∷ c ∷ d ∷ e ∷ (zone ++ (f ∷ [])))) ≡ Some v
 unfolding envelope_of
 say_tokens [] b c d e zone f v s w = absurd (s.0)
@@ -211,8 +212,8 @@ separator_all said envelope s =
     ap separator_of s.begins ∙ begun s.after ∙ ap envelope_of s.are_tokens
     ∙ say_tokens s.who s.weekday s.month_name s.day_text s.time_text s.zone s.year_text envelope s.sender s.arrival
 
-pub instant_is : (day : ℤ) (seconds : ℕ) (east : ℤ) → instant_at (day *ℤ pos 86400 +ℤ pos seconds -ℤ east) ≡ instant_of day seconds east
-unfolding instant_of
+pub instant_is : (day : ℤ) (seconds : ℕ) (east : ℤ) → checked_instant (day *ℤ pos 86400 +ℤ pos seconds -ℤ east) ≡ instant_of_local_time day seconds east
+unfolding instant_of_local_time
 instant_is day seconds east = refl
 
 -- no content says two envelopes
@@ -292,19 +293,19 @@ pub few_5 : (a b c d e : List ℕ) → envelope_of (a ∷ b ∷ c ∷ d ∷ e �
 unfolding envelope_of
 few_5 a b c d e = refl
 
-pub six : (a b c d e f : List ℕ) → envelope_of (a ∷ b ∷ c ∷ d ∷ e ∷ f ∷ []) ≡ sent_by_one a (arrival_of b c d e (Some (pos 0)) f)
+pub six : (a b c d e f : List ℕ) → envelope_of (a ∷ b ∷ c ∷ d ∷ e ∷ f ∷ []) ≡ envelope_of_one_token a (arrival_of b c d e (Some (pos 0)) f)
 unfolding envelope_of
 six a b c d e f = refl
 
-pub seven : (a b c d e f g : List ℕ) → envelope_of (a ∷ b ∷ c ∷ d ∷ e ∷ f ∷ g ∷ []) ≡ sent_by_one a (arrival_of b c d e (zone_of f) g)
+pub seven : (a b c d e f g : List ℕ) → envelope_of (a ∷ b ∷ c ∷ d ∷ e ∷ f ∷ g ∷ []) ≡ envelope_of_one_token a (arrival_of b c d e (zone_of f) g)
 unfolding envelope_of
 seven a b c d e f g = refl
 
-pub eight : (a b c d e f g h : List ℕ) → envelope_of (a ∷ b ∷ c ∷ d ∷ e ∷ f ∷ g ∷ h ∷ []) ≡ sent_by_two a b c (arrival_of d e f g (Some (pos 0)) h)
+pub eight : (a b c d e f g h : List ℕ) → envelope_of (a ∷ b ∷ c ∷ d ∷ e ∷ f ∷ g ∷ h ∷ []) ≡ envelope_of_two_tokens a b c (arrival_of d e f g (Some (pos 0)) h)
 unfolding envelope_of
 eight a b c d e f g h = refl
 
-pub nine : (a b c d e f g h i : List ℕ) → envelope_of (a ∷ b ∷ c ∷ d ∷ e ∷ f ∷ g ∷ h ∷ i ∷ []) ≡ sent_by_two a b c (arrival_of d e f g (zone_of h) i)
+pub nine : (a b c d e f g h i : List ℕ) → envelope_of (a ∷ b ∷ c ∷ d ∷ e ∷ f ∷ g ∷ h ∷ i ∷ []) ≡ envelope_of_two_tokens a b c (arrival_of d e f g (zone_of h) i)
 unfolding envelope_of
 nine a b c d e f g h i = refl
 

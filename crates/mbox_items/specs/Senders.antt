@@ -1,6 +1,6 @@
 -- The senders of the code, and their written form.
 use Rattle.std.specs.Prelude.{◌≡◌, ℕ, List, [], ◌∷◌, true, codes}
-use Rattle.mbox_items.specs.Separator.{is_sender_token, spaced}
+use Rattle.mbox_items.specs.Separator.{is_sender_token, joined_by_spaces}
 use Rattle.mbox_items.specs.declared.senders.Sender.{Sender}
 use Rattle.mbox_items.specs.declared.senders.Sender.TheVariants.{One, At}
 
@@ -12,4 +12,4 @@ IsSender (At left right) = (is_sender_token left.now ≡ true) × (is_sender_tok
 -- the token, or both with `at` between them and one space at each side of it
 abbrev pub sender_text : Sender → List ℕ
 sender_text (One token) = token.now
-sender_text (At left right) = spaced (left.now ∷ codes "at" ∷ right.now ∷ [])
+sender_text (At left right) = joined_by_spaces (left.now ∷ codes "at" ∷ right.now ∷ [])

@@ -4,10 +4,10 @@ use Rattle.std.specs.Prelude.{◌≡◌, ℕ, ◌+◌, ◌==◌, Bool, true, fal
 use Rattle.std.specs.List.{list_any}
 use Rattle.std.specs.Str.{bytes_eq}
 use Rattle.mail_core.specs.Lines.{onto_first_line}
-use Rattle.civil_time.specs.Calendar.{day_number_of, instant_at}
-use Rattle.civil_time.specs.Clock.{clock_seconds}
-use Rattle.civil_time.specs.Digits.{two_digits, one_or_two, just_four}
-use Rattle.civil_time.specs.Names.{month_of, is_weekday}
+use Rattle.civil_time.specs.Calendar.{checked_day_number, checked_instant}
+use Rattle.civil_time.specs.Clock.{seconds_since_midnight}
+use Rattle.civil_time.specs.Digits.{two_digit_number, parsed_one_or_two_digits, parsed_four_digits}
+use Rattle.civil_time.specs.Names.{month_of_name, is_day_name}
 use Rattle.civil_time.specs.Zones.{zone_of}
 
 -- whether a text begins with a byte of a token
@@ -26,38 +26,38 @@ None >>= f = None
 (Some x) >>= f = f x
 
 -- the number that two digits at this place write
-abbrev pub two_at : List ℕ → ℕ → Option ℕ
-two_at t i = two_digits (slice_index t i) (slice_index t (i + 1))
+abbrev pub two_digit_number_at : List ℕ → ℕ → Option ℕ
+two_digit_number_at t i = two_digit_number (slice_index t i) (slice_index t (i + 1))
 
 -- a day of one or two digits
-unfoldable pub day_of : List ℕ → Option ℕ
-day_of t = one_or_two t
+unfoldable pub parsed_day_of_month : List ℕ → Option ℕ
+parsed_day_of_month t = parsed_one_or_two_digits t
 
 -- the seconds of a time, 0 where it has none
-abbrev pub second_of : List ℕ → Option ℕ
-second_of t = if length t == 5 then Some 0 else (if length t == 8 && slice_index t 5 == 58 then two_at t 6 else None)
+abbrev pub parsed_seconds_part : List ℕ → Option ℕ
+parsed_seconds_part t = if length t == 5 then Some 0 else (if length t == 8 && slice_index t 5 == 58 then two_digit_number_at t 6 else None)
 
 -- `hh:mm` or `hh:mm:ss`: hours to 23, minutes to 59, seconds to 60, of which the last is read as 59
-unfoldable pub clock_of : List ℕ → Option ℕ
-clock_of t = do
-  hour ← two_at t 0
-  minute ← two_at t 3
-  second ← second_of t
-  if slice_index t 2 == 58 then clock_seconds hour minute second else None
+unfoldable pub parsed_time_of_day : List ℕ → Option ℕ
+parsed_time_of_day t = do
+  hour ← two_digit_number_at t 0
+  minute ← two_digit_number_at t 3
+  second ← parsed_seconds_part t
+  if slice_index t 2 == 58 then seconds_since_midnight hour minute second else None
 
 -- four digits
-unfoldable pub year_of : List ℕ → Option ℕ
-year_of t = just_four t
+unfoldable pub parsed_four_digit_year : List ℕ → Option ℕ
+parsed_four_digit_year t = parsed_four_digits t
 
 -- a token of a sender: any run of bytes, but of no space and no LF, and not empty
 abbrev pub is_sender_token : List ℕ → Bool
 is_sender_token t = not (length t == 0) && (not (list_any (λ b. b == 32) t) && not (list_any (λ b. b == 10) t))
 
 -- words with one space between them
-abbrev pub spaced : List (List ℕ) → List ℕ
-spaced [] = []
-spaced (word ∷ []) = word
-spaced (word ∷ next ∷ words) = word ++ 32 ∷ spaced (next ∷ words)
+abbrev pub joined_by_spaces : List (List ℕ) → List ℕ
+joined_by_spaces [] = []
+joined_by_spaces (word ∷ []) = word
+joined_by_spaces (word ∷ next ∷ words) = word ++ 32 ∷ joined_by_spaces (next ∷ words)
 
 -- the tokens of a sender: one, or two with the word `at` between them, in small letters
 abbrev pub AreSenderTokens : List (List ℕ) → Type 0
@@ -66,22 +66,22 @@ AreSenderTokens (left ∷ word ∷ right ∷ []) = (is_sender_token left ≡ tru
 AreSenderTokens _ = ⊥
 
 -- these tokens say a sender with this written form: they stand in it with one space between them
-abbrev pub IsSentBy : List (List ℕ) → List ℕ → Type 0
-IsSentBy who text = AreSenderTokens who × (text ≡ spaced who)
+abbrev pub AreTokensOfSender : List (List ℕ) → List ℕ → Type 0
+AreTokensOfSender who text = AreSenderTokens who × (text ≡ joined_by_spaces who)
 
 -- the written form of a sender
 abbrev pub IsSenderText : List ℕ → Type 0
-IsSenderText text = (who : List (List ℕ)) × IsSentBy who text
+IsSenderText text = (who : List (List ℕ)) × AreTokensOfSender who text
 
 -- how many seconds east of UTC a time is, by its zone; without a zone it is in UTC
-abbrev pub east_of : List (List ℕ) → Option ℤ
-east_of [] = Some (pos 0)
-east_of (text ∷ []) = zone_of text
-east_of _ = None
+abbrev pub seconds_east_of_utc : List (List ℕ) → Option ℤ
+seconds_east_of_utc [] = Some (pos 0)
+seconds_east_of_utc (text ∷ []) = zone_of text
+seconds_east_of_utc _ = None
 
 -- the instant at which it is so many seconds after the day begins, so many seconds east of UTC
-unfoldable pub instant_of : ℤ → ℕ → ℤ → Option ℤ
-instant_of day seconds east = instant_at (day *ℤ pos 86400 +ℤ pos seconds -ℤ east)
+unfoldable pub instant_of_local_time : ℤ → ℕ → ℤ → Option ℤ
+instant_of_local_time day seconds east = checked_instant (day *ℤ pos 86400 +ℤ pos seconds -ℤ east)
 
 -- who sent a message, as it is written, and when it came: seconds since 1970-01-01 00:00:00 UTC
 pub record Envelope : Type 0 where
@@ -90,20 +90,20 @@ pub record Envelope : Type 0 where
 
 -- Tokens say this arrival: a weekday, which is not compared, a date that the calendar has, a time of day and its zone.
 pub record IsArrival (weekday month_name day_text time_text : List ℕ) (zone : List (List ℕ)) (year_text : List ℕ) (arrival : ℤ) : Type 0 where
-  pub any_weekday : is_weekday weekday ≡ true
+  pub weekday_is_day_name : is_day_name weekday ≡ true
   pub month : ℕ
-  pub is_month : month_of month_name ≡ Some month
+  pub is_month : month_of_name month_name ≡ Some month
   pub day : ℕ
-  pub is_day : day_of day_text ≡ Some day
+  pub is_day : parsed_day_of_month day_text ≡ Some day
   pub seconds : ℕ
-  pub is_time : clock_of time_text ≡ Some seconds
+  pub is_time : parsed_time_of_day time_text ≡ Some seconds
   pub east : ℤ
-  pub is_zone : east_of zone ≡ Some east
+  pub is_zone : seconds_east_of_utc zone ≡ Some east
   pub year : ℕ
-  pub is_year : year_of year_text ≡ Some year
+  pub is_year : parsed_four_digit_year year_text ≡ Some year
   pub day_number : ℤ
-  pub exists : day_number_of year month day ≡ Some day_number
-  pub instant : instant_of day_number seconds east ≡ Some arrival
+  pub exists : checked_day_number year month day ≡ Some day_number
+  pub instant : instant_of_local_time day_number seconds east ≡ Some arrival
 
 -- A content says this envelope: `From `, and then six to nine tokens between runs of spaces, which are one or three of a
 -- sender, a weekday, a month, a day, a time, a zone or none, and a year.
@@ -118,7 +118,7 @@ pub record IsSeparator (said : List ℕ) (envelope : Envelope) : Type 0 where
   pub zone : List (List ℕ)
   pub year_text : List ℕ
   pub are_tokens : tokens after ≡ who ++ (weekday ∷ month_name ∷ day_text ∷ time_text ∷ (zone ++ (year_text ∷ [])))
-  pub sender : IsSentBy who envelope.sender
+  pub sender : AreTokensOfSender who envelope.sender
   pub arrival : IsArrival weekday month_name day_text time_text zone year_text envelope.arrival
 
 -- ---- the same, computed
@@ -126,32 +126,32 @@ pub record IsSeparator (said : List ℕ) (envelope : Envelope) : Type 0 where
 -- the arrival that tokens say, where a time is so many seconds east of UTC
 unfoldable pub arrival_of : List ℕ → List ℕ → List ℕ → List ℕ → Option ℤ → List ℕ → Option ℤ
 arrival_of weekday month_name day_text time_text offset year_text =
-    if is_weekday weekday then (do
-      month ← month_of month_name
-      day ← day_of day_text
-      seconds ← clock_of time_text
+    if is_day_name weekday then (do
+      month ← month_of_name month_name
+      day ← parsed_day_of_month day_text
+      seconds ← parsed_time_of_day time_text
       east ← offset
-      year ← year_of year_text
-      number ← day_number_of year month day
-      instant_of number seconds east) else None
+      year ← parsed_four_digit_year year_text
+      number ← checked_day_number year month day
+      instant_of_local_time number seconds east) else None
 
 -- a sender of one token, and one of three, with an arrival
-unfoldable pub sent_by_one : List ℕ → Option ℤ → Option Envelope
-sent_by_one token when = if is_sender_token token then (do
+unfoldable pub envelope_of_one_token : List ℕ → Option ℤ → Option Envelope
+envelope_of_one_token token when = if is_sender_token token then (do
   arrival ← when
   Some (record { sender = token; arrival = arrival })) else None
 
-unfoldable pub sent_by_two : List ℕ → List ℕ → List ℕ → Option ℤ → Option Envelope
-sent_by_two left word right when = if is_sender_token left && (bytes_eq word (codes "at") && is_sender_token right) then (do
+unfoldable pub envelope_of_two_tokens : List ℕ → List ℕ → List ℕ → Option ℤ → Option Envelope
+envelope_of_two_tokens left word right when = if is_sender_token left && (bytes_eq word (codes "at") && is_sender_token right) then (do
   arrival ← when
-  Some (record { sender = spaced (left ∷ word ∷ right ∷ []); arrival = arrival })) else None
+  Some (record { sender = joined_by_spaces (left ∷ word ∷ right ∷ []); arrival = arrival })) else None
 
 -- the envelope that six to nine tokens say
 unfoldable pub envelope_of : List (List ℕ) → Option Envelope
-envelope_of (a ∷ b ∷ c ∷ d ∷ e ∷ f ∷ []) = sent_by_one a (arrival_of b c d e (Some (pos 0)) f)
-envelope_of (a ∷ b ∷ c ∷ d ∷ e ∷ f ∷ g ∷ []) = sent_by_one a (arrival_of b c d e (zone_of f) g)
-envelope_of (a ∷ b ∷ c ∷ d ∷ e ∷ f ∷ g ∷ h ∷ []) = sent_by_two a b c (arrival_of d e f g (Some (pos 0)) h)
-envelope_of (a ∷ b ∷ c ∷ d ∷ e ∷ f ∷ g ∷ h ∷ i ∷ []) = sent_by_two a b c (arrival_of d e f g (zone_of h) i)
+envelope_of (a ∷ b ∷ c ∷ d ∷ e ∷ f ∷ []) = envelope_of_one_token a (arrival_of b c d e (Some (pos 0)) f)
+envelope_of (a ∷ b ∷ c ∷ d ∷ e ∷ f ∷ g ∷ []) = envelope_of_one_token a (arrival_of b c d e (zone_of f) g)
+envelope_of (a ∷ b ∷ c ∷ d ∷ e ∷ f ∷ g ∷ h ∷ []) = envelope_of_two_tokens a b c (arrival_of d e f g (Some (pos 0)) h)
+envelope_of (a ∷ b ∷ c ∷ d ∷ e ∷ f ∷ g ∷ h ∷ i ∷ []) = envelope_of_two_tokens a b c (arrival_of d e f g (zone_of h) i)
 envelope_of _ = None
 
 -- The envelope of a separator line (RFC 4155, appendix A), given without its line end; None for any other line.

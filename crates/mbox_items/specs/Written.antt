@@ -7,7 +7,7 @@ use Rattle.civil_time.specs.Dates.{Date, date_of_day}
 use Rattle.civil_time.specs.Digits.{as_two_digits, as_four_digits}
 use Rattle.civil_time.specs.Names.{name_at, weekday_names, month_names}
 use Rattle.mail_core.specs.Lines.{lines}
-use Rattle.mbox_items.specs.Separator.{Envelope, IsSenderText, spaced}
+use Rattle.mbox_items.specs.Separator.{Envelope, IsSenderText, joined_by_spaces}
 use Rattle.mbox_items.specs.Division.{Item, NoneSeparates, whole}
 
 -- two digits, and a number below 10 with a space in place of the first
@@ -19,31 +19,31 @@ abbrev pub clock_text : ℕ → List ℕ
 clock_text s = as_two_digits (s / 3600) ++ 58 ∷ (as_two_digits (s / 60 % 60) ++ 58 ∷ as_two_digits (s % 60))
 
 -- `Www Mmm dd hh:mm:ss yyyy`
-abbrev pub date_text : ℕ → Date → ℕ → List ℕ
-date_text weekday date seconds = spaced (
+abbrev pub ctime_text : ℕ → Date → ℕ → List ℕ
+ctime_text weekday date seconds = joined_by_spaces (
     name_at weekday weekday_names ∷ name_at (date.month - 1) month_names ∷ as_day_digits date.day
     ∷ clock_text seconds ∷ as_four_digits date.year ∷ [])
 
 unfoldable pub time_text : ℤ → List ℕ
 time_text instant =
     let day = day_of_instant instant in
-    date_text (weekday day) (date_of_day day) (second_of_day instant)
+    ctime_text (weekday day) (date_of_day day) (second_of_day instant)
 
 -- what the canonical separator line of an envelope says
-abbrev pub heading : Envelope → List ℕ
-heading envelope = spaced (codes "From" ∷ envelope.sender ∷ time_text envelope.arrival ∷ [])
+abbrev pub separator_line_text : Envelope → List ℕ
+separator_line_text envelope = joined_by_spaces (codes "From" ∷ envelope.sender ∷ time_text envelope.arrival ∷ [])
 
 -- a separator line with a sender of two tokens, and what follows it
-abbrev pub at_line : List ℕ → List ℕ → List ℕ → List ℕ
-at_line left right end = codes "From " ++ (spaced (left ∷ codes "at" ∷ right ∷ []) ++ end)
+abbrev pub two_token_separator_line : List ℕ → List ℕ → List ℕ → List ℕ
+two_token_separator_line left right end = codes "From " ++ (joined_by_spaces (left ∷ codes "at" ∷ right ∷ []) ++ end)
 
 -- a text, and the LF that ends a line
-abbrev pub ended : List ℕ → List ℕ
-ended text = text ++ codes "\n"
+abbrev pub with_lf : List ℕ → List ℕ
+with_lf text = text ++ codes "\n"
 
 -- a message as it is written: its separator line, its whole text, and an empty line
 abbrev pub written_item : Item → List ℕ
-written_item item = ended (heading item.envelope) ++ ended (whole item.text)
+written_item item = with_lf (separator_line_text item.envelope) ++ with_lf (whole item.text)
 
 -- the mbox (RFC 4155, appendix A) of these messages, in their order; no line of a text is quoted with `>`
 abbrev pub written : List Item → List ℕ
@@ -51,8 +51,8 @@ written [] = []
 written (item ∷ items) = written_item item ++ written items
 
 -- of some text exactly the first `count` bytes were written
-abbrev pub IsCutShort : List ℕ → List ℕ → List ℕ → ℕ → Type 0
-IsCutShort before after text count = (count ≤ length text) × (after ≡ before ++ take count text)
+abbrev pub AppendsPrefixOfText : List ℕ → List ℕ → List ℕ → ℕ → Type 0
+AppendsPrefixOfText before after text count = (count ≤ length text) × (after ≡ before ++ take count text)
 
 -- a message whose text is the whole text
 abbrev pub whole_item : Item → Item

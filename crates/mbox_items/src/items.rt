@@ -1,7 +1,7 @@
 //! A message of an mbox: an envelope and a text.
 ghost use Rattle.std.specs.Prelude.{◌≡◌, IfSome, IfNone};
 ghost use Rattle.mail_core.specs.Lines.{lines};
-ghost use Rattle.mbox_items.specs.Division.{NoneSeparates, is_whole, whole};
+ghost use Rattle.mbox_items.specs.Division.{NoneSeparates, is_empty_or_ends_in_lf, whole};
 
 use crate::parts::next_part;
 use crate::separators::Envelope;
@@ -23,13 +23,13 @@ pub struct Item<'a> {
 impl<'a> Model for Item<'a> {
     ghost use Rattle.std.specs.Prelude.{◌≡◌};
     ghost use Rattle.mail_core.specs.Lines.{lines};
-    ghost use Rattle.mbox_items.specs.Division.{Item as Message, NoneSeparates, is_whole, whole};
+    ghost use Rattle.mbox_items.specs.Division.{Item as Message, NoneSeparates, is_empty_or_ends_in_lf, whole};
 
     ghost Value = { Message };
 
     ghost view = { λ s. record { envelope = s.envelope; text = s.text.now } };
 
-    ghost invariant = { λ s. (s.complete ≡ is_whole s.text.now) × NoneSeparates (lines (whole s.text.now)) };
+    ghost invariant = { λ s. (s.complete ≡ is_empty_or_ends_in_lf s.text.now) × NoneSeparates (lines (whole s.text.now)) };
 }
 
 impl<'a> Item<'a> {
@@ -44,7 +44,7 @@ impl<'a> Item<'a> {
         if part.next.is_some() {
             return None;
         }
-        let complete = is_complete(text);
+        let complete = ends_with_newline(text);
         Some(Item {
             envelope,
             text,
@@ -54,8 +54,8 @@ impl<'a> Item<'a> {
 }
 
 /// Whether the whole text adds no LF.
-pub fn is_complete(text: &[u8]) -> bool
-    ensures { result ≡ is_whole text.now }
+pub fn ends_with_newline(text: &[u8]) -> bool
+    ensures { result ≡ is_empty_or_ends_in_lf text.now }
 {
     text.is_empty() || text[text.len() - 1] == b'\n'
 }

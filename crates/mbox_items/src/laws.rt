@@ -3,7 +3,7 @@
 ghost use Rattle.std.specs.Prelude.{◌≡◌, ℕ, List, true};
 ghost use Rattle.mbox_items.specs.Separator.{Envelope, IsSeparator};
 ghost use Rattle.mail_core.specs.Lines.{lines};
-ghost use Rattle.mbox_items.specs.Division.{Item, NoneSeparates, is_whole, whole};
+ghost use Rattle.mbox_items.specs.Division.{Item, NoneSeparates, is_empty_or_ends_in_lf, whole};
 ghost use Rattle.mbox_items.specs.Written.{IsItem, whole_item};
 
 /// No content of a line says two envelopes.
@@ -13,7 +13,7 @@ pub fn one_envelope()
 
 /// A whole text is empty or ends in LF, and so it is its own whole text.
 pub fn whole_is_whole()
-    ensures whole { (text : List ℕ) → is_whole (whole text) ≡ true }
+    ensures whole { (text : List ℕ) → is_empty_or_ends_in_lf (whole text) ≡ true }
     ensures once { (text : List ℕ) → whole (whole text) ≡ whole text }
 {}
 

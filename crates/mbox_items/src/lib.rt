@@ -5,10 +5,10 @@
 //! the contracts of `laws`.
 #![tactic(auto)]
 
-pub use items::{Item, is_complete};
-pub use lines::last_line;
+pub use items::{Item, ends_with_newline};
+pub use lines::last_line_start;
 pub use owned::{OwnedItem, written_sender};
-pub use parts::{Part, next_part};
+pub use parts::{TextAndRest, next_part};
 pub use senders::Sender;
 pub use separators::{Envelope, separator};
 

@@ -5,7 +5,7 @@ ghost use Rattle.mail_core.specs.Lines.{lines};
 use memchr::memrchr;
 
 /// Where the last line begins.
-pub fn last_line(bytes: &[u8]) -> usize
+pub fn last_line_start(bytes: &[u8]) -> usize
     requires { 0 < length bytes.now }
     ensures within { result < length bytes.now }
     ensures cuts { lines bytes.now ≡ lines (take result bytes.now) ++ drop result bytes.now ∷ [] }

@@ -23,13 +23,13 @@ impl Model for OwnedItem {
     ghost use Rattle.civil_time.specs.Calendar.{is_instant};
     ghost use Rattle.mail_core.specs.Lines.{lines};
     ghost use Rattle.mbox_items.specs.Separator.{IsSenderText};
-    ghost use Rattle.mbox_items.specs.Division.{Item as Message, NoneSeparates, is_whole, whole};
+    ghost use Rattle.mbox_items.specs.Division.{Item as Message, NoneSeparates, is_empty_or_ends_in_lf, whole};
 
     ghost Value = { Message };
 
     ghost view = { λ s. record { envelope = record { sender = s.sender.items; arrival = s.arrival }; text = s.text.items } };
 
-    ghost invariant = { λ s. IsSenderText s.sender.items × (is_instant s.arrival ≡ true) × (s.complete ≡ is_whole s.text.items) × NoneSeparates (lines (whole s.text.items)) };
+    ghost invariant = { λ s. IsSenderText s.sender.items × (is_instant s.arrival ≡ true) × (s.complete ≡ is_empty_or_ends_in_lf s.text.items) × NoneSeparates (lines (whole s.text.items)) };
 }
 
 impl OwnedItem {

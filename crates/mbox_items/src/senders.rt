@@ -1,6 +1,6 @@
 //! Senders that a separator line can name (RFC 4155, appendix A).
 ghost use Rattle.std.specs.Prelude.{◌≡◌, ◌∷◌, [], ℕ, List, true, IfSome, IfNone, codes};
-ghost use Rattle.mbox_items.specs.Separator.{IsSenderText, is_sender_token as sender_test, spaced};
+ghost use Rattle.mbox_items.specs.Separator.{IsSenderText, is_sender_token as sender_test, joined_by_spaces};
 ghost use Rattle.mbox_items.specs.Senders.{IsSender, sender_text};
 
 use crate::tokens::is_sender_token;
@@ -31,9 +31,9 @@ impl<'a> Sender<'a> {
 /// The two tokens of a text that has ` at ` between them.
 fn tokens_around_at<'a>(text: &'a [u8]) -> Option<(&'a [u8], &'a [u8])>
     ensures some { IfSome result (λ p. (sender_test p.0.now ≡ true) × (sender_test p.1.now ≡ true)
-        × (text.entry.now ≡ spaced (p.0.now ∷ codes "at" ∷ p.1.now ∷ []))) }
+        × (text.entry.now ≡ joined_by_spaces (p.0.now ∷ codes "at" ∷ p.1.now ∷ []))) }
     ensures none { IfNone result ((left right : List ℕ) → sender_test left ≡ true → sender_test right ≡ true
-        → ¬ (text.entry.now ≡ spaced (left ∷ codes "at" ∷ right ∷ []))) }
+        → ¬ (text.entry.now ≡ joined_by_spaces (left ∷ codes "at" ∷ right ∷ []))) }
 {
     let (left, rest) = text.split_at(memchr(b' ', text)?);
     let right = rest.strip_prefix(b" at ")?;

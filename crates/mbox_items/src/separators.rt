@@ -1,11 +1,11 @@
 //! Separator lines, `From `, a sender and a time (RFC 4155, appendix A).
 ghost use Rattle.std.specs.Prelude.{◌≡◌, ◌∷◌, ◌<◌, ◌≤◌, [], length, Some, None, IfSome, IfNone};
-ghost use Rattle.mbox_items.specs.Separator.{tokens, separator_of, envelope_of, arrival_of, sent_by_one, sent_by_two, IsSeparator, Envelope as Said};
+ghost use Rattle.mbox_items.specs.Separator.{tokens, separator_of, envelope_of, arrival_of, envelope_of_one_token, envelope_of_two_tokens, IsSeparator, Envelope as Said};
 
 use crate::senders::Sender;
 use crate::tokens::{first_token, is_sender_token, read_clock, read_day, read_instant, read_year};
 use civil_time::calendar::day_number;
-use civil_time::names::{names_weekday, read_month};
+use civil_time::names::{is_weekday_name, read_month};
 use civil_time::{Instant, zone};
 use std::marker::Model;
 
@@ -44,7 +44,7 @@ fn read_arrival(
 ) -> Option<Instant>
     ensures { result ≡ arrival_of weekday.now month_name.now day_text.now time_text.now offset year_text.now }
 {
-    if !names_weekday(weekday) {
+    if !is_weekday_name(weekday) {
         return None;
     }
     let month = read_month(month_name)?;
@@ -57,9 +57,9 @@ fn read_arrival(
 }
 
 /// What a sender of one token and an arrival say.
-#[tactic(auto, unfolding(crate::specs::Separator::sent_by_one))]
+#[tactic(auto, unfolding(crate::specs::Separator::envelope_of_one_token))]
 fn by_one<'a>(token: &'a [u8], when: Option<Instant>) -> Option<Envelope<'a>>
-    ensures { result ≡ sent_by_one token.entry.now when }
+    ensures { result ≡ envelope_of_one_token token.entry.now when }
 {
     if !is_sender_token(token) {
         return None;
@@ -72,14 +72,14 @@ fn by_one<'a>(token: &'a [u8], when: Option<Instant>) -> Option<Envelope<'a>>
 }
 
 /// What a sender of two tokens, with this word between them, and an arrival say.
-#[tactic(auto, unfolding(crate::specs::Separator::sent_by_two))]
+#[tactic(auto, unfolding(crate::specs::Separator::envelope_of_two_tokens))]
 fn by_two<'a>(
     left: &'a [u8],
     word: &[u8],
     right: &'a [u8],
     when: Option<Instant>,
 ) -> Option<Envelope<'a>>
-    ensures { result ≡ sent_by_two left.entry.now word.now right.entry.now when }
+    ensures { result ≡ envelope_of_two_tokens left.entry.now word.now right.entry.now when }
 {
     if !is_sender_token(left) {
         return None;

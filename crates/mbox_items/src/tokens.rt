@@ -1,6 +1,7 @@
 //! The tokens of a separator line.
 ghost use Rattle.std.specs.Prelude.{◌≡◌, ◌∷◌, ◌<◌, [], MatchOption, IfSome};
-ghost use Rattle.mbox_items.specs.Separator.{tokens, is_sender_token as sender_test, day_of, clock_of, second_of, year_of, two_at, instant_of};
+ghost use Rattle.mbox_items.specs.Separator.{tokens, is_sender_token as sender_test, parsed_day_of_month, parsed_time_of_day};
+ghost use Rattle.mbox_items.specs.Separator.{parsed_seconds_part, parsed_four_digit_year, two_digit_number_at, instant_of_local_time};
 
 use civil_time::Instant;
 use civil_time::clocks::seconds_of_day;
@@ -30,7 +31,7 @@ pub(crate) fn first_token<'a>(text: &'a [u8]) -> Option<(&'a [u8], &'a [u8])>
 /// The number that two digits write at this place.
 fn two_digits_at(text: &[u8], at: usize) -> Option<u8>
     requires { at < 100 }
-    ensures { result ≡ two_at text.now at }
+    ensures { result ≡ two_digit_number_at text.now at }
 {
     if at + 1 >= text.len() {
         return None;
@@ -39,16 +40,16 @@ fn two_digits_at(text: &[u8], at: usize) -> Option<u8>
 }
 
 /// A day of one or two digits.
-#[tactic(auto, unfolding(crate::specs::Separator::day_of))]
+#[tactic(auto, unfolding(crate::specs::Separator::parsed_day_of_month))]
 pub(crate) fn read_day(text: &[u8]) -> Option<u8>
-    ensures { result ≡ day_of text.now }
+    ensures { result ≡ parsed_day_of_month text.now }
 {
     read_one_or_two(text)
 }
 
 /// The seconds of a time, 0 where it has none.
 fn read_second(text: &[u8]) -> Option<u8>
-    ensures { result ≡ second_of text.now }
+    ensures { result ≡ parsed_seconds_part text.now }
 {
     if text.len() == 5 {
         Some(0)
@@ -60,9 +61,9 @@ fn read_second(text: &[u8]) -> Option<u8>
 }
 
 /// A time of day, in seconds.
-#[tactic(auto, unfolding(crate::specs::Separator::clock_of))]
+#[tactic(auto, unfolding(crate::specs::Separator::parsed_time_of_day))]
 pub(crate) fn read_clock(text: &[u8]) -> Option<u32>
-    ensures value { result ≡ clock_of text.now }
+    ensures value { result ≡ parsed_time_of_day text.now }
     ensures bound { IfSome result (λ n. n < 86400) }
 {
     let hour = two_digits_at(text, 0)?;
@@ -75,9 +76,9 @@ pub(crate) fn read_clock(text: &[u8]) -> Option<u32>
 }
 
 /// A year of four digits.
-#[tactic(auto, unfolding(crate::specs::Separator::year_of))]
+#[tactic(auto, unfolding(crate::specs::Separator::parsed_four_digit_year))]
 pub(crate) fn read_year(text: &[u8]) -> Option<u16>
-    ensures { result ≡ year_of text.now }
+    ensures { result ≡ parsed_four_digit_year text.now }
 {
     read_four(text)
 }
@@ -90,10 +91,10 @@ pub(crate) fn is_sender_token(text: &[u8]) -> bool
 }
 
 /// The instant at which it is so many seconds after a day begins, so many seconds east of UTC.
-#[tactic(auto, unfolding(crate::specs::Separator::instant_of))]
+#[tactic(auto, unfolding(crate::specs::Separator::instant_of_local_time))]
 pub(crate) fn read_instant(day: i32, seconds: u32, east: i32) -> Option<Instant>
     requires { seconds < 86400 }
-    ensures { result ≡ instant_of day seconds east }
+    ensures { result ≡ instant_of_local_time day seconds east }
 {
     Instant::new(day as i64 * 86400 + seconds as i64 - east as i64)
 }

@@ -5,14 +5,15 @@ use Rattle.std.proofs.lemmas.List.{take-append-drop, drop-drop}
 use Rattle.std.specs.List.{concat, AllByRecursion}
 use Rattle.mail_core.specs.Lines.{lines, content}
 use Rattle.mbox_core.specs.Separator.{Envelope, separator_of}
-use Rattle.mbox_core.specs.Division.{Item, IsBlank, NoneSeparates, EndsUnblank, IsPreamble, Divides, items_of, items_after, items_in, text_in, split_lines, with_item}
+use Rattle.mbox_core.specs.Division.{Item, IsBlankLine, NoneSeparates, EndsUnblank, IsPreamble, DividesIntoItems}
+use Rattle.mbox_core.specs.Division.{items_of, items_after_separator, items_from_separator, text_before_separator, front_and_items_of_lines, with_new_item}
 use Rattle.mbox_items.proofs.LineLemmas.{lines-nil, concat-lines}
 use Rattle.mbox_items.proofs.SplitLemmas.{one, split-quiet, split-some, quiet_blanks, last_blanks, with_lines}
-use Rattle.mbox_stream.specs.Stream.{IsBeginning, settled_bytes, all_blank, unless_preamble, file_items, all_but_last, settled_items, IsSettledPreamble, IsCounted}
+use Rattle.mbox_stream.specs.Stream.{IsBeginning, settled_bytes, all_blank, items_unless_preamble, file_items, all_but_last, settled_items, IsSettledPreamble, IsOffsetUnlessOverflow}
 use Rattle.memchr.specs.Find.{OccursAt}
 use Rattle.mbox_core.proofs.DivisionLaws.{not_both, front_divides}
-use Rattle.mbox_stream.specs.Window.{IsWhole, mark, IsWindow, IsLooked, IsNext, IsUnopened, IsPassed, IsOpening}
-use Rattle.mbox_stream.specs.Kept.{IsKept, IsSettled}
+use Rattle.mbox_stream.specs.Window.{HoldsWholeLines, lf_and_from, IsOpenMessageWindow, IsSearchedUpTo, CutsAtFirstSeparator, IsBeforeFirstMessage, SkipsBlankLinesTo, OpensFirstMessage}
+use Rattle.mbox_stream.specs.Kept.{IsWindowAtPlace, HoldsNoSettledItem}
 use Rattle.mbox_stream.specs.declared.window.Place.{Place}
 use Rattle.mbox_stream.specs.declared.window.Place.TheVariants.{Front, Message}
 use Rattle.mbox_stream.proofs.WindowLemmas.{settled_nil, settled_append, ended_whole, whole_append, window_cut, window_fed, window_end, window_settled, window_sound, settled_front, settled_same}
@@ -21,7 +22,7 @@ use Rattle.mbox_stream.proofs.StreamLaws.{all_blank_is, is_all_blank, file_items
 
 -- ---- while a message is open
 
-pub looked_start : (bytes : List ℕ) → IsLooked bytes 0
+pub looked_start : (bytes : List ℕ) → IsSearchedUpTo bytes 0
 looked_start bytes =
     let N : List (List ℕ) → Type 0 = λ x. NoneSeparates x in
     let E : List (List ℕ) → Type 0 = λ x. EndsUnblank x in
@@ -39,18 +40,18 @@ looked_start bytes =
 
 -- one message is cut off
 pub window_next : (e next : Envelope) (stream bytes text : List ℕ) (start len : ℕ) (taken waiting : List Item)
-    → IsWindow e stream (drop start bytes) (taken ++ waiting) → IsNext (drop start bytes) len text next
-    → IsWindow next stream (drop (start + len) bytes) (taken ++ (waiting ++ one e text ∷ []))
+    → IsOpenMessageWindow e stream (drop start bytes) (taken ++ waiting) → CutsAtFirstSeparator (drop start bytes) len text next
+    → IsOpenMessageWindow next stream (drop (start + len) bytes) (taken ++ (waiting ++ one e text ∷ []))
 window_next e next stream bytes text start len taken waiting w n =
     let rest = drop start bytes in
-    let P : List ℕ → Type 0 = λ x. IsWindow e stream x (taken ++ waiting) in
-    let D : List ℕ → Type 0 = λ x. IsWindow next stream x (taken ++ (waiting ++ one e text ∷ [])) in
-    let I : List Item → Type 0 = λ x. IsWindow next stream (drop len rest) x in
+    let P : List ℕ → Type 0 = λ x. IsOpenMessageWindow e stream x (taken ++ waiting) in
+    let D : List ℕ → Type 0 = λ x. IsOpenMessageWindow next stream x (taken ++ (waiting ++ one e text ∷ [])) in
+    let I : List Item → Type 0 = λ x. IsOpenMessageWindow next stream (drop len rest) x in
     let parted = subst P (sym (take-append-drop len rest)) w in
     let cut = window_cut e next stream (take len rest) (drop len rest) (taken ++ waiting) (one e text) parted (n.cut e) in
     subst D (drop-drop len start bytes) (subst I (append_assoc taken waiting (one e text ∷ [])) cut)
 
-pub start_next : (bytes text : List ℕ) (start len : ℕ) (next : Envelope) → start ≤ length bytes → IsNext (drop start bytes) len text next → start + len ≤ length bytes
+pub start_next : (bytes text : List ℕ) (start len : ℕ) (next : Envelope) → start ≤ length bytes → CutsAtFirstSeparator (drop start bytes) len text next → start + len ≤ length bytes
 start_next bytes text start len next low n = omega (arith, low, n.high, length-drop start bytes)
 
 pub begin_more : (a b : List Item) (i : Item) → IsBeginning a b → IsBeginning a (b ++ i ∷ [])
@@ -66,15 +67,15 @@ all_but (j ∷ []) i js = refl
 all_but (j ∷ k ∷ is) i js = ap (λ x. j ∷ x) (all_but (k ∷ is) i js)
 
 -- the items given are settled
-pub window_begin : (e : Envelope) (stream window : List ℕ) (items : List Item) → IsWindow e stream window items → IsBeginning items (settled_items stream)
+pub window_begin : (e : Envelope) (stream window : List ℕ) (items : List Item) → IsOpenMessageWindow e stream window items → IsBeginning items (settled_items stream)
 window_begin e stream window items w =
-    let i : Item = one e (text_in (settled_bytes window)) in
+    let i : Item = one e (text_before_separator (settled_bytes window)) in
     let whole : settled_bytes stream ≡ w.gone ++ settled_bytes window = ap settled_bytes w.parts ∙ settled_append w.gone window w.whole in (
-      all_but_last (i ∷ items_in (settled_bytes window)),
-      ap (λ x. all_but_last (file_items x)) whole ∙ ap all_but_last (w.later (settled_bytes window)) ∙ all_but items i (items_in (settled_bytes window)),
+      all_but_last (i ∷ items_from_separator (settled_bytes window)),
+      ap (λ x. all_but_last (file_items x)) whole ∙ ap all_but_last (w.later (settled_bytes window)) ∙ all_but items i (items_from_separator (settled_bytes window)),
     )
 
-looked_fed : (bytes more : List ℕ) (from : ℕ) → IsLooked bytes from → IsLooked (bytes ++ more) from
+looked_fed : (bytes more : List ℕ) (from : ℕ) → IsSearchedUpTo bytes from → IsSearchedUpTo (bytes ++ more) from
 looked_fed bytes more from l = record {
   front = l.front;
   rest = l.rest ++ more;
@@ -85,27 +86,27 @@ looked_fed bytes more from l = record {
   low = l.low;
   high = omega (arith, l.high, length-append bytes more);
   unmarked = λ next k low lt o.
-      let O : List ℕ → Type 0 = λ x. OccursAt x mark k in
+      let O : List ℕ → Type 0 = λ x. OccursAt x lf_and_from k in
       l.unmarked (more ++ next) k low lt (subst O (append_assoc bytes more next) o);
 }
 
 -- ---- the front of a file
 
-lines_on : (a b : List ℕ) → IsWhole a → lines (a ++ b) ≡ lines a ++ lines b
+lines_on : (a b : List ℕ) → HoldsWholeLines a → lines (a ++ b) ≡ lines a ++ lines b
 lines_on a b w = ended_whole a w b
 
-all_append : (a b : List (List ℕ)) → AllByRecursion IsBlank a → AllByRecursion IsBlank b → AllByRecursion IsBlank (a ++ b)
+all_append : (a b : List (List ℕ)) → AllByRecursion IsBlankLine a → AllByRecursion IsBlankLine b → AllByRecursion IsBlankLine (a ++ b)
 all_append [] b h g = g
 all_append (l ∷ a) b h g = (h.0, all_append a b h.1 g)
 
-blanks_on : (a b : List ℕ) → IsWhole a → AllByRecursion IsBlank (lines a) → AllByRecursion IsBlank (lines b) → AllByRecursion IsBlank (lines (a ++ b))
-blanks_on a b w h g = subst (λ (x : List (List ℕ)). AllByRecursion IsBlank x) (sym (lines_on a b w)) (all_append (lines a) (lines b) h g)
+blanks_on : (a b : List ℕ) → HoldsWholeLines a → AllByRecursion IsBlankLine (lines a) → AllByRecursion IsBlankLine (lines b) → AllByRecursion IsBlankLine (lines (a ++ b))
+blanks_on a b w h g = subst (λ (x : List (List ℕ)). AllByRecursion IsBlankLine x) (sym (lines_on a b w)) (all_append (lines a) (lines b) h g)
 
 parted : (stream gone window : List ℕ) (at : ℕ) → stream ≡ gone ++ window → stream ≡ (gone ++ take at window) ++ drop at window
 parted stream gone window at e = e ∙ ap (λ x. gone ++ x) (sym (take-append-drop at window)) ∙ sym (append_assoc gone (take at window) (drop at window))
 
-pub front_passed : (stream window : List ℕ) (skipped at n : ℕ) → IsUnopened stream window skipped [] → IsPassed window at
-    → n ≡ min (skipped + at) 18446744073709551615 → IsUnopened stream (drop at window) n []
+pub front_passed : (stream window : List ℕ) (skipped at n : ℕ) → IsBeforeFirstMessage stream window skipped [] → SkipsBlankLinesTo window at
+    → n ≡ min (skipped + at) 18446744073709551615 → IsBeforeFirstMessage stream (drop at window) n []
 front_passed stream window skipped at n u p e = record {
   gone = u.gone ++ take at window;
   parts = parted stream u.gone window at u.parts;
@@ -118,24 +119,24 @@ front_passed stream window skipped at n u p e = record {
 }
 
 -- blank lines, a separator line, and what follows
-opens : (front line more : List ℕ) (e : Envelope) → IsWhole front → AllByRecursion IsBlank (lines front) → IsWhole line → lines line ≡ line ∷ []
-    → separator_of (content line) ≡ Some e → file_items ((front ++ line) ++ more) ≡ items_after (Some e) more
+opens : (front line more : List ℕ) (e : Envelope) → HoldsWholeLines front → AllByRecursion IsBlankLine (lines front) → HoldsWholeLines line → lines line ≡ line ∷ []
+    → separator_of (content line) ≡ Some e → file_items ((front ++ line) ++ more) ≡ items_after_separator (Some e) more
 opens front line more e w b v alone s =
     let bs = lines front in
     let are : lines ((front ++ line) ++ more) ≡ bs ++ line ∷ lines more =
     ap lines (append_assoc front line more) ∙ lines_on front (line ++ more) w ∙ ap (λ x. bs ++ x) (lines_on line more v ∙ ap (λ x. x ++ lines more) alone) in
-    let split : split_lines true (lines ((front ++ line) ++ more)) ≡ with_lines bs (with_item e (split_lines false (lines more))) =
-    ap (split_lines true) are ∙ split-quiet true bs (line ∷ lines more) (quiet_blanks true bs b)
-    ∙ ap (λ p. with_lines bs (split_lines p (line ∷ lines more))) (last_blanks bs b)
+    let split : front_and_items_of_lines true (lines ((front ++ line) ++ more)) ≡ with_lines bs (with_new_item e (front_and_items_of_lines false (lines more))) =
+    ap (front_and_items_of_lines true) are ∙ split-quiet true bs (line ∷ lines more) (quiet_blanks true bs b)
+    ∙ ap (λ p. with_lines bs (front_and_items_of_lines p (line ∷ lines more))) (last_blanks bs b)
     ∙ ap (with_lines bs) (split-some true line (lines more) e s) in
-    ap unless_preamble split ∙ if_blank (all_blank (bs ++ [])) (items_after (Some e) more) (ap all_blank (append-nil bs) ∙ all_blank_is bs b)
+    ap items_unless_preamble split ∙ if_blank (all_blank (bs ++ [])) (items_after_separator (Some e) more) (ap all_blank (append-nil bs) ∙ all_blank_is bs b)
   where
     if_blank : (t : Bool) (is : List Item) → t ≡ true → (if t then is else []) ≡ is
     if_blank true is h = refl
     if_blank false is h = absurd (cc)
 
-pub front_opened : (stream window : List ℕ) (skipped at : ℕ) (e : Envelope) → IsUnopened stream window skipped [] → IsOpening window at e
-    → IsWindow e stream (drop at window) []
+pub front_opened : (stream window : List ℕ) (skipped at : ℕ) (e : Envelope) → IsBeforeFirstMessage stream window skipped [] → OpensFirstMessage window at e
+    → IsOpenMessageWindow e stream (drop at window) []
 front_opened stream window skipped at e u o =
     let front = u.gone ++ o.blanks in
     let whole = whole_append u.gone o.blanks u.whole o.whole in
@@ -151,7 +152,7 @@ concat_append : (a b : List (List ℕ)) → concat (a ++ b) ≡ concat a ++ conc
 concat_append [] b = refl
 concat_append (l ∷ a) b = ap (λ x. l ++ x) (concat_append a b) ∙ sym (append_assoc l (concat a) (concat b))
 
-pub behind_blanks : (gone x : List ℕ) (at : ℕ) → IsWhole gone → AllByRecursion IsBlank (lines gone) → IsPreamble x at → IsPreamble (gone ++ x) (length gone + at)
+pub behind_blanks : (gone x : List ℕ) (at : ℕ) → HoldsWholeLines gone → AllByRecursion IsBlankLine (lines gone) → IsPreamble x at → IsPreamble (gone ++ x) (length gone + at)
 behind_blanks gone x at w b p = record {
   blanks = lines gone ++ p.blanks;
   line = p.line;
@@ -164,12 +165,12 @@ behind_blanks gone x at w b p = record {
       ∙ sym (length-append (concat (lines gone)) (concat p.blanks)) ∙ ap length (sym (concat_append (lines gone) p.blanks));
 }
 
-pub front_counted : (stream window : List ℕ) (skipped at n : ℕ) (items : List Item) (u : IsUnopened stream window skipped items) → at ≤ length window
-    → n ≡ min (skipped + at) 18446744073709551615 → IsCounted stream n (length u.gone + at)
+pub front_counted : (stream window : List ℕ) (skipped at n : ℕ) (items : List Item) (u : IsBeforeFirstMessage stream window skipped items) → at ≤ length window
+    → n ≡ min (skipped + at) 18446744073709551615 → IsOffsetUnlessOverflow stream n (length u.gone + at)
 front_counted stream window skipped at n items u low e fits =
     let c = u.counted fits in omega (arith, e, c, fits, ap length u.parts, length-append u.gone window, low)
 
-pub front_faulty : (stream window : List ℕ) (skipped at n : ℕ) → (u : IsUnopened stream window skipped []) → IsSettledPreamble window at
+pub front_faulty : (stream window : List ℕ) (skipped at n : ℕ) → (u : IsBeforeFirstMessage stream window skipped []) → IsSettledPreamble window at
     → IsSettledPreamble stream (length u.gone + at)
 front_faulty stream window skipped at n u p =
     let P : List ℕ → Type 0 = λ x. IsPreamble x (length u.gone + at) in
@@ -190,35 +191,35 @@ settled_within bytes at p =
 
 -- ---- what was given is what is settled
 
-pub unopened_given : (stream window : List ℕ) (skipped : ℕ) (items : List Item) → IsUnopened stream window skipped items → settled_bytes window ≡ [] → items ≡ settled_items stream
+pub unopened_given : (stream window : List ℕ) (skipped : ℕ) (items : List Item) → IsBeforeFirstMessage stream window skipped items → settled_bytes window ≡ [] → items ≡ settled_items stream
 unfolding all_but_last
 unopened_given stream window skipped items u n =
     let whole : settled_bytes stream ≡ u.gone = ap settled_bytes u.parts ∙ settled_front u.gone window u.whole n in
     u.none ∙ sym (ap (λ x. all_but_last (file_items x)) whole ∙ ap all_but_last (blank_none u.gone u.blank))
   where
-    blank_none : (gone : List ℕ) → AllByRecursion IsBlank (lines gone) → file_items gone ≡ []
+    blank_none : (gone : List ℕ) → AllByRecursion IsBlankLine (lines gone) → file_items gone ≡ []
     blank_none gone b =
-        let d : Divides gone [] = (lines gone, [], sym (append-nil (lines gone)), b, refl) in
+        let d : DividesIntoItems gone [] = (lines gone, [], sym (append-nil (lines gone)), b, refl) in
         file_items_divide gone [] d
 
-pub unopened_sound : (stream window : List ℕ) (skipped : ℕ) (items : List Item) → IsUnopened stream window skipped items → settled_bytes window ≡ []
+pub unopened_sound : (stream window : List ℕ) (skipped : ℕ) (items : List Item) → IsBeforeFirstMessage stream window skipped items → settled_bytes window ≡ []
     → (offset : ℕ) → ¬ IsSettledPreamble stream offset
 unopened_sound stream window skipped items u n offset p =
     let whole : settled_bytes stream ≡ u.gone = ap settled_bytes u.parts ∙ settled_front u.gone window u.whole n in
     let P : List ℕ → Type 0 = λ x. IsPreamble x offset in
-    let d : Divides u.gone [] = (lines u.gone, [], sym (append-nil (lines u.gone)), u.blank, refl) in
+    let d : DividesIntoItems u.gone [] = (lines u.gone, [], sym (append-nil (lines u.gone)), u.blank, refl) in
     not_both u.gone offset [] (subst P whole p) d
 
-pub kept_given : (place : Place) (window stream : List ℕ) (items : List Item) → IsKept place window stream items → IsSettled place window → items ≡ settled_items stream
+pub kept_given : (place : Place) (window stream : List ℕ) (items : List Item) → IsWindowAtPlace place window stream items → HoldsNoSettledItem place window → items ≡ settled_items stream
 kept_given (Front skipped) window stream items k s = unopened_given stream window skipped items k s
 kept_given (Message head from) window stream items k s = window_settled head.envelope stream window items k.0 s
 
-pub kept_sound : (place : Place) (window stream : List ℕ) (items : List Item) → IsKept place window stream items → IsSettled place window
+pub kept_sound : (place : Place) (window stream : List ℕ) (items : List Item) → IsWindowAtPlace place window stream items → HoldsNoSettledItem place window
     → (offset : ℕ) → ¬ IsSettledPreamble stream offset
 kept_sound (Front skipped) window stream items k s = unopened_sound stream window skipped items k s
 kept_sound (Message head from) window stream items k s = window_sound head.envelope stream window items k.0
 
-pub kept_fed : (place : Place) (window stream piece : List ℕ) (items : List Item) → IsKept place window stream items → IsKept place (window ++ piece) (stream ++ piece) items
+pub kept_fed : (place : Place) (window stream piece : List ℕ) (items : List Item) → IsWindowAtPlace place window stream items → IsWindowAtPlace place (window ++ piece) (stream ++ piece) items
 kept_fed (Front skipped) window stream piece items u = record {
   gone = u.gone;
   parts = ap (λ x. x ++ piece) u.parts ∙ append_assoc u.gone window piece;
@@ -229,33 +230,33 @@ kept_fed (Front skipped) window stream piece items u = record {
 }
 kept_fed (Message head from) window stream piece items k = (window_fed head.envelope stream window piece items k.0, looked_fed window piece from k.1)
 
-pub settled_fed : (place : Place) (window piece : List ℕ) → settled_bytes piece ≡ [] → IsSettled place window → IsSettled place (window ++ piece)
+pub settled_fed : (place : Place) (window piece : List ℕ) → settled_bytes piece ≡ [] → HoldsNoSettledItem place window → HoldsNoSettledItem place (window ++ piece)
 settled_fed (Front skipped) window piece n s = settled_same window piece n ∙ s
-settled_fed (Message head from) window piece n s = ap items_in (settled_same window piece n) ∙ s
+settled_fed (Message head from) window piece n s = ap items_from_separator (settled_same window piece n) ∙ s
 
-pub kept_short : (place : Place) (window stream before piece : List ℕ) (items : List Item) → stream ≡ before ++ piece → IsKept place window before items
-    → IsSettled place window → IsBeginning items (settled_items stream)
+pub kept_short : (place : Place) (window stream before piece : List ℕ) (items : List Item) → stream ≡ before ++ piece → IsWindowAtPlace place window before items
+    → HoldsNoSettledItem place window → IsBeginning items (settled_items stream)
 kept_short place window stream before piece items e k s =
     let B : List Item → Type 0 = λ x. IsBeginning x (settled_items (before ++ piece)) in
     let S : List ℕ → Type 0 = λ x. IsBeginning items (settled_items x) in
     subst S (sym e) (subst B (sym (kept_given place window before items k s)) (settled_grow before piece))
 
 pub kept_on : (place : Place) (window longer stream before piece : List ℕ) (items : List Item) → stream ≡ before ++ piece → longer ≡ window ++ piece
-    → IsKept place window before items → IsKept place longer stream items
+    → IsWindowAtPlace place window before items → IsWindowAtPlace place longer stream items
 kept_on place window longer stream before piece items e l k =
-    let S : List ℕ → Type 0 = λ x. IsKept place (window ++ piece) x items in
-    let W : List ℕ → Type 0 = λ x. IsKept place x stream items in
+    let S : List ℕ → Type 0 = λ x. IsWindowAtPlace place (window ++ piece) x items in
+    let W : List ℕ → Type 0 = λ x. IsWindowAtPlace place x stream items in
     subst W (sym l) (subst S (sym e) (kept_fed place window before piece items k))
 
-pub settled_on : (place : Place) (window longer piece : List ℕ) → longer ≡ window ++ piece → settled_bytes piece ≡ [] → IsSettled place window → IsSettled place longer
+pub settled_on : (place : Place) (window longer piece : List ℕ) → longer ≡ window ++ piece → settled_bytes piece ≡ [] → HoldsNoSettledItem place window → HoldsNoSettledItem place longer
 settled_on place window longer piece l n s =
-    let W : List ℕ → Type 0 = λ x. IsSettled place x in subst W (sym l) (settled_fed place window piece n s)
+    let W : List ℕ → Type 0 = λ x. HoldsNoSettledItem place x in subst W (sym l) (settled_fed place window piece n s)
 
 -- ---- at the end
 
 -- items are those of a division
-divided : (bytes : List ℕ) (i : Item) (is js : List Item) → file_items bytes ≡ is ++ i ∷ js → Divides bytes (is ++ i ∷ js)
-divided bytes i is js e = cases (all_blank (split_lines true (lines bytes)).front) refl
+divided : (bytes : List ℕ) (i : Item) (is js : List Item) → file_items bytes ≡ is ++ i ∷ js → DividesIntoItems bytes (is ++ i ∷ js)
+divided bytes i is js e = cases (all_blank (front_and_items_of_lines true (lines bytes)).front) refl
   where
     none_some : (is : List Item) → [] ≡ is ++ i ∷ js → ⊥
     none_some [] h = absurd (cc)
@@ -269,32 +270,32 @@ divided bytes i is js e = cases (all_blank (split_lines true (lines bytes)).fron
     unless true x h = absurd (cc)
     unless false x h = refl
 
-    cases : (t : Bool) → all_blank (split_lines true (lines bytes)).front ≡ t → Divides bytes (is ++ i ∷ js)
+    cases : (t : Bool) → all_blank (front_and_items_of_lines true (lines bytes)).front ≡ t → DividesIntoItems bytes (is ++ i ∷ js)
     cases true h =
-        let D : List Item → Type 0 = λ x. Divides bytes x in
-        let same : items_of bytes ≡ is ++ i ∷ js = sym (if_blank (all_blank (split_lines true (lines bytes)).front) (items_of bytes) h) ∙ e in
-        subst D same (front_divides bytes (is_all_blank (split_lines true (lines bytes)).front h))
-    cases false h = absurd (none_some is (sym (unless (all_blank (split_lines true (lines bytes)).front) (items_of bytes) h) ∙ e))
+        let D : List Item → Type 0 = λ x. DividesIntoItems bytes x in
+        let same : items_of bytes ≡ is ++ i ∷ js = sym (if_blank (all_blank (front_and_items_of_lines true (lines bytes)).front) (items_of bytes) h) ∙ e in
+        subst D same (front_divides bytes (is_all_blank (front_and_items_of_lines true (lines bytes)).front h))
+    cases false h = absurd (none_some is (sym (unless (all_blank (front_and_items_of_lines true (lines bytes)).front) (items_of bytes) h) ∙ e))
 
-pub message_end : (e : Envelope) (stream window : List ℕ) (taken waiting last : List Item) → IsWindow e stream window (taken ++ waiting)
-    → last ≡ items_after (Some e) window → Divides stream (taken ++ (waiting ++ last))
+pub message_end : (e : Envelope) (stream window : List ℕ) (taken waiting last : List Item) → IsOpenMessageWindow e stream window (taken ++ waiting)
+    → last ≡ items_after_separator (Some e) window → DividesIntoItems stream (taken ++ (waiting ++ last))
 message_end e stream window taken waiting last w same =
-    let i : Item = one e (text_in window) in
-    let d = divided stream i (taken ++ waiting) (items_in window) (window_end e stream window (taken ++ waiting) w) in
-    let D : List Item → Type 0 = λ x. Divides stream x in
-    subst D (append_assoc taken waiting (items_after (Some e) window) ∙ ap (λ x. taken ++ (waiting ++ x)) (sym same)) d
+    let i : Item = one e (text_before_separator window) in
+    let d = divided stream i (taken ++ waiting) (items_from_separator window) (window_end e stream window (taken ++ waiting) w) in
+    let D : List Item → Type 0 = λ x. DividesIntoItems stream x in
+    subst D (append_assoc taken waiting (items_after_separator (Some e) window) ∙ ap (λ x. taken ++ (waiting ++ x)) (sym same)) d
 
-pub front_end : (stream window : List ℕ) (skipped : ℕ) (taken waiting last : List Item) → IsUnopened stream window skipped (taken ++ waiting)
-    → Divides window last → Divides stream (taken ++ (waiting ++ last))
+pub front_end : (stream window : List ℕ) (skipped : ℕ) (taken waiting last : List Item) → IsBeforeFirstMessage stream window skipped (taken ++ waiting)
+    → DividesIntoItems window last → DividesIntoItems stream (taken ++ (waiting ++ last))
 front_end stream window skipped taken waiting last u (blanks, rest, e, b, blocks) =
-    let D : List Item → Type 0 = λ x. Divides stream x in
+    let D : List Item → Type 0 = λ x. DividesIntoItems stream x in
     let same : last ≡ taken ++ (waiting ++ last) = ap (λ x. x ++ last) (sym u.none) ∙ append_assoc taken waiting last in
     let are : lines stream ≡ (lines u.gone ++ blanks) ++ rest =
     ap lines u.parts ∙ lines_on u.gone window u.whole ∙ ap (λ x. lines u.gone ++ x) e ∙ sym (append_assoc (lines u.gone) blanks rest) in
     subst D same (lines u.gone ++ blanks, rest, are, all_append (lines u.gone) blanks u.blank b, blocks)
 
-pub front_end_faulty : (stream window : List ℕ) (skipped at n : ℕ) (items : List Item) → (u : IsUnopened stream window skipped items) → IsPreamble window at
-    → n ≡ min (skipped + at) 18446744073709551615 → (offset : ℕ) × IsPreamble stream offset × IsCounted stream n offset
+pub front_end_faulty : (stream window : List ℕ) (skipped at n : ℕ) (items : List Item) → (u : IsBeforeFirstMessage stream window skipped items) → IsPreamble window at
+    → n ≡ min (skipped + at) 18446744073709551615 → (offset : ℕ) × IsPreamble stream offset × IsOffsetUnlessOverflow stream n offset
 front_end_faulty stream window skipped at n items u p e =
     let P : List ℕ → Type 0 = λ x. IsPreamble x (length u.gone + at) in (
       length u.gone + at,
@@ -306,12 +307,12 @@ pub faulty_none : (stream : List ℕ) (offset : ℕ) → IsSettledPreamble strea
 faulty_none stream offset p = settled_none stream [] offset (settled_preamble stream [] offset p)
 
 -- of no bytes nothing is given
-pub unopened_nothing : (stream window : List ℕ) (items : List Item) → stream ≡ [] → window ≡ [] → items ≡ [] → IsUnopened stream window 0 items
+pub unopened_nothing : (stream window : List ℕ) (items : List Item) → stream ≡ [] → window ≡ [] → items ≡ [] → IsBeforeFirstMessage stream window 0 items
 unopened_nothing stream window items s w i = record {
   gone = [];
   parts = s ∙ sym w;
   whole = settled_nil;
-  blank = subst (λ (x : List (List ℕ)). AllByRecursion IsBlank x) (sym lines-nil) tt;
+  blank = subst (λ (x : List (List ℕ)). AllByRecursion IsBlankLine x) (sym lines-nil) tt;
   counted = λ fits. refl;
   none = i;
 }

@@ -2,8 +2,8 @@
 use Rattle.std.proofs.Common.{◌≡◌, ◌≢◌, ℕ, Bool, true, false, ◌==◌, List, [], ◌∷◌, ◌++◌, refl, ap, ◌∙◌, sym, if◌then◌else◌, Option, Some, None, append_assoc, append-nil, inl, inr, ◌⊎◌, subst}
 use Rattle.mail_core.specs.Lines.{lines, onto_first_line}
 use Rattle.mbox_core.specs.Separator.{Envelope}
-use Rattle.mbox_core.specs.Division.{Item, Split, is_blank, with_line, with_item, split_lines, body}
-use Rattle.mbox_stream.specs.Stream.{IsBeginning, before_some, settled_bytes, all_blank, unless_preamble, all_but_last}
+use Rattle.mbox_core.specs.Division.{Item, FrontAndItems, is_blank_line, with_front_line, with_new_item, front_and_items_of_lines, item_text_of_lines}
+use Rattle.mbox_stream.specs.Stream.{IsBeginning, byte_before_nonempty, settled_bytes, all_blank, items_unless_preamble, all_but_last}
 use Rattle.mbox_items.proofs.LineLemmas.{lines-nil}
 use Rattle.mbox_items.proofs.SplitLemmas.{heads, split-nil, split-none, split-some, one}
 
@@ -26,13 +26,13 @@ begin_trans a b c (r, e) (s, f) = (r ++ s, f ∙ ap (λ l. l ++ s) e ∙ append_
 
 -- ---- more lines leave all items but the last as they are
 
-pub record Grown (s t : Split) : Type 0 where
+pub record Grown (s t : FrontAndItems) : Type 0 where
   pub more : List (List ℕ)
   pub front : t.front ≡ s.front ++ more
   pub items : IsBeginning (all_but_last s.items) (all_but_last t.items)
   pub kept : (s.items ≡ []) ⊎ ((t.front ≡ s.front) × (t.items ≢ []))
 
-grown_line : (l : List ℕ) (s t : Split) → Grown s t → Grown (with_line l s) (with_line l t)
+grown_line : (l : List ℕ) (s t : FrontAndItems) → Grown s t → Grown (with_front_line l s) (with_front_line l t)
 grown_line l s t g = record {
   more = g.more;
   front = ap (λ ls. l ∷ ls) g.front;
@@ -56,46 +56,46 @@ begin_some i is [] n b = absurd (n refl)
 begin_some i [] (y ∷ js) n b = begin_nil (i ∷ all_but_last (y ∷ js))
 begin_some i (x ∷ is) (y ∷ js) n b = begin_cons i (all_but_last (x ∷ is)) (all_but_last (y ∷ js)) b
 
-grown_item : (e : Envelope) (s t : Split) → Grown s t → Grown (with_item e s) (with_item e t)
+grown_item : (e : Envelope) (s t : FrontAndItems) → Grown s t → Grown (with_new_item e s) (with_new_item e t)
 grown_item e s t g = record {
   more = [];
   front = refl;
   items = cases g.kept;
-  kept = inr (refl, λ (h : one e (body t.front) ∷ t.items ≡ []). absurd (cc));
+  kept = inr (refl, λ (h : one e (item_text_of_lines t.front) ∷ t.items ≡ []). absurd (cc));
 }
   where
     cases : (s.items ≡ []) ⊎ ((t.front ≡ s.front) × (t.items ≢ []))
-        → IsBeginning (all_but_last (one e (body s.front) ∷ s.items)) (all_but_last (one e (body t.front) ∷ t.items))
-    cases (inl h) = begin_none (one e (body s.front)) s.items (all_but_last (one e (body t.front) ∷ t.items)) h
+        → IsBeginning (all_but_last (one e (item_text_of_lines s.front) ∷ s.items)) (all_but_last (one e (item_text_of_lines t.front) ∷ t.items))
+    cases (inl h) = begin_none (one e (item_text_of_lines s.front)) s.items (all_but_last (one e (item_text_of_lines t.front) ∷ t.items)) h
     cases (inr (h, n)) =
-        subst (λ (f : List (List ℕ)). IsBeginning (all_but_last (one e (body s.front) ∷ s.items)) (all_but_last (one e (body f) ∷ t.items))) (sym h)
-        (begin_some (one e (body s.front)) s.items t.items n g.items)
+        subst (λ (f : List (List ℕ)). IsBeginning (all_but_last (one e (item_text_of_lines s.front) ∷ s.items)) (all_but_last (one e (item_text_of_lines f) ∷ t.items))) (sym h)
+        (begin_some (one e (item_text_of_lines s.front)) s.items t.items n g.items)
 
-grown_nil : (t : Split) → Grown (record { front = []; items = [] }) t
+grown_nil : (t : FrontAndItems) → Grown (record { front = []; items = [] }) t
 unfolding all_but_last
 grown_nil t = record { more = t.front; front = refl; items = begin_nil (all_but_last t.items); kept = inl refl }
 
 grown_head : (p : Bool) (l : List ℕ) (ls ms : List (List ℕ)) → (o : Option Envelope) → heads p l ≡ o
-    → ((b : Bool) → Grown (split_lines b ls) (split_lines b (ls ++ ms))) → Grown (split_lines p (l ∷ ls)) (split_lines p (l ∷ (ls ++ ms)))
+    → ((b : Bool) → Grown (front_and_items_of_lines b ls) (front_and_items_of_lines b (ls ++ ms))) → Grown (front_and_items_of_lines p (l ∷ ls)) (front_and_items_of_lines p (l ∷ (ls ++ ms)))
 grown_head p l ls ms None h r =
-    rw (split-none p l ls h, split-none p l (ls ++ ms) h) (grown_line l (split_lines (is_blank l) ls) (split_lines (is_blank l) (ls ++ ms)) (r (is_blank l)))
+    rw (split-none p l ls h, split-none p l (ls ++ ms) h) (grown_line l (front_and_items_of_lines (is_blank_line l) ls) (front_and_items_of_lines (is_blank_line l) (ls ++ ms)) (r (is_blank_line l)))
 grown_head p l ls ms (Some e) h r =
-    rw (split-some p l ls e h, split-some p l (ls ++ ms) e h) (grown_item e (split_lines false ls) (split_lines false (ls ++ ms)) (r false))
+    rw (split-some p l ls e h, split-some p l (ls ++ ms) e h) (grown_item e (front_and_items_of_lines false ls) (front_and_items_of_lines false (ls ++ ms)) (r false))
 
-pub grown : (p : Bool) (ls ms : List (List ℕ)) → Grown (split_lines p ls) (split_lines p (ls ++ ms))
-grown p [] ms = rw (split-nil p) (grown_nil (split_lines p ms))
+pub grown : (p : Bool) (ls ms : List (List ℕ)) → Grown (front_and_items_of_lines p ls) (front_and_items_of_lines p (ls ++ ms))
+grown p [] ms = rw (split-nil p) (grown_nil (front_and_items_of_lines p ms))
 grown p (l ∷ ls) ms = grown_head p l ls ms (heads p l) refl (λ b. grown b ls ms)
 
 -- where something stands in front, there are no items of the file
-pub begin_blank : (a b : Bool) (s t : Split) → all_blank s.front ≡ a → all_blank t.front ≡ b → Grown s t
-    → IsBeginning (all_but_last (unless_preamble s)) (all_but_last (unless_preamble t))
+pub begin_blank : (a b : Bool) (s t : FrontAndItems) → all_blank s.front ≡ a → all_blank t.front ≡ b → Grown s t
+    → IsBeginning (all_but_last (items_unless_preamble s)) (all_but_last (items_unless_preamble t))
 unfolding all_but_last
-begin_blank false b s t h k g = rw h (begin_nil (all_but_last (unless_preamble t)))
+begin_blank false b s t h k g = rw h (begin_nil (all_but_last (items_unless_preamble t)))
 begin_blank true true s t h k g = rw (h, k) g.items
 begin_blank true false s t h k g = cases g.kept
   where
-    cases : (s.items ≡ []) ⊎ ((t.front ≡ s.front) × (t.items ≢ [])) → IsBeginning (all_but_last (unless_preamble s)) (all_but_last (unless_preamble t))
-    cases (inl e) = rw (h, e) (begin_nil (all_but_last (unless_preamble t)))
+    cases : (s.items ≡ []) ⊎ ((t.front ≡ s.front) × (t.items ≢ [])) → IsBeginning (all_but_last (items_unless_preamble s)) (all_but_last (items_unless_preamble t))
+    cases (inl e) = rw (h, e) (begin_nil (all_but_last (items_unless_preamble t)))
     cases (inr (e, n)) = let bad : true ≡ false = sym h ∙ ap all_blank (sym e) ∙ k in absurd (cc)
 
 -- ---- the bytes up to the last LF
@@ -133,7 +133,7 @@ ended_some b c a t h x =
     not_lf b ((c ∷ a) ++ x) t ∙ ap (onto_first_line b) (h x) ∙ onto_append b (lines (c ∷ a)) (lines x) (some_line c a)
     ∙ ap (λ ls. ls ++ lines x) (sym (not_lf b (c ∷ a) t))
 
-ended_before : (b : ℕ) (a : List ℕ) → (b == 10) ≡ false → Ended a → Ended (before_some b a)
+ended_before : (b : ℕ) (a : List ℕ) → (b == 10) ≡ false → Ended a → Ended (byte_before_nonempty b a)
 ended_before b [] t h = ended_nil
 ended_before b (c ∷ a) t h = ended_some b c a t h
 
@@ -142,17 +142,17 @@ unfolding settled_bytes
 settled_ended [] = ended_nil
 settled_ended (b ∷ bs) = cases (b == 10) refl (settled_ended bs)
   where
-    cases : (t : Bool) → (b == 10) ≡ t → Ended (settled_bytes bs) → Ended (if t then b ∷ settled_bytes bs else before_some b (settled_bytes bs))
+    cases : (t : Bool) → (b == 10) ≡ t → Ended (settled_bytes bs) → Ended (if t then b ∷ settled_bytes bs else byte_before_nonempty b (settled_bytes bs))
     cases true e h = ended_lf b (settled_bytes bs) e h
     cases false e h = ended_before b (settled_bytes bs) e h
 
 -- they are a beginning of those of every continuation
-before_begin : (b : ℕ) (a c : List ℕ) → IsBeginning a c → IsBeginning (before_some b a) (before_some b c)
-before_begin b [] c h = begin_nil (before_some b c)
+before_begin : (b : ℕ) (a c : List ℕ) → IsBeginning a c → IsBeginning (byte_before_nonempty b a) (byte_before_nonempty b c)
+before_begin b [] c h = begin_nil (byte_before_nonempty b c)
 before_begin b (x ∷ a) [] (rest, e) = absurd (cc)
 before_begin b (x ∷ a) (y ∷ c) h = begin_cons b (x ∷ a) (y ∷ c) h
 
-before_all : (b : ℕ) (a : List ℕ) → IsBeginning (before_some b a) (b ∷ a)
+before_all : (b : ℕ) (a : List ℕ) → IsBeginning (byte_before_nonempty b a) (b ∷ a)
 before_all b [] = begin_nil (b ∷ [])
 before_all b (x ∷ a) = ([], sym (append-nil (b ∷ x ∷ a)))
 
@@ -162,7 +162,8 @@ settled_bytes_begin [] more = begin_nil (settled_bytes more)
 settled_bytes_begin (b ∷ bs) more = cases (b == 10) (settled_bytes_begin bs more)
   where
     cases : (t : Bool) → IsBeginning (settled_bytes bs) (settled_bytes (bs ++ more))
-        → IsBeginning (if t then b ∷ settled_bytes bs else before_some b (settled_bytes bs)) (if t then b ∷ settled_bytes (bs ++ more) else before_some b (settled_bytes (bs ++ more)))
+        → IsBeginning (if t then b ∷ settled_bytes bs else byte_before_nonempty b (settled_bytes bs))
+        (if t then b ∷ settled_bytes (bs ++ more) else byte_before_nonempty b (settled_bytes (bs ++ more)))
     cases true h = begin_cons b (settled_bytes bs) (settled_bytes (bs ++ more)) h
     cases false h = before_begin b (settled_bytes bs) (settled_bytes (bs ++ more)) h
 
@@ -171,6 +172,6 @@ unfolding settled_bytes
 settled_bytes_all [] = ([], refl)
 settled_bytes_all (b ∷ bs) = cases (b == 10) (settled_bytes_all bs)
   where
-    cases : (t : Bool) → IsBeginning (settled_bytes bs) bs → IsBeginning (if t then b ∷ settled_bytes bs else before_some b (settled_bytes bs)) (b ∷ bs)
+    cases : (t : Bool) → IsBeginning (settled_bytes bs) bs → IsBeginning (if t then b ∷ settled_bytes bs else byte_before_nonempty b (settled_bytes bs)) (b ∷ bs)
     cases true h = begin_cons b (settled_bytes bs) bs h
-    cases false h = begin_trans (before_some b (settled_bytes bs)) (b ∷ settled_bytes bs) (b ∷ bs) (before_all b (settled_bytes bs)) (begin_cons b (settled_bytes bs) bs h)
+    cases false h = begin_trans (byte_before_nonempty b (settled_bytes bs)) (b ∷ settled_bytes bs) (b ∷ bs) (before_all b (settled_bytes bs)) (begin_cons b (settled_bytes bs) bs h)

@@ -2,33 +2,33 @@
 use Rattle.std.specs.Prelude.{◌≡◌, ◌<◌, ◌^◌, length, ℕ, ◌==◌, Bool, true, ◌&&◌, List, [], ◌∷◌, ◌++◌, if◌then◌else◌}
 use Rattle.mail_core.specs.Bytes.{lf}
 use Rattle.mail_core.specs.Lines.{lines}
-use Rattle.mbox_core.specs.Division.{Item, is_blank, IsPreamble, Split, split_lines}
+use Rattle.mbox_core.specs.Division.{Item, is_blank_line, IsPreamble, FrontAndItems, front_and_items_of_lines}
 
 -- the first list is a beginning of the second
 abbrev pub IsBeginning : {A : Type 0} → List A → List A → Type 0
 IsBeginning {A} a b = (rest : List A) × (b ≡ a ++ rest)
 
 -- a byte, where something follows it
-abbrev pub before_some : ℕ → List ℕ → List ℕ
-before_some b [] = []
-before_some b (c ∷ cs) = b ∷ c ∷ cs
+abbrev pub byte_before_nonempty : ℕ → List ℕ → List ℕ
+byte_before_nonempty b [] = []
+byte_before_nonempty b (c ∷ cs) = b ∷ c ∷ cs
 
 -- the bytes up to the last LF, and that LF: the lines in them are the same whatever is still to come
 unfoldable pub settled_bytes : List ℕ → List ℕ
 settled_bytes [] = []
-settled_bytes (b ∷ bs) = if b == lf then b ∷ settled_bytes bs else before_some b (settled_bytes bs)
+settled_bytes (b ∷ bs) = if b == lf then b ∷ settled_bytes bs else byte_before_nonempty b (settled_bytes bs)
 
 abbrev pub all_blank : List (List ℕ) → Bool
 all_blank [] = true
-all_blank (l ∷ ls) = is_blank l && all_blank ls
+all_blank (l ∷ ls) = is_blank_line l && all_blank ls
 
 -- the items, where what stands in front of them is blank
-abbrev pub unless_preamble : Split → List Item
-unless_preamble s = if all_blank s.front then s.items else []
+abbrev pub items_unless_preamble : FrontAndItems → List Item
+items_unless_preamble s = if all_blank s.front then s.items else []
 
 -- the items of a file; none where its first line that is not empty is no separator line
 abbrev pub file_items : List ℕ → List Item
-file_items bytes = unless_preamble (split_lines true (lines bytes))
+file_items bytes = items_unless_preamble (front_and_items_of_lines true (lines bytes))
 
 unfoldable pub all_but_last : {A : Type 0} → List A → List A
 all_but_last [] = []
@@ -44,5 +44,5 @@ abbrev pub IsSettledPreamble : List ℕ → ℕ → Type 0
 IsSettledPreamble stream offset = IsPreamble (settled_bytes stream) offset
 
 -- the number is the offset, where fewer than 2^64 bytes came
-abbrev pub IsCounted : List ℕ → ℕ → ℕ → Type 0
-IsCounted stream n offset = length stream < 2 ^ 64 → n ≡ offset
+abbrev pub IsOffsetUnlessOverflow : List ℕ → ℕ → ℕ → Type 0
+IsOffsetUnlessOverflow stream n offset = length stream < 2 ^ 64 → n ≡ offset

@@ -4,91 +4,91 @@ use Rattle.std.specs.List.{AllByRecursion}
 use Rattle.memchr.specs.Find.{OccursAt}
 use Rattle.mail_core.specs.Lines.{lines, content}
 use Rattle.mbox_core.specs.Separator.{Envelope, separator_of}
-use Rattle.mbox_core.specs.Division.{Item, IsBlank, NoneSeparates, EndsUnblank, is_blank, items_after}
+use Rattle.mbox_core.specs.Division.{Item, IsBlankLine, NoneSeparates, EndsUnblank, is_blank_line, items_after_separator}
 use Rattle.mbox_stream.specs.Stream.{settled_bytes, file_items}
 
 -- the bytes end in LF, or there is none
-abbrev pub IsWhole : List ℕ → Type 0
-IsWhole bytes = settled_bytes bytes ≡ bytes
+abbrev pub HoldsWholeLines : List ℕ → Type 0
+HoldsWholeLines bytes = settled_bytes bytes ≡ bytes
 
 -- an LF, and what a separator line begins with
-abbrev pub mark : List ℕ
-mark = 10 ∷ codes "From "
+abbrev pub lf_and_from : List ℕ
+lf_and_from = 10 ∷ codes "From "
 
 -- ---- before the first separator line
 
 -- Blank lines alone went by, and so many bytes were counted.
-pub record IsUnopened (stream window : List ℕ) (skipped : ℕ) (items : List Item) : Type 0 where
+pub record IsBeforeFirstMessage (stream window : List ℕ) (skipped : ℕ) (items : List Item) : Type 0 where
   pub gone : List ℕ
   pub parts : stream ≡ gone ++ window
-  pub whole : IsWhole gone
-  pub blank : AllByRecursion IsBlank (lines gone)
+  pub whole : HoldsWholeLines gone
+  pub blank : AllByRecursion IsBlankLine (lines gone)
   pub counted : length stream < 2 ^ 64 → skipped ≡ length gone
   pub none : items ≡ []
 
 -- blank whole lines up to this place, and no whole line after it
-pub record IsPassed (bytes : List ℕ) (at : ℕ) : Type 0 where
+pub record SkipsBlankLinesTo (bytes : List ℕ) (at : ℕ) : Type 0 where
   pub low : at ≤ length bytes
-  pub whole : IsWhole (take at bytes)
-  pub blank : AllByRecursion IsBlank (lines (take at bytes))
+  pub whole : HoldsWholeLines (take at bytes)
+  pub blank : AllByRecursion IsBlankLine (lines (take at bytes))
   pub rest : settled_bytes (drop at bytes) ≡ []
 
 -- blank whole lines, and then a separator line up to this place
-pub record IsOpening (bytes : List ℕ) (at : ℕ) (envelope : Envelope) : Type 0 where
+pub record OpensFirstMessage (bytes : List ℕ) (at : ℕ) (envelope : Envelope) : Type 0 where
   pub low : at ≤ length bytes
   pub blanks : List ℕ
   pub line : List ℕ
   pub parts : take at bytes ≡ blanks ++ line
-  pub whole : IsWhole blanks
-  pub whole_line : IsWhole line
+  pub whole : HoldsWholeLines blanks
+  pub whole_line : HoldsWholeLines line
   pub one_line : lines line ≡ line ∷ []
-  pub blank : AllByRecursion IsBlank (lines blanks)
+  pub blank : AllByRecursion IsBlankLine (lines blanks)
   pub says : separator_of (content line) ≡ Some envelope
 
 -- ---- while a message is open
 
 -- Whole lines went by. Whatever follows them, the items are those given and then those of the open message and what follows.
-pub record IsWindow (now : Envelope) (stream window : List ℕ) (items : List Item) : Type 0 where
+pub record IsOpenMessageWindow (now : Envelope) (stream window : List ℕ) (items : List Item) : Type 0 where
   pub gone : List ℕ
   pub parts : stream ≡ gone ++ window
-  pub whole : IsWhole gone
-  pub later : (more : List ℕ) → file_items (gone ++ more) ≡ items ++ items_after (Some now) more
+  pub whole : HoldsWholeLines gone
+  pub later : (more : List ℕ) → file_items (gone ++ more) ≡ items ++ items_after_separator (Some now) more
 
 -- what is cut off the front of the window: whole lines, after which the next message is open
-pub record IsCutOff (now next : Envelope) (front : List ℕ) (item : Item) : Type 0 where
-  pub whole : IsWhole front
-  pub items : (more : List ℕ) → items_after (Some now) (front ++ more) ≡ item ∷ items_after (Some next) more
+pub record EndsOpenMessage (now next : Envelope) (front : List ℕ) (item : Item) : Type 0 where
+  pub whole : HoldsWholeLines front
+  pub items : (more : List ℕ) → items_after_separator (Some now) (front ++ more) ≡ item ∷ items_after_separator (Some next) more
 
 -- No separating line begins before this place, whatever follows: whole lines stand in front of it that hold none and end in
 -- one that is not blank, and from there on no mark.
-pub record IsLooked (bytes : List ℕ) (from : ℕ) : Type 0 where
+pub record IsSearchedUpTo (bytes : List ℕ) (from : ℕ) : Type 0 where
   pub front : List ℕ
   pub rest : List ℕ
   pub parts : bytes ≡ front ++ rest
-  pub whole : IsWhole front
+  pub whole : HoldsWholeLines front
   pub none : NoneSeparates (lines front)
   pub ends : EndsUnblank (lines front)
   pub low : length front ≤ from
   pub high : from ≤ length bytes
-  pub unmarked : (more : List ℕ) (k : ℕ) → length front ≤ k → k < from → ¬ OccursAt (bytes ++ more) mark k
+  pub unmarked : (more : List ℕ) (k : ℕ) → length front ≤ k → k < from → ¬ OccursAt (bytes ++ more) lf_and_from k
 
 -- A line says an envelope and follows an empty line: the text before these two, and the envelope.
-pub record IsHeading (front line text : List ℕ) (next : Envelope) : Type 0 where
+pub record SeparatesAfterBlankLine (front line text : List ℕ) (next : Envelope) : Type 0 where
   pub blank : List ℕ
-  pub is_empty : is_blank blank ≡ true
+  pub is_empty : is_blank_line blank ≡ true
   pub are_lines : lines front ≡ lines text ++ blank ∷ []
   pub says : separator_of (content line) ≡ Some next
 
 -- A line follows a line, and does not separate.
-pub record IsText (front line : List ℕ) : Type 0 where
+pub record IsNonSeparatingLine (front line : List ℕ) : Type 0 where
   pub before : List (List ℕ)
   pub last : List ℕ
   pub are_lines : lines front ≡ before ++ last ∷ []
-  pub says : is_blank last ≡ true → separator_of (content line) ≡ None
+  pub says : is_blank_line last ≡ true → separator_of (content line) ≡ None
 
 -- The first `len` bytes end with the first separating line, which ends the message of this text.
-pub record IsNext (bytes : List ℕ) (len : ℕ) (text : List ℕ) (next : Envelope) : Type 0 where
+pub record CutsAtFirstSeparator (bytes : List ℕ) (len : ℕ) (text : List ℕ) (next : Envelope) : Type 0 where
   pub some : 0 < len
   pub high : len ≤ length bytes
   pub none : NoneSeparates (lines text)
-  pub cut : (now : Envelope) → IsCutOff now next (take len bytes) (record { envelope = now; text = text })
+  pub cut : (now : Envelope) → EndsOpenMessage now next (take len bytes) (record { envelope = now; text = text })

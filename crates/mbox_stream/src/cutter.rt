@@ -1,13 +1,13 @@
 //! Cutting an mbox that comes in pieces.
 ghost use Rattle.std.specs.Prelude.{◌≡◌, ◌≢◌, ◌↔◌, ◌+◌, ◌∷◌, ◌++◌, ◌<◌, ◌⊎◌, if◌then◌else◌, [], ℕ, List, length, true, false, Ok, Err, None, IfOk, IfErr, OnOk, OnErr, IfSome, MatchOption};
 ghost use Rattle.mbox_stream.specs.Stream.{IsBeginning};
-ghost use Rattle.mbox_stream.specs.Cutter.{IsCutter, IsFeedFault, IsReadFault, IsEndFault, fault_phase, is_read, is_end};
+ghost use Rattle.mbox_stream.specs.Cutter.{IsCutterConsistent, IsFeedFault, IsReadFault, IsEndFault, fault_phase, is_read_failure, is_end_of_input};
 ghost use Rattle.mbox_core.specs.declared.faults.MboxFault.TheVariants.{Read, Failed};
-ghost use Rattle.mbox_stream.specs.declared.cutter.Phase.TheVariants.{Open, Finished};
+ghost use Rattle.mbox_stream.specs.declared.cutter.CutterPhase.TheVariants.{Open, Finished};
 
 use crate::gone::Gone;
 use crate::window::{Place, Stop, Window, last_messages, take_in};
-use mbox_core::device::{Source, Told};
+use mbox_core::device::{Source, Transcript};
 use mbox_core::{MboxFault, OwnedItem};
 use std::alloc::Global;
 use std::collections::VecDeque;
@@ -19,7 +19,7 @@ const PIECE: usize = 65_536;
 
 /// What a cutter answers next.
 #[derive(Clone, Copy, PartialEq, Eq, Drop)]
-pub enum Phase {
+pub enum CutterPhase {
     /// More may be fed.
     Open,
     /// M1 or M2 was answered.
@@ -35,38 +35,38 @@ pub enum Phase {
 #[derive(Drop)]
 pub struct Cutter {
     alloc: Global,
-    stream: Told,
+    stream: Transcript,
     taken: Gone,
     waiting: VecDeque<OwnedItem>,
-    phase: Phase,
+    phase: CutterPhase,
     window: Option<Window>,
 }
 
 impl Model for Cutter {
     ghost use Rattle.std.specs.Prelude.{◌++◌};
-    ghost use Rattle.mbox_stream.specs.Cutter.{CutterState, IsCutter};
-    ghost use Rattle.mbox_stream.specs.Held.{IsHeld};
+    ghost use Rattle.mbox_stream.specs.Cutter.{CutterState, IsCutterConsistent};
+    ghost use Rattle.mbox_stream.specs.Held.{HoldsUndecidedBytes};
 
     ghost Value = { CutterState };
 
     ghost view = { λ s. record { stream = s.stream.bytes; taken = s.taken.items; waiting = s.waiting.items; phase = s.phase } };
 
-    ghost invariant = { λ s. IsCutter (record { stream = s.stream.bytes; taken = s.taken.items; waiting = s.waiting.items; phase = s.phase })
-        × IsHeld s.window s.phase s.stream.bytes (s.taken.items ++ s.waiting.items) };
+    ghost invariant = { λ s. IsCutterConsistent (record { stream = s.stream.bytes; taken = s.taken.items; waiting = s.waiting.items; phase = s.phase })
+        × HoldsUndecidedBytes s.window s.phase s.stream.bytes (s.taken.items ++ s.waiting.items) };
 }
 
 impl Cutter {
     /// A cutter that nothing was fed to. It takes its memory from this allocator.
     pub fn new(alloc: Global) -> Cutter
         ensures state { result ≡ record { stream = []; taken = []; waiting = []; phase = Open } }
-        ensures given { IsCutter result }
+        ensures given { IsCutterConsistent result }
     {
         Cutter {
             alloc,
-            stream: Told::new(),
+            stream: Transcript::new(),
             taken: Gone::new(),
             waiting: VecDeque::new(alloc),
-            phase: Phase::Open,
+            phase: CutterPhase::Open,
             window: Some(Window {
                 bytes: Vec::new(alloc),
                 place: Place::Front(0),
@@ -81,7 +81,7 @@ impl Cutter {
         ensures taken { IfSome result (λ item. self.new.taken ≡ self.old.taken ++ item ∷ []) }
         ensures stream { self.new.stream ≡ self.old.stream }
         ensures phase { self.new.phase ≡ self.old.phase }
-        ensures given { IsCutter self.new }
+        ensures given { IsCutterConsistent self.new }
     {
         let item = self.waiting.pop_front()?;
         self.taken.note(slice::from_ref(&item));
@@ -97,7 +97,7 @@ impl Cutter {
         ensures taken { self.new.taken ≡ self.old.taken }
         ensures waiting { IsBeginning self.old.waiting self.new.waiting }
         ensures open { OnOk result (self.new.phase ≡ Open) }
-        ensures given { IsCutter self.new }
+        ensures given { IsCutterConsistent self.new }
         ensures fault { IfErr result (λ fault. IsFeedFault self.new.stream fault × (self.new.phase ≡ fault_phase self.old.phase fault)) }
     {
         let window = match self.window.take() {
@@ -118,11 +118,11 @@ impl Cutter {
                 Ok(())
             }
             Err(Stop::Faulty(at)) => {
-                self.phase = Phase::Stopped;
+                self.phase = CutterPhase::Stopped;
                 Err(MboxFault::Preamble(at))
             }
             Err(Stop::Memory) => {
-                self.phase = Phase::Short;
+                self.phase = CutterPhase::Short;
                 Err(MboxFault::Memory)
             }
         }
@@ -133,14 +133,14 @@ impl Cutter {
         ensures closed { (result ≡ Err Failed) ↔ (self.old.phase ≢ Open) }
         ensures kept { result ≡ Err Failed → (self.new ≡ self.old) × (R.told input.new ≡ R.told input.old) × (R.ends input.new ≡ R.ends input.old) }
         ensures read { (piece : List ℕ) × (R.told input.new ≡ R.told input.old ++ piece) × (self.new.stream ≡ self.old.stream ++ piece) }
-        ensures faults { R.failures input.new ≡ R.failures input.old + (if is_read result then 1 else 0) }
-        ensures end { R.ends input.new ≡ R.ends input.old + (if is_end result then 1 else 0) }
+        ensures faults { R.failures input.new ≡ R.failures input.old + (if is_read_failure result then 1 else 0) }
+        ensures end { R.ends input.new ≡ R.ends input.old + (if is_end_of_input result then 1 else 0) }
         ensures taken { self.new.taken ≡ self.old.taken }
         ensures waiting { IsBeginning self.old.waiting self.new.waiting }
         ensures none { (result ≡ Ok false) ⊎ (result ≡ Err Read) → (self.new.stream ≡ self.old.stream) × (self.new.waiting ≡ self.old.waiting) }
         ensures some { result ≡ Ok true → length self.old.stream < length self.new.stream }
         ensures open { OnOk result (self.new.phase ≡ Open) }
-        ensures given { IsCutter self.new }
+        ensures given { IsCutterConsistent self.new }
         ensures fault { IfErr result (λ fault. IsReadFault self.new.stream fault × (self.new.phase ≡ fault_phase self.old.phase fault)) }
     {
         if self.window.is_none() {
@@ -155,7 +155,7 @@ impl Cutter {
             },
             Err(_) => {
                 self.window = None;
-                self.phase = Phase::Stopped;
+                self.phase = CutterPhase::Stopped;
                 Err(MboxFault::Read)
             }
         }
@@ -169,7 +169,7 @@ impl Cutter {
         ensures taken { self.new.taken ≡ self.old.taken }
         ensures waiting { IsBeginning self.old.waiting self.new.waiting }
         ensures finished { OnOk result (self.new.phase ≡ Finished) }
-        ensures given { IsCutter self.new }
+        ensures given { IsCutterConsistent self.new }
         ensures fault { IfErr result (λ fault. IsEndFault self.new.stream fault × (self.new.phase ≡ fault_phase self.old.phase fault)) }
     {
         let window = match self.window.take() {
@@ -185,21 +185,21 @@ impl Cutter {
         ) {
             Ok(last) => last,
             Err(Stop::Faulty(at)) => {
-                self.phase = Phase::Stopped;
+                self.phase = CutterPhase::Stopped;
                 return Err(MboxFault::Preamble(at));
             }
             Err(Stop::Memory) => {
-                self.phase = Phase::Short;
+                self.phase = CutterPhase::Short;
                 return Err(MboxFault::Memory);
             }
         };
         match self.waiting.append(&mut last) {
             Ok(()) => {
-                self.phase = Phase::Finished;
+                self.phase = CutterPhase::Finished;
                 Ok(())
             }
             Err(_) => {
-                self.phase = Phase::Short;
+                self.phase = CutterPhase::Short;
                 Err(MboxFault::Memory)
             }
         }

@@ -2,11 +2,11 @@
 ghost use Rattle.std.specs.Prelude.{◌≡◌, ◌<◌, ◌≤◌, ◌∷◌, ◌++◌, [], length, take, drop, IfSome, IfNone};
 ghost use Rattle.mail_core.specs.Lines.{lines};
 ghost use Rattle.mbox_stream.specs.Stream.{IsSettledPreamble};
-ghost use Rattle.mbox_stream.specs.Window.{IsLooked, IsHeading, IsText, IsNext, IsOpening, IsPassed};
-ghost use Rattle.mbox_stream.specs.Found.{OnNext, OnMore, OnHead, OnBlank, OnFaulty, IsMore};
+ghost use Rattle.mbox_stream.specs.Window.{IsSearchedUpTo, SeparatesAfterBlankLine, IsNonSeparatingLine, CutsAtFirstSeparator, OpensFirstMessage, SkipsBlankLinesTo};
+ghost use Rattle.mbox_stream.specs.Found.{IfFoundNext, IfFoundMore, IfFirstIsHead, IfFirstIsBlank, IfFirstIsFaulty, HoldsNoWholeSeparator};
 
 use mail_core::lines::line_content;
-use mbox_core::{Envelope, last_line, separator};
+use mbox_core::{Envelope, last_line_start, separator};
 use memchr::{memchr, memmem};
 
 /// How many bytes of the mark do not decide whether it stands there.
@@ -42,10 +42,10 @@ pub(crate) enum First<'a> {
 /// Whether this line, after those, is a separator line that follows an empty line.
 fn heading_of<'a>(front: &'a [u8], line: &'a [u8]) -> Option<Heading<'a>>
     requires { 0 < length front.now }
-    ensures some { IfSome result (λ h. IsHeading front.entry.now line.entry.now h.text.now h.envelope) }
-    ensures none { IfNone result (IsText front.entry.now line.entry.now) }
+    ensures some { IfSome result (λ h. SeparatesAfterBlankLine front.entry.now line.entry.now h.text.now h.envelope) }
+    ensures none { IfNone result (IsNonSeparatingLine front.entry.now line.entry.now) }
 {
-    let (text, last) = front.split_at(last_line(front));
+    let (text, last) = front.split_at(last_line_start(front));
     if !line_content(last).is_empty() {
         return None;
     }
@@ -55,9 +55,9 @@ fn heading_of<'a>(front: &'a [u8], line: &'a [u8]) -> Option<Heading<'a>>
 
 /// Looks for the first separating line that is whole, from a place before which there is none.
 pub(crate) fn find_next<'a>(bytes: &'a [u8], from: usize) -> Found<'a>
-    requires { IsLooked bytes.now from }
-    ensures next { OnNext result (λ text next len. IsNext bytes.entry.now len text next) }
-    ensures more { OnMore result (λ from. IsMore bytes.entry.now from) }
+    requires { IsSearchedUpTo bytes.now from }
+    ensures next { IfFoundNext result (λ text next len. CutsAtFirstSeparator bytes.entry.now len text next) }
+    ensures more { IfFoundMore result (λ from. HoldsNoWholeSeparator bytes.entry.now from) }
 {
     let mut at = from;
     while at < bytes.len() {
@@ -83,9 +83,9 @@ pub(crate) fn find_next<'a>(bytes: &'a [u8], from: usize) -> Found<'a>
 
 /// Passes over blank lines, and looks at the first other line that is whole.
 pub(crate) fn find_first<'a>(bytes: &'a [u8]) -> First<'a>
-    ensures head { OnHead result (λ envelope at. IsOpening bytes.entry.now at envelope) }
-    ensures blank { OnBlank result (λ at. IsPassed bytes.entry.now at) }
-    ensures faulty { OnFaulty result (λ at. IsSettledPreamble bytes.entry.now at) }
+    ensures head { IfFirstIsHead result (λ envelope at. OpensFirstMessage bytes.entry.now at envelope) }
+    ensures blank { IfFirstIsBlank result (λ at. SkipsBlankLinesTo bytes.entry.now at) }
+    ensures faulty { IfFirstIsFaulty result (λ at. IsSettledPreamble bytes.entry.now at) }
 {
     let mut at = 0;
     while at < bytes.len() {

@@ -1,12 +1,12 @@
 //! What the settled items of a stream are to the items of what it becomes: each contract is a law over the definitions of
 //! `specs/` alone, and no call does anything.
 ghost use Rattle.std.specs.Prelude.{◌≡◌, ◌++◌, ◌∷◌, [], ℕ, List};
-ghost use Rattle.mbox_core.specs.Division.{Item, Divides, IsPreamble};
+ghost use Rattle.mbox_core.specs.Division.{Item, DividesIntoItems, IsPreamble};
 ghost use Rattle.mbox_stream.specs.Stream.{IsBeginning, settled_bytes, settled_items, IsSettledPreamble};
 
 /// The settled items of a stream are a beginning of the items of every continuation that has a division.
 pub fn settled_stay()
-    ensures { (stream more : List ℕ) (items : List Item) → Divides (stream ++ more) items → IsBeginning (settled_items stream) items }
+    ensures { (stream more : List ℕ) (items : List Item) → DividesIntoItems (stream ++ more) items → IsBeginning (settled_items stream) items }
 {}
 
 /// Where some continuation has a line in front that is no separator line, nothing is settled.
@@ -25,6 +25,6 @@ pub fn settled_grow()
 {}
 
 /// Nothing is held back: of whole lines that have a division, all items but the last are settled.
-pub fn settled_all()
-    ensures { (stream : List ℕ) (items : List Item) (last : Item) → settled_bytes stream ≡ stream → Divides stream (items ++ last ∷ []) → settled_items stream ≡ items }
+pub fn whole_lines_settle_all_but_the_last()
+    ensures { (stream : List ℕ) (items : List Item) (last : Item) → settled_bytes stream ≡ stream → DividesIntoItems stream (items ++ last ∷ []) → settled_items stream ≡ items }
 {}

@@ -2,7 +2,7 @@
 //! beside the messages that wait is one message and a piece.
 #![tactic(auto)]
 
-pub use cutter::{Cutter, Phase};
+pub use cutter::{Cutter, CutterPhase};
 
 mod cutter;
 mod finding;

@@ -1,15 +1,15 @@
 //! What a cutter keeps of a stream while more may be fed.
 ghost use Rattle.std.specs.Prelude.{◌≡◌, ◌∷◌, ◌++◌, ◌≤◌, [], length, take, drop, Some, IfOk, OnOk, IfErr, OnErr};
 ghost use Rattle.mail_core.specs.Lines.{lines};
-ghost use Rattle.mbox_core.specs.Division.{NoneSeparates, Divides, items_after};
+ghost use Rattle.mbox_core.specs.Division.{NoneSeparates, DividesIntoItems, items_after_separator};
 ghost use Rattle.mbox_stream.specs.Stream.{IsBeginning, settled_items};
-ghost use Rattle.mbox_stream.specs.Window.{IsUnopened, IsWindow, IsLooked};
-ghost use Rattle.mbox_stream.specs.Kept.{IsKept, IsSettled, IsFrontSettled, IsCutTo, IsStop, IsEndStop, TakesIn};
+ghost use Rattle.mbox_stream.specs.Window.{IsBeforeFirstMessage, IsOpenMessageWindow, IsSearchedUpTo};
+ghost use Rattle.mbox_stream.specs.Kept.{IsWindowAtPlace, HoldsNoSettledItem, FrontHoldsNoWholeLine, OpensMessageAt, IsStopReason, IsEndStopReason, AppendsPiece};
 
 use crate::finding::{First, Found, find_first, find_next};
 use crate::gone::Gone;
-use mbox_core::device::Told;
-use mbox_core::{Envelope, Item, MboxFault, Messages, OwnedItem, cut, is_complete};
+use mbox_core::device::Transcript;
+use mbox_core::{Envelope, Item, MboxFault, Messages, OwnedItem, cut, ends_with_newline};
 use memchr::memchr;
 use std::alloc::{AllocError, Global};
 use std::collections::VecDeque;
@@ -52,7 +52,7 @@ fn message(alloc: Global, head: &OwnedItem, text: &[u8]) -> Result<OwnedItem, Al
     requires { NoneSeparates (lines text.now) }
     ensures { IfOk result (λ m. m ≡ record { envelope = head.now.envelope; text = text.now }) }
 {
-    let complete = is_complete(text);
+    let complete = ends_with_newline(text);
     OwnedItem::of(
         alloc,
         &Item {
@@ -68,7 +68,7 @@ fn head_of(alloc: Global, envelope: Envelope<'_>) -> Result<OwnedItem, AllocErro
     ensures { IfOk result (λ m. m.envelope ≡ envelope.entry) }
 {
     let text: &[u8] = b"";
-    let complete = is_complete(text);
+    let complete = ends_with_newline(text);
     OwnedItem::of(
         alloc,
         &Item {
@@ -103,16 +103,16 @@ fn cut_one(
 /// Cuts off all messages that are settled.
 fn cut_settled(
     alloc: Global,
-    stream: &Told,
+    stream: &Transcript,
     taken: &Gone,
     head: OwnedItem,
     bytes: &[u8],
     from: usize,
     waiting: &mut VecDeque<OwnedItem>,
 ) -> Result<Cut, AllocError>
-    requires window { IsWindow head.envelope stream.now.bytes bytes.now (taken.now.items ++ waiting.old.items) }
-    requires looked { IsLooked bytes.now from }
-    ensures ok { IfOk result (λ c. IsCutTo c.head.envelope stream.now.bytes bytes.now c.start c.from (taken.now.items ++ waiting.new.items)) }
+    requires window { IsOpenMessageWindow head.envelope stream.now.bytes bytes.now (taken.now.items ++ waiting.old.items) }
+    requires looked { IsSearchedUpTo bytes.now from }
+    ensures ok { IfOk result (λ c. OpensMessageAt c.head.envelope stream.now.bytes bytes.now c.start c.from (taken.now.items ++ waiting.new.items)) }
     ensures err { OnErr result (IsBeginning (taken.now.items ++ waiting.new.items) (settled_items stream.now.bytes)) }
     ensures grows { IsBeginning waiting.old.items waiting.new.items }
 {
@@ -159,18 +159,18 @@ fn let_go(bytes: &mut Vec<u8>, count: usize)
 /// Cuts off all messages that are settled, and keeps what follows them.
 fn settle_message(
     alloc: Global,
-    stream: &Told,
+    stream: &Transcript,
     taken: &Gone,
     head: OwnedItem,
     bytes: Vec<u8>,
     from: usize,
     waiting: &mut VecDeque<OwnedItem>,
 ) -> Result<Window, Stop>
-    requires window { IsWindow head.envelope stream.now.bytes bytes.items (taken.now.items ++ waiting.old.items) }
-    requires looked { IsLooked bytes.items from }
-    ensures ok { IfOk result (λ w. IsKept w.place w.bytes.items stream.now.bytes (taken.now.items ++ waiting.new.items)) }
-    ensures settled { IfOk result (λ w. IsSettled w.place w.bytes.items) }
-    ensures err { IfErr result (λ stop. IsStop stop stream.now.bytes (taken.now.items ++ waiting.new.items)) }
+    requires window { IsOpenMessageWindow head.envelope stream.now.bytes bytes.items (taken.now.items ++ waiting.old.items) }
+    requires looked { IsSearchedUpTo bytes.items from }
+    ensures ok { IfOk result (λ w. IsWindowAtPlace w.place w.bytes.items stream.now.bytes (taken.now.items ++ waiting.new.items)) }
+    ensures settled { IfOk result (λ w. HoldsNoSettledItem w.place w.bytes.items) }
+    ensures err { IfErr result (λ stop. IsStopReason stop stream.now.bytes (taken.now.items ++ waiting.new.items)) }
     ensures grows { IsBeginning waiting.old.items waiting.new.items }
 {
     let mut bytes = bytes;
@@ -188,11 +188,16 @@ fn settle_message(
 }
 
 /// Passes over blank lines, and opens the first message where its separator line is there.
-fn open_first(alloc: Global, stream: &Told, bytes: Vec<u8>, skipped: u64) -> Result<Window, Stop>
-    requires { IsUnopened stream.now.bytes bytes.items skipped [] }
-    ensures ok { IfOk result (λ w. IsKept w.place w.bytes.items stream.now.bytes []) }
-    ensures front { IfOk result (λ w. IsFrontSettled w.place w.bytes.items) }
-    ensures err { IfErr result (λ stop. IsStop stop stream.now.bytes []) }
+fn open_first(
+    alloc: Global,
+    stream: &Transcript,
+    bytes: Vec<u8>,
+    skipped: u64,
+) -> Result<Window, Stop>
+    requires { IsBeforeFirstMessage stream.now.bytes bytes.items skipped [] }
+    ensures ok { IfOk result (λ w. IsWindowAtPlace w.place w.bytes.items stream.now.bytes []) }
+    ensures front { IfOk result (λ w. FrontHoldsNoWholeLine w.place w.bytes.items) }
+    ensures err { IfErr result (λ stop. IsStopReason stop stream.now.bytes []) }
 {
     let mut bytes = bytes;
     match find_first(&bytes) {
@@ -221,16 +226,16 @@ fn open_first(alloc: Global, stream: &Told, bytes: Vec<u8>, skipped: u64) -> Res
 /// Looks at the front of the file, and behind it.
 fn settle_front(
     alloc: Global,
-    stream: &Told,
+    stream: &Transcript,
     taken: &Gone,
     bytes: Vec<u8>,
     skipped: u64,
     waiting: &mut VecDeque<OwnedItem>,
 ) -> Result<Window, Stop>
-    requires { IsUnopened stream.now.bytes bytes.items skipped (taken.now.items ++ waiting.old.items) }
-    ensures ok { IfOk result (λ w. IsKept w.place w.bytes.items stream.now.bytes (taken.now.items ++ waiting.new.items)) }
-    ensures settled { IfOk result (λ w. IsSettled w.place w.bytes.items) }
-    ensures err { IfErr result (λ stop. IsStop stop stream.now.bytes (taken.now.items ++ waiting.new.items)) }
+    requires { IsBeforeFirstMessage stream.now.bytes bytes.items skipped (taken.now.items ++ waiting.old.items) }
+    ensures ok { IfOk result (λ w. IsWindowAtPlace w.place w.bytes.items stream.now.bytes (taken.now.items ++ waiting.new.items)) }
+    ensures settled { IfOk result (λ w. HoldsNoSettledItem w.place w.bytes.items) }
+    ensures err { IfErr result (λ stop. IsStopReason stop stream.now.bytes (taken.now.items ++ waiting.new.items)) }
     ensures grows { IsBeginning waiting.old.items waiting.new.items }
 {
     let Window { bytes, place } = match open_first(alloc, stream, bytes, skipped) {
@@ -252,16 +257,16 @@ fn settle_front(
 /// without LF settles nothing.
 pub(crate) fn take_in(
     alloc: Global,
-    stream: &Told,
+    stream: &Transcript,
     taken: &Gone,
     window: Window,
     piece: &[u8],
     waiting: &mut VecDeque<OwnedItem>,
 ) -> Result<Window, Stop>
-    requires { TakesIn window.place window.bytes.items piece.now stream.now.bytes (taken.now.items ++ waiting.old.items) }
-    ensures ok { IfOk result (λ w. IsKept w.place w.bytes.items stream.now.bytes (taken.now.items ++ waiting.new.items)) }
-    ensures settled { IfOk result (λ w. IsSettled w.place w.bytes.items) }
-    ensures err { IfErr result (λ stop. IsStop stop stream.now.bytes (taken.now.items ++ waiting.new.items)) }
+    requires { AppendsPiece window.place window.bytes.items piece.now stream.now.bytes (taken.now.items ++ waiting.old.items) }
+    ensures ok { IfOk result (λ w. IsWindowAtPlace w.place w.bytes.items stream.now.bytes (taken.now.items ++ waiting.new.items)) }
+    ensures settled { IfOk result (λ w. HoldsNoSettledItem w.place w.bytes.items) }
+    ensures err { IfErr result (λ stop. IsStopReason stop stream.now.bytes (taken.now.items ++ waiting.new.items)) }
     ensures grows { IsBeginning waiting.old.items waiting.new.items }
 {
     let Window { bytes, place } = window;
@@ -303,7 +308,7 @@ fn copies(alloc: Global, messages: Messages<'_>) -> Result<VecDeque<OwnedItem>, 
 
 /// The open message and those that follow it.
 fn messages_of<'a>(head: &'a OwnedItem, bytes: &'a [u8]) -> Messages<'a>
-    ensures { result ≡ items_after (Some head.entry.now.envelope) bytes.entry.now }
+    ensures { result ≡ items_after_separator (Some head.entry.now.envelope) bytes.entry.now }
 {
     Messages::after(head.as_item().envelope, bytes)
 }
@@ -311,14 +316,14 @@ fn messages_of<'a>(head: &'a OwnedItem, bytes: &'a [u8]) -> Messages<'a>
 /// The messages of the bytes that are left at the end of the stream.
 pub(crate) fn last_messages(
     alloc: Global,
-    stream: &Told,
+    stream: &Transcript,
     taken: &Gone,
     waiting: &VecDeque<OwnedItem>,
     window: Window,
 ) -> Result<VecDeque<OwnedItem>, Stop>
-    requires { IsKept window.place window.bytes.items stream.now.bytes (taken.now.items ++ waiting.now.items) }
-    ensures ok { IfOk result (λ last. Divides stream.now.bytes (taken.now.items ++ (waiting.now.items ++ last.items))) }
-    ensures err { IfErr result (λ stop. IsEndStop stop stream.now.bytes) }
+    requires { IsWindowAtPlace window.place window.bytes.items stream.now.bytes (taken.now.items ++ waiting.now.items) }
+    ensures ok { IfOk result (λ last. DividesIntoItems stream.now.bytes (taken.now.items ++ (waiting.now.items ++ last.items))) }
+    ensures err { IfErr result (λ stop. IsEndStopReason stop stream.now.bytes) }
 {
     let Window { bytes, place } = window;
     match place {

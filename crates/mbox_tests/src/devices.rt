@@ -1,7 +1,7 @@
 //! Devices that fail after each number of bytes, pass few at once, and are interrupted.
 use mail_core::Memory;
 use mbox_core::device::{
-    Counted, ReadStop, Sink, Source, Tap, WriteFault, read_all, write_bytes, write_two,
+    Counted, ReadError, Sink, Source, Tap, WriteFault, read_all, write_bytes, write_two,
 };
 use std::alloc::Global;
 use std::io::{self, ErrorKind, Read, Write};
@@ -101,7 +101,7 @@ fn gives_so_many(alloc: Global, passes: usize) -> Result<bool, Memory> {
     let mut tap = Tap::new(alloc, TEXT, passes)?;
     let well = match read_all(alloc, &mut tap) {
         Ok(text) => passes > TEXT.len() && text.as_slice() == TEXT,
-        Err(stop) => passes <= TEXT.len() && stop == ReadStop::Read,
+        Err(stop) => passes <= TEXT.len() && stop == ReadError::Read,
     };
     Ok(well && tap.bytes() == TEXT)
 }

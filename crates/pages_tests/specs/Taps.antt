@@ -2,8 +2,8 @@
 use Rattle.std.specs.Prelude.{List, map}
 use Rattle.byte_device.specs.Device.{TapState}
 use Rattle.archive_listen.specs.Connections.{Exchange, exchange}
-use Rattle.archive_listen.specs.Gathering.{GatheredState}
+use Rattle.archive_listen.specs.Gathering.{WriteBufferState}
 
 -- both directions of each, as its two taps told them
-abbrev pub over_taps : List (TapState × GatheredState TapState) → List Exchange
-over_taps = map (λ c. exchange c.0.read c.1.inner.written)
+abbrev pub exchanges_of_taps : List (TapState × WriteBufferState TapState) → List Exchange
+exchanges_of_taps = map (λ c. exchange c.0.read c.1.inner.written)

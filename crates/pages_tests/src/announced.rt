@@ -1,8 +1,8 @@
 //! What is said before the first connection.
 use crate::peers::{Peer, Peers};
 use crate::serving::{GETS, LISTS, MOST, fill, today};
-use archive_listen::{Gathered, ROOM};
-use archive_serve::{ServeStop, Terms, serve};
+use archive_listen::{ROOM, WriteBuffer};
+use archive_serve::{ServingContext, ServingError, serve};
 use archive_store::Store;
 use mbox_core::device::Tap;
 use policy_core::Policy;
@@ -17,7 +17,7 @@ struct Case {
     port: u16,
     room: usize,
     count: u32,
-    outcome: Result<(), ServeStop>,
+    outcome: Result<(), ServingError>,
     said: &'static [u8],
     got: &'static [u8],
 }
@@ -43,7 +43,7 @@ const CASES: [Case; 5] = [
         port: 65535,
         room: 100,
         count: 2,
-        outcome: Err(ServeStop::Listen),
+        outcome: Err(ServingError::Listen),
         said: b"listening on 127.0.0.1:65535\n",
         got: LISTS,
     },
@@ -51,7 +51,7 @@ const CASES: [Case; 5] = [
         port: 8080,
         room: 9,
         count: 1,
-        outcome: Err(ServeStop::Write),
+        outcome: Err(ServingError::Write),
         said: b"listening",
         got: b"",
     },
@@ -59,7 +59,7 @@ const CASES: [Case; 5] = [
         port: 8080,
         room: 0,
         count: 1,
-        outcome: Err(ServeStop::Write),
+        outcome: Err(ServingError::Write),
         said: b"",
         got: b"",
     },
@@ -74,10 +74,10 @@ fn says_where<S: Alter>(
     case: &Case,
 ) -> Result<(), Fail> {
     let mut listener = Peers::new(alloc, &PEERS);
-    let mut output: Gathered<Tap, ROOM> = Gathered::new(Tap::new(alloc, b"", case.room)?);
+    let mut output: WriteBuffer<Tap, ROOM> = WriteBuffer::new(Tap::new(alloc, b"", case.room)?);
     let mut faults = Tap::new(alloc, b"", 1000)?;
     let policy = Policy::open();
-    let terms = Terms {
+    let terms = ServingContext {
         alloc,
         policy: &policy,
         threader: &PlainThreader,

@@ -1,7 +1,7 @@
 //! Peers that fail at each byte, and the next ones.
 use crate::peers::{ALL, Peer, Peers};
 use crate::serving::{GET, GETS, LISTS, MOST, fill, joined, today};
-use archive_serve::{Terms, serve_on};
+use archive_serve::{ServingContext, serve_on};
 use archive_store::Store;
 use mbox_core::device::Tap;
 use policy_core::Policy;
@@ -24,7 +24,7 @@ fn is_followed<S: Alter>(
     let mut listener = Peers::new(alloc, &peers);
     let mut faults = Tap::new(alloc, b"", 1000)?;
     let policy = Policy::open();
-    let terms = Terms {
+    let terms = ServingContext {
         alloc,
         policy: &policy,
         threader: &PlainThreader,

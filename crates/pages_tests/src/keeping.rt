@@ -3,14 +3,14 @@ use crate::cases::{TWO, today};
 use crate::links::{
     FIRST, PAGES, POLICY, Past, WITHDRAWN, fill, first_key, reply, request_for, thread_path,
 };
+use archive_cache::Cache;
 use archive_desk::import;
-use archive_kept::Kept;
-use archive_pages::{Pages, answer_kept};
+use archive_pages::{Pages, answer_cached};
 use archive_requests::Routes;
 use archive_store::Store;
 use desk_tests::noting::Noting;
 use mbox_core::device::Tap;
-use policy_core::{Party, Policy};
+use policy_core::{Policy, WithdrawnBy};
 use sqlite::{Alter, MemStore};
 use std::alloc::Global;
 use std::process::Abort;
@@ -61,7 +61,7 @@ pub fn pages_for<'a, T>(
         threader,
         day: today()?,
         routes: Some(Routes::new(alloc)?),
-        kept: Kept::new(alloc, most),
+        kept: Cache::new(alloc, most),
     })
 }
 
@@ -75,7 +75,7 @@ pub fn kept_reply<T: Threader, S: Alter>(
     let request = request_for(pages.alloc, token, path)?;
     let mut input = Tap::new(pages.alloc, &request, 10_000)?;
     let mut output = Tap::new(pages.alloc, b"", 100_000)?;
-    answer_kept(store, pages, &mut input, &mut output)?;
+    answer_cached(store, pages, &mut input, &mut output)?;
     Ok(output)
 }
 
@@ -122,7 +122,7 @@ fn asks_twice<S: Alter>(
             threader: &noting,
             day: today()?,
             routes,
-            kept: Kept::new(alloc, most),
+            kept: Cache::new(alloc, most),
         };
         for _ in 0..2 {
             all_ask(rt, store, &mut pages, &paths)?;
@@ -190,7 +190,7 @@ fn steps(
     for (path, _kept) in steps {
         old.push(reply(alloc, &mut store, &policy, &PlainThreader, None, path)?)?;
     }
-    store.withdraw("soc", &first_key(TWO)?, Party::Author)?;
+    store.withdraw("soc", &first_key(TWO)?, WithdrawnBy::Author)?;
     for ((path, kept), old) in steps.iter().zip(old.iter()) {
         let new = reply(alloc, &mut store, &policy, &PlainThreader, None, path)?;
         let got = kept_reply(&mut store, &mut pages, None, path)?;

@@ -7,7 +7,7 @@ use civil_time::Day;
 use desk_tests::noting::Noting;
 use mbox_core::cut;
 use mbox_core::device::Tap;
-use policy_core::{Kind, Party, Policy};
+use policy_core::{GrantKind, Policy, WithdrawnBy};
 use sqlite::Alter;
 use std::alloc::Global;
 use std::process::Abort;
@@ -75,10 +75,10 @@ pub enum Past {
 }
 
 /// The readers, by name, token and kind.
-const PERSONS: [(&str, &str, Kind); 3] = [
-    ("al", "0000000000000000", Kind::Member),
-    ("sue", "1111111111111111", Kind::Subscriber),
-    ("mo", "2222222222222222", Kind::Moderator),
+const PERSONS: [(&str, &str, GrantKind); 3] = [
+    ("al", "0000000000000000", GrantKind::Member),
+    ("sue", "1111111111111111", GrantKind::Subscriber),
+    ("mo", "2222222222222222", GrantKind::Moderator),
 ];
 
 /// How many pages there are for nobody and for each person.
@@ -106,7 +106,7 @@ pub fn fill<S: Alter>(alloc: Global, store: &mut Store<S>, past: Past) -> Result
     import(store, alloc, "soc", FIRST)?;
     if past == Past::Withdrawn {
         import(store, alloc, "soc", WITHDRAWN)?;
-        store.withdraw("soc", &first_key(WITHDRAWN)?, Party::Author)?;
+        store.withdraw("soc", &first_key(WITHDRAWN)?, WithdrawnBy::Author)?;
     }
     import(store, alloc, "soc", OTHERS)?;
     let last = Key::of(&cut(OTHERS)?.nth(6).ok_or("a message")?);

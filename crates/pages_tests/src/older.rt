@@ -3,7 +3,7 @@
 use crate::breaking::{Stage, Step, empty, few_pages, hold_the_same, left, over_files, stopping};
 use crate::cases::today;
 use crate::pages::{OF_TWO, all_get};
-use archive_desk::{DeskFault, ExportStop, export};
+use archive_desk::{DeskError, ExportStop, export};
 use archive_results::{Ask, Reader};
 use archive_store::Store;
 use mbox_core::device::Tap;
@@ -75,7 +75,7 @@ pub fn is_as_before<S: Alter>(
     let mut out = Tap::new(alloc, b"", 10)?;
     let stopped = ExportStop {
         written: 10,
-        fault: DeskFault::Write,
+        fault: DeskError::Write,
     };
     assert_eq!(rt; export(store, alloc, &ask, &mut out), Err(stopped));
     assert_eq!(rt; out.bytes(), b"From anna@".as_slice());

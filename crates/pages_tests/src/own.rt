@@ -5,7 +5,7 @@ use crate::pages::{DENIED, OF_SECOND, OF_TWO, WITHDRAWN};
 use archive_desk::import;
 use archive_store::{Key, Store};
 use mbox_core::cut;
-use policy_core::{Party, Policy};
+use policy_core::{Policy, WithdrawnBy};
 use sqlite::Alter;
 use std::alloc::Global;
 use std::process::Abort;
@@ -90,7 +90,7 @@ fn sees<S: Alter>(
 fn fill<S: Alter>(alloc: Global, store: &mut Store<S>) -> Result<(), Fail> {
     import(store, alloc, "soc", TWO)?;
     let first = Key::of(&cut(TWO)?.next().ok_or("a first message")?);
-    store.withdraw("soc", &first, Party::Board)?;
+    store.withdraw("soc", &first, WithdrawnBy::Board)?;
     for (person, token) in PERSONS {
         store.person_add(person, token)?;
     }

@@ -4,7 +4,7 @@ use crate::requests::NOT_FOUND;
 use archive_desk::import;
 use archive_store::{Key, Store};
 use mbox_core::cut;
-use policy_core::{Kind, Party, Policy};
+use policy_core::{GrantKind, Policy, WithdrawnBy};
 use sqlite::Alter;
 use std::alloc::Global;
 use std::process::Abort;
@@ -237,7 +237,7 @@ pub fn apart<S: Alter>(rt: &impl Abort, alloc: Global, store: &mut Store<S>) -> 
 fn withdraw_first<S: Alter>(alloc: Global, store: &mut Store<S>) -> Result<(), Fail> {
     import(store, alloc, "soc", TWO)?;
     let first = Key::of(&cut(TWO)?.next().ok_or("a first message")?);
-    store.withdraw("soc", &first, Party::Author)?;
+    store.withdraw("soc", &first, WithdrawnBy::Author)?;
     Ok(())
 }
 
@@ -248,7 +248,7 @@ pub fn withdrawn<S: Alter>(
     store: &mut Store<S>,
 ) -> Result<(), Fail> {
     withdraw_first(alloc, store)?;
-    store.grant("mo", "soc", Kind::Moderator, today()?, today()?)?;
+    store.grant("mo", "soc", GrantKind::Moderator, today()?, today()?)?;
     let policy = Policy::read(alloc, WITHDRAWN)?;
     all_get(rt, alloc, store, &policy, &DENIED)?;
     all_get(rt, alloc, store, &policy, &OF_WITHDRAWN)

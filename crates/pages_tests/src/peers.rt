@@ -1,9 +1,9 @@
 //! Peers of memory, which say something and whose directions pass so many bytes.
 ghost use Rattle.std.specs.Prelude.{◌≡◌, ◌++◌, [], ◌∷◌};
 ghost use Rattle.archive_listen.specs.Connections.{exchange};
-ghost use Rattle.pages_tests.specs.Taps.{over_taps};
+ghost use Rattle.pages_tests.specs.Taps.{exchanges_of_taps};
 
-use archive_listen::{AcceptFault, Connection, Gathered, Listener, ROOM};
+use archive_listen::{AcceptError, Connection, Listener, ROOM, WriteBuffer};
 use http_server::Log;
 use mbox_core::device::Tap;
 use std::alloc::Global;
@@ -33,7 +33,7 @@ pub struct Peers<'a> {
     pub peers: &'a [Peer],
     /// What all of them got.
     pub got: Vec<u8>,
-    taken: Log<Tap, Gathered<Tap, ROOM>>,
+    taken: Log<Tap, WriteBuffer<Tap, ROOM>>,
 }
 
 impl<'a> Peers<'a> {
@@ -50,25 +50,25 @@ impl<'a> Peers<'a> {
 
 impl<'a> Listener for Peers<'a> {
     ghost use Rattle.std.specs.Prelude.{◌≡◌, ◌++◌, [], ◌∷◌};
-    ghost use Rattle.pages_tests.specs.Taps.{over_taps};
+    ghost use Rattle.pages_tests.specs.Taps.{exchanges_of_taps};
 
     type Input = Tap;
 
-    type Output = Gathered<Tap, ROOM>;
+    type Output = WriteBuffer<Tap, ROOM>;
 
-    ghost over = { λ p. over_taps p.taken.items };
+    ghost over = { λ p. exchanges_of_taps p.taken.items };
 
-    ghost accepts = { λ old new fault. over_taps new.taken.items ≡ over_taps old.taken.items };
+    ghost accepts = { λ old new fault. exchanges_of_taps new.taken.items ≡ exchanges_of_taps old.taken.items };
 
-    ghost closes = { λ old new went broke_off. over_taps new.taken.items ≡ over_taps old.taken.items ++ went ∷ [] };
+    ghost closes = { λ old new went broke_off. exchanges_of_taps new.taken.items ≡ exchanges_of_taps old.taken.items ++ went ∷ [] };
 
     ghost accepts_none = { λ old new fault same. same };
 
     ghost closes_one = { λ old new went broke_off more. more };
 
-    fn accept(&mut self) -> Result<Connection<Tap, Gathered<Tap, ROOM>>, AcceptFault> {
+    fn accept(&mut self) -> Result<Connection<Tap, WriteBuffer<Tap, ROOM>>, AcceptError> {
         let Some((first, rest)) = self.peers.split_first() else {
-            return Err(AcceptFault::Listener);
+            return Err(AcceptError::Listener);
         };
         self.peers = rest;
         let Peer::Says {
@@ -77,22 +77,22 @@ impl<'a> Listener for Peers<'a> {
             writes,
         } = *first
         else {
-            return Err(AcceptFault::Peer);
+            return Err(AcceptError::Peer);
         };
         let Ok(input) = Tap::new(self.alloc, text, reads) else {
-            return Err(AcceptFault::Listener);
+            return Err(AcceptError::Listener);
         };
         let Ok(output) = Tap::new(self.alloc, b"", writes) else {
-            return Err(AcceptFault::Listener);
+            return Err(AcceptError::Listener);
         };
         Ok(Connection {
             input,
-            output: Gathered::new(output),
+            output: WriteBuffer::new(output),
         })
     }
 
-    fn close(&mut self, connection: Connection<Tap, Gathered<Tap, ROOM>>, breaks_off: bool)
-        ensures closes { over_taps self.new.taken.items ≡ over_taps self.old.taken.items
+    fn close(&mut self, connection: Connection<Tap, WriteBuffer<Tap, ROOM>>, breaks_off: bool)
+        ensures closes { exchanges_of_taps self.new.taken.items ≡ exchanges_of_taps self.old.taken.items
             ++ exchange connection.input.read connection.output.inner.written ∷ [] }
     {
         self.taken = self.taken.and(&connection.input, &connection.output);

@@ -1,12 +1,12 @@
 //! Peers one after the other, and what comes of them.
 use crate::peers::{ALL, Peer, Peers};
 use archive_desk::import;
-use archive_serve::{ServeStop, Terms, serve_on};
+use archive_serve::{ServingContext, ServingError, serve_on};
 use archive_store::{Key, Store};
 use civil_time::Day;
 use mbox_core::cut;
 use mbox_core::device::Tap;
-use policy_core::{Party, Policy};
+use policy_core::{Policy, WithdrawnBy};
 use sqlite::Alter;
 use std::alloc::Global;
 use std::process::Abort;
@@ -90,7 +90,7 @@ const LEAVES: Peer = Peer::Says {
 struct Case {
     peers: &'static [Peer],
     count: u32,
-    outcome: Result<(), ServeStop>,
+    outcome: Result<(), ServingError>,
     got: &'static [&'static [u8]],
     told: &'static [u8],
 }
@@ -134,14 +134,14 @@ const CASES: [Case; 7] = [
     Case {
         peers: &[GETS, Peer::Gone],
         count: 3,
-        outcome: Err(ServeStop::Listen),
+        outcome: Err(ServingError::Listen),
         got: &[LISTS],
         told: b"archive: S1 Read\n",
     },
     Case {
         peers: &[],
         count: 1,
-        outcome: Err(ServeStop::Listen),
+        outcome: Err(ServingError::Listen),
         got: &[],
         told: b"",
     },
@@ -160,7 +160,7 @@ pub fn fill<S: Alter>(alloc: Global, store: &mut Store<S>) -> Result<(), Fail> {
     store.list_add("soc")?;
     import(store, alloc, "soc", TWO)?;
     let first = Key::of(&cut(TWO)?.next().ok_or("a first message")?);
-    store.withdraw("soc", &first, Party::Author)?;
+    store.withdraw("soc", &first, WithdrawnBy::Author)?;
     Ok(())
 }
 
@@ -183,7 +183,7 @@ fn comes<S: Alter>(
 ) -> Result<(), Fail> {
     let mut listener = Peers::new(alloc, case.peers);
     let mut faults = Tap::new(alloc, b"", 1000)?;
-    let terms = Terms {
+    let terms = ServingContext {
         alloc,
         policy,
         threader: &PlainThreader,

@@ -1,7 +1,7 @@
 //! A peer of this process, on the loopback interface.
 use crate::serving::{GET, LISTS, MOST, fill, today};
 use archive_listen::Loopback;
-use archive_serve::{Terms, serve_on};
+use archive_serve::{ServingContext, serve_on};
 use archive_store::Store;
 use mbox_core::device::Tap;
 use policy_core::Policy;
@@ -21,7 +21,7 @@ fn asks<S: Alter>(rt: &HostRuntime, alloc: Global, store: &mut Store<S>) -> Resu
     peer.write_all(GET)?;
     let mut faults = Tap::new(alloc, b"", 1000)?;
     let policy = Policy::open();
-    let terms = Terms {
+    let terms = ServingContext {
         alloc,
         policy: &policy,
         threader: &PlainThreader,

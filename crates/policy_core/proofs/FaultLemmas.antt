@@ -10,21 +10,22 @@ use Rattle.std.proofs.lemmas.Bool.{false≢true}
 use Rattle.policy_core.specs.Rules.{Rule}
 use Rattle.policy_core.specs.declared.keys.Key.{Key}
 use Rattle.policy_core.specs.Names.{is_name}
-use Rattle.policy_core.specs.Written.{refuse, first_of, fails, some_that, is_text, is_table, is_array_of, is_rule_key, keys_of, effect_named, rule_values, tables_of}
-use Rattle.policy_core.specs.Written.{name_refusal, effect_refusal, row, all_keys, value_refusal, key_refusal, conditions_refusal, conditions_of, has_no_day}
-use Rattle.policy_core.specs.Written.{rule_refusal, rules_refusal, text_at, tree_refusal, unless_refused, policy_in, written_policy}
+use Rattle.policy_core.specs.Written.{refusal_if, first_refusal, is_some_and_fails, is_some_and_passes, is_text_value, is_table_value}
+use Rattle.policy_core.specs.Written.{is_array_of, is_rule_key, member_keys, effect_named, rule_values, rule_tables}
+use Rattle.policy_core.specs.Written.{name_refusal, effect_refusal, key_row, condition_keys, value_refusal, key_refusal, conditions_refusal, conditions_of, has_no_day}
+use Rattle.policy_core.specs.Written.{rule_refusal, rules_refusal, text_at_key, tree_refusal, rules_unless_refused, policy_of_document, written_policy}
 
 -- nothing, or the refusal of a tree
 is_tree_fault : Option PolicyFault → Bool
 is_tree_fault (Some NotToml) = false
 is_tree_fault _ = true
 
-one : (fault : PolicyFault) (found : Bool) → is_tree_fault (Some fault) ≡ true → is_tree_fault (refuse fault found) ≡ true
+one : (fault : PolicyFault) (found : Bool) → is_tree_fault (Some fault) ≡ true → is_tree_fault (refusal_if fault found) ≡ true
 unfolding is_tree_fault
 one fault true h = h
 one fault false h = refl
 
-first : (faults : List (Option PolicyFault)) → list_all is_tree_fault faults ≡ true → is_tree_fault (first_of faults) ≡ true
+first : (faults : List (Option PolicyFault)) → list_all is_tree_fault faults ≡ true → is_tree_fault (first_refusal faults) ≡ true
 unfolding is_tree_fault
 first [] h = refl
 first (None ∷ faults) h = first faults h
@@ -44,27 +45,27 @@ nothing : is_tree_fault None ≡ true
 unfolding is_tree_fault
 nothing = refl
 
-unknown : (n : ℕ) (b : Bool) → is_tree_fault (refuse (UnknownKey n) b) ≡ true
+unknown : (n : ℕ) (b : Bool) → is_tree_fault (refusal_if (UnknownKey n) b) ≡ true
 unfolding is_tree_fault
 unknown n b = one (UnknownKey n) b refl
 
-typed : (n : ℕ) (b : Bool) → is_tree_fault (refuse (WrongType n) b) ≡ true
+typed : (n : ℕ) (b : Bool) → is_tree_fault (refusal_if (WrongType n) b) ≡ true
 unfolding is_tree_fault
 typed n b = one (WrongType n) b refl
 
-valued : (n : ℕ) (b : Bool) → is_tree_fault (refuse (BadValue n) b) ≡ true
+valued : (n : ℕ) (b : Bool) → is_tree_fault (refusal_if (BadValue n) b) ≡ true
 unfolding is_tree_fault
 valued n b = one (BadValue n) b refl
 
-named : (n : ℕ) (b : Bool) → is_tree_fault (refuse (BadName n) b) ≡ true
+named : (n : ℕ) (b : Bool) → is_tree_fault (refusal_if (BadName n) b) ≡ true
 unfolding is_tree_fault
 named n b = one (BadName n) b refl
 
-twice : (n : ℕ) (b : Bool) → is_tree_fault (refuse (DuplicateName n) b) ≡ true
+twice : (n : ℕ) (b : Bool) → is_tree_fault (refusal_if (DuplicateName n) b) ≡ true
 unfolding is_tree_fault
 twice n b = one (DuplicateName n) b refl
 
-many : (b : Bool) → is_tree_fault (refuse TooManyRules b) ≡ true
+many : (b : Bool) → is_tree_fault (refusal_if TooManyRules b) ≡ true
 unfolding is_tree_fault
 many b = one TooManyRules b refl
 
@@ -72,10 +73,10 @@ name-fault : (n : ℕ) (earlier : List (List ℕ)) (given : Option Data) → is_
 unfolding name_refusal
 name-fault n earlier given =
     first (
-    refuse (WrongType n) (fails is_text given)
-    ∷ refuse (BadValue n) (is_none given)
-    ∷ refuse (BadName n) (fails (λ d. some_that is_name (as_str d)) given)
-    ∷ refuse (DuplicateName n) (some_that (λ d. some_that (λ name. list_any (bytes_eq name) (codes "default" ∷ earlier)) (as_str d)) given)
+    refusal_if (WrongType n) (is_some_and_fails is_text_value given)
+    ∷ refusal_if (BadValue n) (is_none given)
+    ∷ refusal_if (BadName n) (is_some_and_fails (λ d. is_some_and_passes is_name (as_str d)) given)
+    ∷ refusal_if (DuplicateName n) (is_some_and_passes (λ d. is_some_and_passes (λ name. list_any (bytes_eq name) (codes "default" ∷ earlier)) (as_str d)) given)
     ∷ [])
     (both _ _ (typed n _) (both _ _ (valued n _) (both _ _ (named n _) (both _ _ (twice n _) refl))))
 
@@ -83,9 +84,9 @@ effect-fault : (n : ℕ) (given : Option Data) → is_tree_fault (effect_refusal
 unfolding effect_refusal
 effect-fault n given =
     first (
-    refuse (WrongType n) (fails is_text given)
-    ∷ refuse (BadValue n) (is_none given)
-    ∷ refuse (BadValue n) (fails (λ d. some_that (λ word. is_some (effect_named word)) (as_str d)) given)
+    refusal_if (WrongType n) (is_some_and_fails is_text_value given)
+    ∷ refusal_if (BadValue n) (is_none given)
+    ∷ refusal_if (BadValue n) (is_some_and_fails (λ d. is_some_and_passes (λ word. is_some (effect_named word)) (as_str d)) given)
     ∷ [])
     (both _ _ (typed n _) (both _ _ (valued n _) (both _ _ (valued n _) refl)))
 
@@ -94,13 +95,13 @@ value-fault : {A : Type 0} (n : ℕ) (is_typed : Data → Bool) (read : Data →
 unfolding value_refusal
 value-fault n is_typed read None = nothing
 value-fault n is_typed read (Some d) =
-    first (refuse (WrongType n) (not (is_typed d)) ∷ refuse (BadValue n) (is_none (read d)) ∷ [])
+    first (refusal_if (WrongType n) (not (is_typed d)) ∷ refusal_if (BadValue n) (is_none (read d)) ∷ [])
     (both _ _ (typed n _) (both _ _ (valued n _) refl))
 
 key-faults : (n : ℕ) (rule : Members) (keys : List Key) → list_all is_tree_fault (map (key_refusal n rule) keys) ≡ true
 key-faults n rule [] = refl
 key-faults n rule (key ∷ keys) =
-    both _ _ (value-fault n (row key).is_typed (row key).read (get_member (row key).word rule)) (key-faults n rule keys)
+    both _ _ (value-fault n (key_row key).is_typed (key_row key).read (get_member (key_row key).word rule)) (key-faults n rule keys)
 
 conditions-fault : (n : ℕ) (rule : Members) (keys : List Key) → is_tree_fault (conditions_refusal n rule keys) ≡ true
 unfolding conditions_refusal
@@ -110,37 +111,37 @@ rule-fault : (n : ℕ) (earlier : List (List ℕ)) (rule : Members) → is_tree_
 unfolding rule_refusal
 rule-fault n earlier rule =
     first (
-    refuse (UnknownKey n) (not (list_all is_rule_key (keys_of rule)))
+    refusal_if (UnknownKey n) (not (list_all is_rule_key (member_keys rule)))
     ∷ name_refusal n earlier (get_member (codes "name") rule)
     ∷ effect_refusal n (get_member (codes "effect") rule)
-    ∷ conditions_refusal n rule all_keys
-    ∷ refuse (BadValue n) (has_no_day (conditions_of rule all_keys))
+    ∷ conditions_refusal n rule condition_keys
+    ∷ refusal_if (BadValue n) (has_no_day (conditions_of rule condition_keys))
     ∷ [])
     (both _ _ (unknown n _)
     (both _ _ (name-fault n earlier (get_member (codes "name") rule))
     (both _ _ (effect-fault n (get_member (codes "effect") rule))
-    (both _ _ (conditions-fault n rule all_keys)
+    (both _ _ (conditions-fault n rule condition_keys)
     (both _ _ (valued n _) refl)))))
 
 rules-fault : (n : ℕ) (earlier : List (List ℕ)) (rules : List Members) → is_tree_fault (rules_refusal n earlier rules) ≡ true
 unfolding rules_refusal
 rules-fault n earlier [] = nothing
 rules-fault n earlier (rule ∷ rules) =
-    first (rule_refusal n earlier rule ∷ rules_refusal (suc n) (earlier ++ text_at (codes "name") rule ∷ []) rules ∷ [])
-    (both _ _ (rule-fault n earlier rule) (both _ _ (rules-fault (suc n) (earlier ++ text_at (codes "name") rule ∷ []) rules) refl))
+    first (rule_refusal n earlier rule ∷ rules_refusal (suc n) (earlier ++ text_at_key (codes "name") rule ∷ []) rules ∷ [])
+    (both _ _ (rule-fault n earlier rule) (both _ _ (rules-fault (suc n) (earlier ++ text_at_key (codes "name") rule ∷ []) rules) refl))
 
 tree-fault : (tree : Members) → is_tree_fault (tree_refusal tree) ≡ true
 unfolding tree_refusal
 tree-fault tree =
     first (
-    refuse (UnknownKey 0) (not (list_all (λ key. bytes_eq key (codes "rule")) (keys_of tree)))
-    ∷ refuse (WrongType 0) (fails (is_array_of is_table) (get_member (codes "rule") tree))
-    ∷ refuse TooManyRules (nat_lt 200 (length (rule_values (get_member (codes "rule") tree))))
-    ∷ rules_refusal 1 [] (tables_of (get_member (codes "rule") tree))
+    refusal_if (UnknownKey 0) (not (list_all (λ key. bytes_eq key (codes "rule")) (member_keys tree)))
+    ∷ refusal_if (WrongType 0) (is_some_and_fails (is_array_of is_table_value) (get_member (codes "rule") tree))
+    ∷ refusal_if TooManyRules (nat_lt 200 (length (rule_values (get_member (codes "rule") tree))))
+    ∷ rules_refusal 1 [] (rule_tables (get_member (codes "rule") tree))
     ∷ [])
-    (both _ _ (unknown 0 _) (both _ _ (typed 0 _) (both _ _ (many _) (both _ _ (rules-fault 1 [] (tables_of (get_member (codes "rule") tree))) refl))))
+    (both _ _ (unknown 0 _) (both _ _ (typed 0 _) (both _ _ (many _) (both _ _ (rules-fault 1 [] (rule_tables (get_member (codes "rule") tree))) refl))))
 
-refused : (refusal : Option PolicyFault) (rules : List Rule) → is_tree_fault refusal ≡ true → unless_refused refusal rules ≢ Err NotToml
+refused : (refusal : Option PolicyFault) (rules : List Rule) → is_tree_fault refusal ≡ true → rules_unless_refused refusal rules ≢ Err NotToml
 unfolding is_tree_fault
 refused None rules h is = cc
 refused (Some NotToml) rules h is = absurd (false≢true h)
@@ -152,7 +153,7 @@ refused (Some (BadValue n)) rules h is = cc
 refused (Some TooManyRules) rules h is = cc
 refused (Some Memory) rules h is = cc
 
-in_tree : (tree : Option Members) → policy_in tree ≡ Err NotToml → tree ≡ None
+in_tree : (tree : Option Members) → policy_of_document tree ≡ Err NotToml → tree ≡ None
 in_tree None is = refl
 in_tree (Some tree) is = absurd (refused _ _ (tree-fault tree) is)
 

@@ -11,8 +11,8 @@ use Rattle.policy_core.specs.declared.access.Standing.TheVariants.{Public, Membe
 use Rattle.policy_core.specs.declared.access.Withdrawn.{Withdrawn}
 use Rattle.policy_core.specs.declared.access.Withdrawn.TheVariants.{No, Author, Board}
 use Rattle.policy_core.specs.Facts.{Facts, is_embargoed, age, same_standing, same_withdrawal}
-use Rattle.policy_core.specs.Rules.{Condition, lists, standings, withdrawn, embargo, age_min, from, until, own, Rule, open_rule, asks_own, is_about_own, holds, same_bool, fits}
-use Rattle.policy_core.specs.Verdict.{Holds, Fits, IsDecidedBy, allowed, denied, ruling_by, ruling_of_head, verdict_of}
+use Rattle.policy_core.specs.Rules.{Condition, lists, standings, withdrawn, embargo, age_min, from, until, own, Rule, open_rule, has_own_condition, is_own_condition, condition_holds, same_bool, fits}
+use Rattle.policy_core.specs.Verdict.{ConditionHolds, RuleFits, IsDecidedBy, allowed, denied, ruling_of_rule, ruling_of_first_rule, verdict_of}
 
 -- ---- one condition
 
@@ -92,7 +92,7 @@ bytes_eq-is a b h = grind (arith, bytes_eq-Decides)
 bytes_eq-itself : (a : List ℕ) → bytes_eq a a ≡ true
 bytes_eq-itself a = grind (arith, bytes_eq-Decides)
 
-Holds-from_holds : (condition : Condition) (f : Facts) → holds condition f ≡ true → Holds condition f
+Holds-from_holds : (condition : Condition) (f : Facts) → condition_holds condition f ≡ true → ConditionHolds condition f
 Holds-from_holds (lists names) f h = Contains-from_any bytes_eq bytes_eq-is f.list names h
 Holds-from_holds (standings among) f h = Contains-from_any same_standing same_standing-is f.standing among h
 Holds-from_holds (withdrawn among) f h = Contains-from_any same_withdrawal same_withdrawal-is f.withdrawn among h
@@ -102,7 +102,7 @@ Holds-from_holds (from first) f h = le-from_int_le first f.day h
 Holds-from_holds (until last) f h = le-from_int_le f.day last h
 Holds-from_holds (own stated) f h = same_bool-is stated f.own h
 
-holds-from_Holds : (condition : Condition) (f : Facts) → Holds condition f → holds condition f ≡ true
+holds-from_Holds : (condition : Condition) (f : Facts) → ConditionHolds condition f → condition_holds condition f ≡ true
 holds-from_Holds (lists names) f h = any-from_Contains bytes_eq bytes_eq-itself f.list names h
 holds-from_Holds (standings among) f h = any-from_Contains same_standing same_standing-itself f.standing among h
 holds-from_Holds (withdrawn among) f h = any-from_Contains same_withdrawal same_withdrawal-itself f.withdrawn among h
@@ -114,21 +114,21 @@ holds-from_Holds (own stated) f h = same_bool-itself stated f.own h
 
 -- ---- all conditions
 
-pub Fits-from_fits : (r : Rule) (f : Facts) → fits r f ≡ true → Fits r f
+pub Fits-from_fits : (r : Rule) (f : Facts) → fits r f ≡ true → RuleFits r f
 Fits-from_fits r f h = each r.conditions h
   where
-    each : (conditions : List Condition) → list_all (λ condition. holds condition f) conditions ≡ true → AllByRecursion (λ condition. Holds condition f) conditions
+    each : (conditions : List Condition) → list_all (λ condition. condition_holds condition f) conditions ≡ true → AllByRecursion (λ condition. ConditionHolds condition f) conditions
     each [] h = tt
     each (condition ∷ conditions) h = let both = and_parts _ _ h in (Holds-from_holds condition f both.0, each conditions both.1)
 
-pub fits-from_Fits : (r : Rule) (f : Facts) → Fits r f → fits r f ≡ true
+pub fits-from_Fits : (r : Rule) (f : Facts) → RuleFits r f → fits r f ≡ true
 fits-from_Fits r f h = each r.conditions h
   where
-    each : (conditions : List Condition) → AllByRecursion (λ condition. Holds condition f) conditions → list_all (λ condition. holds condition f) conditions ≡ true
+    each : (conditions : List Condition) → AllByRecursion (λ condition. ConditionHolds condition f) conditions → list_all (λ condition. condition_holds condition f) conditions ≡ true
     each [] h = refl
     each (condition ∷ conditions) h = rw (holds-from_Holds condition f h.0) (each conditions h.1)
 
-misfit : (r : Rule) (f : Facts) → ¬ Fits r f → (b : Bool) → fits r f ≡ b → fits r f ≡ false
+misfit : (r : Rule) (f : Facts) → ¬ RuleFits r f → (b : Bool) → fits r f ≡ b → fits r f ≡ false
 misfit r f none true is = absurd (none (Fits-from_fits r f is))
 misfit r f none false is = is
 
@@ -138,7 +138,7 @@ or_false : (a b : Bool) → (a || b) ≡ false → (a ≡ false) × (b ≡ false
 or_false false b is = (refl, is)
 or_false true b is = absurd (cc)
 
-unasked_condition : (condition : Condition) (f : Facts) (o : Bool) → is_about_own condition ≡ false → holds condition (record f { own = o }) ≡ holds condition f
+unasked_condition : (condition : Condition) (f : Facts) (o : Bool) → is_own_condition condition ≡ false → condition_holds condition (record f { own = o }) ≡ condition_holds condition f
 unasked_condition (lists names) f o none = refl
 unasked_condition (standings among) f o none = refl
 unasked_condition (withdrawn among) f o none = refl
@@ -148,43 +148,43 @@ unasked_condition (from first) f o none = refl
 unasked_condition (until last) f o none = refl
 unasked_condition (own stated) f o none = absurd (cc)
 
-unasked_fit : (r : Rule) (f : Facts) (o : Bool) → list_any is_about_own r.conditions ≡ false → fits r (record f { own = o }) ≡ fits r f
+unasked_fit : (r : Rule) (f : Facts) (o : Bool) → list_any is_own_condition r.conditions ≡ false → fits r (record f { own = o }) ≡ fits r f
 unasked_fit r f o none = each r.conditions none
   where
-    each : (conditions : List Condition) → list_any is_about_own conditions ≡ false
-        → list_all (λ condition. holds condition (record f { own = o })) conditions ≡ list_all (λ condition. holds condition f) conditions
+    each : (conditions : List Condition) → list_any is_own_condition conditions ≡ false
+        → list_all (λ condition. condition_holds condition (record f { own = o })) conditions ≡ list_all (λ condition. condition_holds condition f) conditions
     each [] none = refl
     each (condition ∷ conditions) none =
-        let parts = or_false (is_about_own condition) (list_any is_about_own conditions) none in
+        let parts = or_false (is_own_condition condition) (list_any is_own_condition conditions) none in
         rw (unasked_condition condition f o parts.0, each conditions parts.1) refl
 
-pub unasked : (rules : List Rule) (f : Facts) (o : Bool) → asks_own rules ≡ false → verdict_of rules (record f { own = o }) ≡ verdict_of rules f
-unasked rules f o none = ap ruling_of_head (alike rules none)
+pub unasked : (rules : List Rule) (f : Facts) (o : Bool) → has_own_condition rules ≡ false → verdict_of rules (record f { own = o }) ≡ verdict_of rules f
+unasked rules f o none = ap ruling_of_first_rule (alike rules none)
   where
-    alike : (rules : List Rule) → asks_own rules ≡ false → filter (λ r. fits r (record f { own = o })) rules ≡ filter (λ r. fits r f) rules
+    alike : (rules : List Rule) → has_own_condition rules ≡ false → filter (λ r. fits r (record f { own = o })) rules ≡ filter (λ r. fits r f) rules
     alike [] is = refl
     alike (r ∷ rules) is =
-        let both = or_false (list_any is_about_own r.conditions) (asks_own rules) is in
+        let both = or_false (list_any is_own_condition r.conditions) (has_own_condition rules) is in
         rw (unasked_fit r f o both.0) (ap (λ (rest : List Rule). cond (fits r f) (r ∷ rest) rest) (alike rules both.1))
 
-pub unasked_by : (rules : List Rule) (result : Bool) → result ≡ asks_own rules → result ≡ false → (f : Facts) (o : Bool) → verdict_of rules (record f { own = o }) ≡ verdict_of rules f
+pub unasked_by : (rules : List Rule) (result : Bool) → result ≡ has_own_condition rules → result ≡ false → (f : Facts) (o : Bool) → verdict_of rules (record f { own = o }) ≡ verdict_of rules f
 unasked_by rules result value none = λ f own. unasked rules f own (sym value ∙ none)
 
 -- ---- which rule decides
 
-decided-front : (before after : List Rule) (r : Rule) (f : Facts) → AllByRecursion (λ q. ¬ Fits q f) before → Fits r f
-    → verdict_of (before ++ r ∷ after) f ≡ ruling_by r
+decided-front : (before after : List Rule) (r : Rule) (f : Facts) → AllByRecursion (λ q. ¬ RuleFits q f) before → RuleFits r f
+    → verdict_of (before ++ r ∷ after) f ≡ ruling_of_rule r
 decided-front [] after r f none fit = rw (fits-from_Fits r f fit) refl
 decided-front (q ∷ before) after r f none fit = rw (misfit q f none.0 _ refl) (decided-front before after r f none.1 fit)
 
-pub decided : (rules : List Rule) (r : Rule) (f : Facts) → IsDecidedBy rules f r → verdict_of rules f ≡ ruling_by r
+pub decided : (rules : List Rule) (r : Rule) (f : Facts) → IsDecidedBy rules f r → verdict_of rules f ≡ ruling_of_rule r
 decided rules r f h = rw h.stand (decided-front h.before h.after r f h.none h.fit)
 
-pub undecided : (rules : List Rule) (f : Facts) → AllByRecursion (λ q. ¬ Fits q f) rules → verdict_of rules f ≡ denied (codes "default")
+pub undecided : (rules : List Rule) (f : Facts) → AllByRecursion (λ q. ¬ RuleFits q f) rules → verdict_of rules f ≡ denied (codes "default")
 undecided [] f none = refl
 undecided (q ∷ rules) f none = rw (misfit q f none.0 _ refl) (undecided rules f none.1)
 
-pub decided-open : (rules : List Rule) (r : Rule) (f : Facts) → rules ≡ open_rule ∷ [] → IsDecidedBy rules f r → allowed (codes "open") ≡ ruling_by r
+pub decided-open : (rules : List Rule) (r : Rule) (f : Facts) → rules ≡ open_rule ∷ [] → IsDecidedBy rules f r → allowed (codes "open") ≡ ruling_of_rule r
 decided-open rules r f is h =
     let value : allowed (codes "open") ≡ verdict_of rules f = rw is refl in
     value ∙ decided rules r f h

@@ -3,7 +3,7 @@ use Rattle.std.proofs.Common.{◌≡◌, ℕ, pos, negsuc, List, [], ◌∷◌, 
 use Rattle.policy_core.specs.declared.access.Standing.TheVariants.{Public, Member, Subscriber, Moderator}
 use Rattle.policy_core.specs.declared.access.Withdrawn.TheVariants.{No, Author, Board}
 use Rattle.policy_core.specs.Facts.{Facts, is_embargoed, age}
-use Rattle.policy_core.specs.Rules.{lists, standings, withdrawn, embargo, age_min, from, until, own, Rule, fits, asks_own, open_rule}
+use Rattle.policy_core.specs.Rules.{lists, standings, withdrawn, embargo, age_min, from, until, own, Rule, fits, has_own_condition, open_rule}
 use Rattle.policy_core.specs.Verdict.{allowed, denied, verdict_of}
 
 -- a message of the list `soc` that arrived on 2003-03-04, asked for by the public on 2003-03-20
@@ -130,8 +130,8 @@ not_of_its_author : fits (record all_rule { conditions = own false ∷ [] }) (re
 not_of_its_author = refl
 
 -- a rule for what is not the reader's own asks too
-asked_by_either : (asks_own (all_rule ∷ mine_rule ∷ []) ≡ true) × (asks_own (record all_rule { conditions = own false ∷ [] } ∷ []) ≡ true)
+asked_by_either : (has_own_condition (all_rule ∷ mine_rule ∷ []) ≡ true) × (has_own_condition (record all_rule { conditions = own false ∷ [] } ∷ []) ≡ true)
 asked_by_either = (refl, refl)
 
-asked_by_none : asks_own (withdrawn_rule ∷ all_rule ∷ []) ≡ false
+asked_by_none : has_own_condition (withdrawn_rule ∷ all_rule ∷ []) ≡ false
 asked_by_none = refl

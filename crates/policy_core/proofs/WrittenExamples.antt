@@ -9,7 +9,7 @@ use Rattle.policy_core.specs.Names.{is_name}
 use Rattle.policy_core.specs.Rules.{lists, standings, withdrawn, embargo, age_min, own, open_rule}
 use Rattle.policy_core.specs.Written.{policy_of, written_policy}
 use Rattle.policy_core.proofs.OnTrees.{on_trees}
-use Rattle.civil_time.specs.Calendar.{days_before_year, days_of_months}
+use Rattle.civil_time.specs.Calendar.{days_before_year, days_in_first_months}
 
 -- the tree of one rule with these keys
 abbrev one : Members → Members
@@ -104,7 +104,7 @@ unfolding toml_on_literals on_trees
 text_too_old = refl
 
 text_backwards : written_policy (codes "[[rule]]\nname = 'a'\neffect = 'deny'\nfrom = '2003-03-05'\nuntil = '2003-03-04'") ≡ Err (BadValue 1)
-unfolding toml_on_literals on_trees days_before_year days_of_months
+unfolding toml_on_literals on_trees days_before_year days_in_first_months
 text_backwards = refl
 
 text_own : written_policy (codes "[[rule]]\nname = 'a'\neffect = 'allow'\nown = true") ≡ Ok (record open_rule { name = codes "a"; conditions = own true ∷ [] } ∷ [])
@@ -117,7 +117,7 @@ unfolding toml_on_literals on_trees
 text_own_number = refl
 
 text_own_before_days : written_policy (codes "[[rule]]\nname = 'a'\neffect = 'deny'\nfrom = '2003-03-05'\nuntil = '2003-03-04'\nown = 1") ≡ Err (WrongType 1)
-unfolding toml_on_literals on_trees days_before_year days_of_months
+unfolding toml_on_literals on_trees days_before_year days_in_first_months
 text_own_before_days = refl
 
 -- ---- many rules

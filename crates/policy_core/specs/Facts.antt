@@ -30,15 +30,15 @@ abbrev pub age : Facts → ℤ
 age f = f.day -ℤ f.arrival_day
 
 -- the longest age that can be asked for, in days
-abbrev pub most_days : ℕ
-most_days = 36_500
+abbrev pub max_age_days : ℕ
+max_age_days = 36_500
 
 -- the order of standings, from the least to the most
-abbrev pub rank_of : Standing → ℕ
-rank_of Public = 0
-rank_of Member = 1
-rank_of Subscriber = 2
-rank_of Moderator = 3
+abbrev pub rank_of_standing : Standing → ℕ
+rank_of_standing Public = 0
+rank_of_standing Member = 1
+rank_of_standing Subscriber = 2
+rank_of_standing Moderator = 3
 
 abbrev pub same_standing : Standing → Standing → Bool
 same_standing Public Public = true

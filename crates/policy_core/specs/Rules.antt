@@ -28,28 +28,28 @@ same_bool false true = false
 same_bool false false = true
 
 -- the condition holds
-abbrev pub holds : Condition → Facts → Bool
-holds (lists names) f = list_any (λ name. bytes_eq name f.list) names
-holds (standings among) f = list_any (λ standing. same_standing standing f.standing) among
-holds (withdrawn among) f = list_any (λ withdrawal. same_withdrawal withdrawal f.withdrawn) among
-holds (embargo on) f = same_bool on (is_embargoed f)
-holds (age_min least) f = int_le (pos least) (age f)
-holds (from first) f = int_le first f.day
-holds (until last) f = int_le f.day last
-holds (own stated) f = same_bool stated f.own
+abbrev pub condition_holds : Condition → Facts → Bool
+condition_holds (lists names) f = list_any (λ name. bytes_eq name f.list) names
+condition_holds (standings among) f = list_any (λ standing. same_standing standing f.standing) among
+condition_holds (withdrawn among) f = list_any (λ withdrawal. same_withdrawal withdrawal f.withdrawn) among
+condition_holds (embargo on) f = same_bool on (is_embargoed f)
+condition_holds (age_min least) f = int_le (pos least) (age f)
+condition_holds (from first) f = int_le first f.day
+condition_holds (until last) f = int_le f.day last
+condition_holds (own stated) f = same_bool stated f.own
 
 -- all conditions that the rule states hold
 abbrev pub fits : Rule → Facts → Bool
-fits r f = list_all (λ condition. holds condition f) r.conditions
+fits r f = list_all (λ condition. condition_holds condition f) r.conditions
 
 -- a condition that a message is the reader's own, or that it is not
-abbrev pub is_about_own : Condition → Bool
-is_about_own (own stated) = true
-is_about_own _ = false
+abbrev pub is_own_condition : Condition → Bool
+is_own_condition (own stated) = true
+is_own_condition _ = false
 
 -- a rule of these asks whether a message is the reader's own, or whether it is not
-abbrev pub asks_own : List Rule → Bool
-asks_own rules = list_any (λ r. list_any is_about_own r.conditions) rules
+abbrev pub has_own_condition : List Rule → Bool
+has_own_condition rules = list_any (λ r. list_any is_own_condition r.conditions) rules
 
 -- the one rule of the policy that lets everybody read everything
 abbrev pub open_rule : Rule

@@ -12,44 +12,44 @@ pub data Ruling : Type 0 where
   denied : List ℕ → Ruling
 
 -- what a verdict says
-abbrev pub ruling : Verdict → Ruling
-ruling (Allowed name) = allowed name.now
-ruling (Denied name) = denied name.now
+abbrev pub ruling_of_verdict : Verdict → Ruling
+ruling_of_verdict (Allowed name) = allowed name.now
+ruling_of_verdict (Denied name) = denied name.now
 
 -- the effect and the name of a rule
-abbrev pub ruling_by : Rule → Ruling
-ruling_by r = if r.allows then allowed r.name else denied r.name
+abbrev pub ruling_of_rule : Rule → Ruling
+ruling_of_rule r = if r.allows then allowed r.name else denied r.name
 
 -- what the head of the fitting rules says; where none fits, a denial by `default`
-abbrev pub ruling_of_head : List Rule → Ruling
-ruling_of_head [] = denied (codes "default")
-ruling_of_head (r ∷ rs) = ruling_by r
+abbrev pub ruling_of_first_rule : List Rule → Ruling
+ruling_of_first_rule [] = denied (codes "default")
+ruling_of_first_rule (r ∷ rs) = ruling_of_rule r
 
 -- Profile: the first rule that fits decides, whatever stands behind it; where none fits, the message is denied by `default`
 abbrev pub verdict_of : List Rule → Facts → Ruling
-verdict_of rules f = ruling_of_head (filter (λ r. fits r f) rules)
+verdict_of rules f = ruling_of_first_rule (filter (λ r. fits r f) rules)
 
 -- ---- the same in words: which rule decides
 
 -- A condition holds.
-abbrev pub Holds : Condition → Facts → Type 0
-Holds (lists names) f = Contains names f.list
-Holds (standings among) f = Contains among f.standing
-Holds (withdrawn among) f = Contains among f.withdrawn
-Holds (embargo on) f = on ≡ is_embargoed f
-Holds (age_min least) f = pos least ≤ℤ age f
-Holds (from first) f = first ≤ℤ f.day
-Holds (until last) f = f.day ≤ℤ last
-Holds (own stated) f = stated ≡ f.own
+abbrev pub ConditionHolds : Condition → Facts → Type 0
+ConditionHolds (lists names) f = Contains names f.list
+ConditionHolds (standings among) f = Contains among f.standing
+ConditionHolds (withdrawn among) f = Contains among f.withdrawn
+ConditionHolds (embargo on) f = on ≡ is_embargoed f
+ConditionHolds (age_min least) f = pos least ≤ℤ age f
+ConditionHolds (from first) f = first ≤ℤ f.day
+ConditionHolds (until last) f = f.day ≤ℤ last
+ConditionHolds (own stated) f = stated ≡ f.own
 
 -- A rule fits: each condition that it states holds.
-abbrev pub Fits : Rule → Facts → Type 0
-Fits r f = AllByRecursion (λ condition. Holds condition f) r.conditions
+abbrev pub RuleFits : Rule → Facts → Type 0
+RuleFits r f = AllByRecursion (λ condition. ConditionHolds condition f) r.conditions
 
 -- A rule decides: it fits, and no rule before it does.
 pub record IsDecidedBy (rules : List Rule) (f : Facts) (r : Rule) : Type 0 where
   pub before : List Rule
   pub after : List Rule
   pub stand : rules ≡ before ++ r ∷ after
-  pub none : AllByRecursion (λ q. ¬ Fits q f) before
-  pub fit : Fits r f
+  pub none : AllByRecursion (λ q. ¬ RuleFits q f) before
+  pub fit : RuleFits r f

@@ -1,7 +1,7 @@
 //! What is asked of a policy, and what it answers.
 ghost use Rattle.std.specs.Prelude.{◌≡◌};
-ghost use Rattle.policy_core.specs.Facts.{is_embargoed, age, rank_of};
-ghost use Rattle.policy_core.specs.Numbers.{kind_rank, party_number};
+ghost use Rattle.policy_core.specs.Facts.{is_embargoed, age, rank_of_standing};
+ghost use Rattle.policy_core.specs.Numbers.{grant_kind_rank, withdrawn_by_number};
 ghost use Rattle.policy_core.specs.Written.{standing_named};
 
 use crate::words::Word;
@@ -30,7 +30,7 @@ impl Standing {
 
     /// Its place among the standings, from 0 for `Public` to 3 for `Moderator`.
     pub fn rank(self) -> u8
-        ensures { result ≡ rank_of self }
+        ensures { result ≡ rank_of_standing self }
     {
         match self {
             Standing::Public => 0,
@@ -43,40 +43,40 @@ impl Standing {
 
 /// What a grant makes of a person on a list: one of the standings above `Public`.
 #[derive(Clone, Copy, Debug, PartialEq, Eq, Hash)]
-pub enum Kind {
+pub enum GrantKind {
     Member,
     Subscriber,
     Moderator,
 }
 
-impl Kind {
+impl GrantKind {
     /// The rank of the standing that it gives, from 1 for `Member` to 3 for `Moderator`.
     pub fn rank(self) -> i64
-        ensures { result ≡ kind_rank self }
+        ensures { result ≡ grant_kind_rank self }
     {
         match self {
-            Kind::Member => 1,
-            Kind::Subscriber => 2,
-            Kind::Moderator => 3,
+            GrantKind::Member => 1,
+            GrantKind::Subscriber => 2,
+            GrantKind::Moderator => 3,
         }
     }
 }
 
 /// Who withdraws a message: its author, or the list's board.
 #[derive(Clone, Copy, Debug, PartialEq, Eq, Hash)]
-pub enum Party {
+pub enum WithdrawnBy {
     Author,
     Board,
 }
 
-impl Party {
+impl WithdrawnBy {
     /// 1 for `Author`, 2 for `Board`.
     pub fn number(self) -> i64
-        ensures { result ≡ party_number self }
+        ensures { result ≡ withdrawn_by_number self }
     {
         match self {
-            Party::Author => 1,
-            Party::Board => 2,
+            WithdrawnBy::Author => 1,
+            WithdrawnBy::Board => 2,
         }
     }
 }

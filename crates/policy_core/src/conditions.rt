@@ -1,9 +1,9 @@
 //! What a rule asks.
 ghost use Rattle.std.specs.Prelude.{◌≡◌, map};
 ghost use Rattle.std.specs.List.{list_any};
-ghost use Rattle.policy_core.specs.Rules.{holds, is_about_own};
-ghost use Rattle.policy_core.specs.Stated.{stated};
-ghost use Rattle.policy_core.specs.Written.{has_no_day, is_after};
+ghost use Rattle.policy_core.specs.Rules.{condition_holds, is_own_condition};
+ghost use Rattle.policy_core.specs.Stated.{stated_condition};
+ghost use Rattle.policy_core.specs.Written.{has_no_day, begins_after_end_of};
 
 use crate::access::{Facts, Standing, Withdrawn};
 use civil_time::Day;
@@ -32,7 +32,7 @@ pub(crate) enum Condition {
 impl Condition {
     /// Whether it holds.
     pub(crate) fn holds(&self, facts: &Facts) -> bool
-        ensures { result ≡ holds (stated self.now) facts.now }
+        ensures { result ≡ condition_holds (stated_condition self.now) facts.now }
     {
         match self {
             Condition::Lists(names) => names.iter().any(|name| name.as_str() == facts.list),
@@ -48,14 +48,14 @@ impl Condition {
 
     /// Whether it asks if a message is the reader's own.
     pub(crate) fn is_about_own(&self) -> bool
-        ensures { result ≡ is_about_own (stated self.now) }
+        ensures { result ≡ is_own_condition (stated_condition self.now) }
     {
         matches!(self, Condition::Own(_))
     }
 
     /// Whether it begins after the day on which the other ends.
     fn is_after(&self, other: &Condition) -> bool
-        ensures { result ≡ is_after (stated self.now) (stated other.now) }
+        ensures { result ≡ begins_after_end_of (stated_condition self.now) (stated_condition other.now) }
     {
         match (self, other) {
             (Condition::From(first), Condition::Until(last)) => *last < *first,
@@ -66,7 +66,7 @@ impl Condition {
 
 /// Whether no day is within all of these conditions.
 pub(crate) fn has_no_day(conditions: &[Condition]) -> bool
-    ensures { result ≡ has_no_day (map stated conditions.now) }
+    ensures { result ≡ has_no_day (map stated_condition conditions.now) }
 {
     conditions
         .iter()
@@ -75,7 +75,7 @@ pub(crate) fn has_no_day(conditions: &[Condition]) -> bool
 
 /// Whether one of these conditions ends before the day on which another begins.
 fn ends_before(conditions: &[Condition], first: &Condition) -> bool
-    ensures { result ≡ list_any (is_after (stated first.now)) (map stated conditions.now) }
+    ensures { result ≡ list_any (begins_after_end_of (stated_condition first.now)) (map stated_condition conditions.now) }
 {
     conditions.iter().any(|last| first.is_after(last))
 }

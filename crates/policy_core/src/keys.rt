@@ -1,6 +1,6 @@
 //! The keys of a rule.
 ghost use Rattle.std.specs.Prelude.{◌≡◌};
-ghost use Rattle.policy_core.specs.Written.{is_condition_key, is_rule_key, row};
+ghost use Rattle.policy_core.specs.Written.{is_condition_key, is_rule_key, key_row};
 
 /// The key of a condition.
 #[derive(Clone, Copy)]
@@ -30,7 +30,7 @@ pub(crate) const KEYS: [Key; 8] = [
 impl Key {
     /// As it is written in a policy.
     pub(crate) fn word(self) -> &'static str
-        ensures { result.now ≡ (row self).word }
+        ensures { result.now ≡ (key_row self).word }
     {
         match self {
             Key::Lists => "lists",

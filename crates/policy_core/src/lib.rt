@@ -11,7 +11,7 @@ mod rule_reading;
 mod rules;
 mod words;
 
-pub use access::{Facts, Kind, MOST_DAYS, Party, Standing, Verdict, Withdrawn};
+pub use access::{Facts, GrantKind, MOST_DAYS, Standing, Verdict, Withdrawn, WithdrawnBy};
 pub use faults::PolicyFault;
 pub use names::is_name;
 pub use rules::Policy;

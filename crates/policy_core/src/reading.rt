@@ -3,8 +3,8 @@ ghost use Rattle.std.specs.Prelude.{◌≡◌, ◌≢◌, [], Some, Ok, Err, IfO
 ghost use Rattle.std.specs.List.{list_all};
 ghost use Rattle.toml.specs.Data.{get_member};
 ghost use Rattle.toml.specs.View.{view, table_view};
-ghost use Rattle.policy_core.specs.Reading.{Reads, ReadsInMemory, tables};
-ghost use Rattle.policy_core.specs.Written.{refuse, fails, is_array_of, written_policy, tree_refusal, tables_of, rules_refusal, rule_of, keys_of, is_table, rule_values};
+ghost use Rattle.policy_core.specs.Reading.{ReadsOrRefuses, ReadsRefusesOrLacksMemory, tables_of_values};
+ghost use Rattle.policy_core.specs.Written.{refusal_if, is_some_and_fails, is_array_of, written_policy, tree_refusal, rule_tables, rules_refusal, rule_of, member_keys, is_table_value, rule_values};
 
 use crate::faults::PolicyFault;
 use crate::rule_reading::{at, read_rule};
@@ -35,9 +35,9 @@ pub(crate) fn read_policy(alloc: Global, text: &str) -> Result<Vec<Rule>, Policy
 
 /// The rules of a policy's tree.
 fn read_tree(alloc: Global, tree: &Table) -> Result<Vec<Rule>, PolicyFault>
-    ensures { ReadsInMemory result
+    ensures { ReadsRefusesOrLacksMemory result
         (tree_refusal (table_view tree.now))
-        (λ rules. rules.items ≡ map rule_of (tables_of (get_member (codes "rule") (table_view tree.now)))) }
+        (λ rules. rules.items ≡ map rule_of (rule_tables (get_member (codes "rule") (table_view tree.now)))) }
 {
     if !has_only_rule(tree) {
         return Err(PolicyFault::UnknownKey(0));
@@ -54,15 +54,15 @@ fn has_only_rule(tree: &Table) -> bool
     ensures { result ≡
         list_all
         (λ key. bytes_eq key (codes "rule"))
-        (keys_of (table_view tree.now)) }
+        (member_keys (table_view tree.now)) }
 {
     tree.keys().all(|key| key.as_str() == "rule")
 }
 
 /// The members of the array `rule`, each of which is a table. There are none where it is missing.
 fn read_array(tree: &Table) -> Result<&[Value], PolicyFault>
-    ensures { Reads result
-        (refuse (PolicyFault.WrongType 0) (fails (is_array_of is_table) (get_member (codes "rule") (table_view tree.entry.now))))
+    ensures { ReadsOrRefuses result
+        (refusal_if (PolicyFault.WrongType 0) (is_some_and_fails (is_array_of is_table_value) (get_member (codes "rule") (table_view tree.entry.now))))
         (λ values. map view values.now ≡ rule_values (get_member (codes "rule") (table_view tree.entry.now))) }
 {
     let Some(value) = at(tree, "rule") else {
@@ -78,16 +78,16 @@ fn read_array(tree: &Table) -> Result<&[Value], PolicyFault>
 }
 
 fn are_tables(values: &[Value]) -> bool
-    ensures { result ≡ list_all is_table (map view values.now) }
+    ensures { result ≡ list_all is_table_value (map view values.now) }
 {
     values.iter().all(|value| value.is_table())
 }
 
 /// The rules of the tables among some values, numbered from 1.
 fn read_rules(alloc: Global, values: &[Value]) -> Result<Vec<Rule>, PolicyFault>
-    ensures { ReadsInMemory result
-        (rules_refusal 1 [] (tables values.now))
-        (λ rules. rules.items ≡ map rule_of (tables values.now)) }
+    ensures { ReadsRefusesOrLacksMemory result
+        (rules_refusal 1 [] (tables_of_values values.now))
+        (λ rules. rules.items ≡ map rule_of (tables_of_values values.now)) }
 {
     let mut rules = Vec::new(alloc);
     for value in values {

@@ -4,10 +4,11 @@ ghost use Rattle.std.specs.List.{list_all, list_any};
 ghost use Rattle.toml.specs.Data.{get_member, as_str, as_bool};
 ghost use Rattle.toml.specs.View.{view, table_view};
 ghost use Rattle.policy_core.specs.Names.{is_name};
-ghost use Rattle.policy_core.specs.Reading.{Reads, ReadsInMemory, array_refusal, texts, names_of};
-ghost use Rattle.policy_core.specs.Stated.{stated};
-ghost use Rattle.policy_core.specs.Written.{allows_at, is_rule_key, keys_of, texts_in, text_at, refuse, is_text, name_refusal, effect_refusal, rule_refusal, rule_of};
-ghost use Rattle.policy_core.specs.Written.{row, condition_in, all_keys, value_refusal, conditions_refusal, conditions_of, is_texts, is_flag, is_number, names_in, words_in, age_in, day_in};
+ghost use Rattle.policy_core.specs.Reading.{ReadsOrRefuses, ReadsRefusesOrLacksMemory, text_array_refusal, texts_of_values, rule_names};
+ghost use Rattle.policy_core.specs.Stated.{stated_condition};
+ghost use Rattle.policy_core.specs.Written.{effect_allows, is_rule_key, member_keys, array_texts, text_at_key, refusal_if, is_text_value, name_refusal, effect_refusal, rule_refusal, rule_of};
+ghost use Rattle.policy_core.specs.Written.{key_row, condition_of_value, condition_keys, value_refusal, conditions_refusal, conditions_of};
+ghost use Rattle.policy_core.specs.Written.{is_text_array, is_boolean_value, is_integer_value, names_of_value, meanings_of_value, age_of_value, day_of_value};
 
 use crate::access::MOST_DAYS;
 use crate::conditions::{Condition, has_no_day};
@@ -27,8 +28,8 @@ pub(crate) fn read_rule(
     earlier: &[Rule],
     keys: &Table,
 ) -> Result<Rule, PolicyFault>
-    ensures { ReadsInMemory result
-        (rule_refusal number (names_of earlier.now) (table_view keys.now))
+    ensures { ReadsRefusesOrLacksMemory result
+        (rule_refusal number (rule_names earlier.now) (table_view keys.now))
         (λ rule. rule ≡ rule_of (table_view keys.now)) }
 {
     if !has_rule_keys(keys) {
@@ -49,7 +50,7 @@ pub(crate) fn read_rule(
 
 /// Whether each key is one that a rule has.
 fn has_rule_keys(keys: &Table) -> bool
-    ensures { result ≡ list_all is_rule_key (keys_of (table_view keys.now)) }
+    ensures { result ≡ list_all is_rule_key (member_keys (table_view keys.now)) }
 {
     keys.keys().all(|key| is_rule_key(key.as_str()))
 }
@@ -79,9 +80,9 @@ fn read_name(
     earlier: &[Rule],
     keys: &Table,
 ) -> Result<String, PolicyFault>
-    ensures { ReadsInMemory result
-        (name_refusal number (names_of earlier.now) (get_member (codes "name") (table_view keys.now)))
-        (λ name. string_bytes name ≡ text_at (codes "name") (table_view keys.now)) }
+    ensures { ReadsRefusesOrLacksMemory result
+        (name_refusal number (rule_names earlier.now) (get_member (codes "name") (table_view keys.now)))
+        (λ name. string_bytes name ≡ text_at_key (codes "name") (table_view keys.now)) }
 {
     let Some(value) = at(keys, "name") else {
         return Err(PolicyFault::BadValue(number));
@@ -98,16 +99,16 @@ fn read_name(
 
 /// Whether one of the rules has this name.
 fn is_among(rules: &[Rule], name: &str) -> bool
-    ensures { result ≡ list_any (bytes_eq name.now) (names_of rules.now) }
+    ensures { result ≡ list_any (bytes_eq name.now) (rule_names rules.now) }
 {
     rules.iter().any(|rule| rule.is_named(name))
 }
 
 /// Whether the rule allows.
 fn read_effect(number: usize, keys: &Table) -> Result<bool, PolicyFault>
-    ensures { Reads result
+    ensures { ReadsOrRefuses result
         (effect_refusal number (get_member (codes "effect") (table_view keys.now)))
-        (λ allows. allows ≡ allows_at (table_view keys.now)) }
+        (λ allows. allows ≡ effect_allows (table_view keys.now)) }
 {
     let Some(value) = at(keys, "effect") else {
         return Err(PolicyFault::BadValue(number));
@@ -124,9 +125,9 @@ fn read_conditions(
     number: usize,
     keys: &Table,
 ) -> Result<Vec<Condition>, PolicyFault>
-    ensures { ReadsInMemory result
-        (conditions_refusal number (table_view keys.now) all_keys)
-        (λ conditions. map stated conditions.items ≡ conditions_of (table_view keys.now) all_keys) }
+    ensures { ReadsRefusesOrLacksMemory result
+        (conditions_refusal number (table_view keys.now) condition_keys)
+        (λ conditions. map stated_condition conditions.items ≡ conditions_of (table_view keys.now) condition_keys) }
 {
     let mut conditions = Vec::new(alloc);
     for key in &KEYS {
@@ -145,9 +146,9 @@ fn read_condition(
     key: Key,
     value: &Value,
 ) -> Result<Condition, PolicyFault>
-    ensures { ReadsInMemory result
-        (value_refusal number (row key).is_typed (row key).read (view value.now))
-        (λ condition. condition_in key (view value.now) ≡ Some (stated condition)) }
+    ensures { ReadsRefusesOrLacksMemory result
+        (value_refusal number (key_row key).is_typed (key_row key).read (view value.now))
+        (λ condition. condition_of_value key (view value.now) ≡ Some (stated_condition condition)) }
 {
     match key {
         Key::Lists => Ok(Condition::Lists(read_names(alloc, number, value)?)),
@@ -163,9 +164,9 @@ fn read_condition(
 
 /// The members of an array of one text or more.
 fn read_texts(number: usize, value: &Value) -> Result<&[Value], PolicyFault>
-    ensures { Reads result
-        (array_refusal number (view value.entry.now))
-        (λ values. texts values.now ≡ texts_in (view value.entry.now)) }
+    ensures { ReadsOrRefuses result
+        (text_array_refusal number (view value.entry.now))
+        (λ values. texts_of_values values.now ≡ array_texts (view value.entry.now)) }
 {
     let Some(values) = value.as_array() else {
         return Err(PolicyFault::WrongType(number));
@@ -180,24 +181,24 @@ fn read_texts(number: usize, value: &Value) -> Result<&[Value], PolicyFault>
 }
 
 fn are_texts(values: &[Value]) -> bool
-    ensures { result ≡ list_all is_text (map view values.now) }
+    ensures { result ≡ list_all is_text_value (map view values.now) }
 {
     values.iter().all(|value| value.is_str())
 }
 
 fn read_names(alloc: Global, number: usize, value: &Value) -> Result<Vec<String>, PolicyFault>
-    ensures { ReadsInMemory result
-        (value_refusal number is_texts names_in (view value.now))
-        (λ names. names_in (view value.now) ≡ Some (map string_bytes names.items)) }
+    ensures { ReadsRefusesOrLacksMemory result
+        (value_refusal number is_text_array names_of_value (view value.now))
+        (λ names. names_of_value (view value.now) ≡ Some (map string_bytes names.items)) }
 {
     names_among(alloc, number, read_texts(number, value)?)
 }
 
 /// The texts among some values, each of which is to be a name.
 fn names_among(alloc: Global, number: usize, values: &[Value]) -> Result<Vec<String>, PolicyFault>
-    ensures { ReadsInMemory result
-        (refuse (PolicyFault.BadValue number) (not (list_all is_name (texts values.now))))
-        (λ names. map string_bytes names.items ≡ texts values.now) }
+    ensures { ReadsRefusesOrLacksMemory result
+        (refusal_if (PolicyFault.BadValue number) (not (list_all is_name (texts_of_values values.now))))
+        (λ names. map string_bytes names.items ≡ texts_of_values values.now) }
 {
     let mut names = Vec::new(alloc);
     for value in values {
@@ -212,9 +213,9 @@ fn names_among(alloc: Global, number: usize, values: &[Value]) -> Result<Vec<Str
 }
 
 fn read_words<W: Word>(alloc: Global, number: usize, value: &Value) -> Result<Vec<W>, PolicyFault>
-    ensures { ReadsInMemory result
-        (value_refusal number is_texts (words_in W.named) (view value.now))
-        (λ words. words_in W.named (view value.now) ≡ Some words.items) }
+    ensures { ReadsRefusesOrLacksMemory result
+        (value_refusal number is_text_array (meanings_of_value W.named) (view value.now))
+        (λ words. meanings_of_value W.named (view value.now) ≡ Some words.items) }
 {
     words_among(alloc, number, read_texts(number, value)?)
 }
@@ -225,9 +226,9 @@ fn words_among<W: Word>(
     number: usize,
     values: &[Value],
 ) -> Result<Vec<W>, PolicyFault>
-    ensures { ReadsInMemory result
-        (refuse (PolicyFault.BadValue number) (not (list_all (λ word. is_some (W.named word)) (texts values.now))))
-        (λ words. words.items ≡ filter_map W.named (texts values.now)) }
+    ensures { ReadsRefusesOrLacksMemory result
+        (refusal_if (PolicyFault.BadValue number) (not (list_all (λ word. is_some (W.named word)) (texts_of_values values.now))))
+        (λ words. words.items ≡ filter_map W.named (texts_of_values values.now)) }
 {
     let mut words = Vec::new(alloc);
     for value in values {
@@ -242,8 +243,8 @@ fn words_among<W: Word>(
 }
 
 fn read_flag(number: usize, value: &Value) -> Result<bool, PolicyFault>
-    ensures { Reads result
-        (value_refusal number is_flag as_bool (view value.now))
+    ensures { ReadsOrRefuses result
+        (value_refusal number is_boolean_value as_bool (view value.now))
         (λ on. as_bool (view value.now) ≡ Some on) }
 {
     match value.as_bool() {
@@ -253,9 +254,9 @@ fn read_flag(number: usize, value: &Value) -> Result<bool, PolicyFault>
 }
 
 fn read_age(number: usize, value: &Value) -> Result<u16, PolicyFault>
-    ensures { Reads result
-        (value_refusal number is_number age_in (view value.now))
-        (λ days. age_in (view value.now) ≡ Some days) }
+    ensures { ReadsOrRefuses result
+        (value_refusal number is_integer_value age_of_value (view value.now))
+        (λ days. age_of_value (view value.now) ≡ Some days) }
 {
     match value.as_integer() {
         Some(days) if 0 <= days && days <= MOST_DAYS => Ok(days as u16),
@@ -265,9 +266,9 @@ fn read_age(number: usize, value: &Value) -> Result<u16, PolicyFault>
 }
 
 fn read_day(number: usize, value: &Value) -> Result<Day, PolicyFault>
-    ensures { Reads result
-        (value_refusal number is_text day_in (view value.now))
-        (λ day. day_in (view value.now) ≡ Some day) }
+    ensures { ReadsOrRefuses result
+        (value_refusal number is_text_value day_of_value (view value.now))
+        (λ day. day_of_value (view value.now) ≡ Some day) }
 {
     match Day::read(read_text(number, value)?.as_bytes()) {
         Some(day) => Ok(day),

@@ -3,9 +3,9 @@ ghost use Rattle.std.specs.Prelude.{◌≡◌, ◌≢◌, ◌∷◌, [], bytes_e
 ghost use Rattle.std.specs.List.{list_any, AllByRecursion};
 ghost use Rattle.toml.specs.Parse.{parse_document};
 ghost use Rattle.policy_core.specs.Facts.{Facts as Question};
-ghost use Rattle.policy_core.specs.Rules.{Rule as Stated, open_rule, asks_own, fits, is_about_own};
+ghost use Rattle.policy_core.specs.Rules.{Rule as Stated, open_rule, has_own_condition, fits, is_own_condition};
 ghost use Rattle.policy_core.specs.Written.{written_policy};
-ghost use Rattle.policy_core.specs.Verdict.{Fits, IsDecidedBy, denied, ruling, ruling_by, verdict_of};
+ghost use Rattle.policy_core.specs.Verdict.{RuleFits, IsDecidedBy, denied, ruling_of_verdict, ruling_of_rule, verdict_of};
 
 use crate::access::{Facts, Verdict};
 use crate::conditions::Condition;
@@ -25,11 +25,11 @@ pub(crate) struct Rule {
 impl Model for Rule {
     ghost use Rattle.std.specs.Prelude.{map, string_bytes};
     ghost use Rattle.policy_core.specs.Rules.{Rule as Stated};
-    ghost use Rattle.policy_core.specs.Stated.{stated};
+    ghost use Rattle.policy_core.specs.Stated.{stated_condition};
 
     ghost Value = { Stated };
 
-    ghost view = { λ r. record { name = string_bytes r.name; allows = r.allows; conditions = map stated r.conditions.items } };
+    ghost view = { λ r. record { name = string_bytes r.name; allows = r.allows; conditions = map stated_condition r.conditions.items } };
 }
 
 /// The rules of a policy.
@@ -82,9 +82,9 @@ impl Policy {
 
     /// What the first rule that fits says, with its name; where none fits, a denial by `default`.
     pub fn verdict(&self, facts: &Facts) -> Verdict<'_>
-        ensures value { ruling result ≡ verdict_of self.now facts.now }
-        ensures decided { (rule : Stated) → IsDecidedBy self.now facts.now rule → ruling result ≡ ruling_by rule }
-        ensures undecided { AllByRecursion (λ rule. ¬ Fits rule facts.now) self.now → ruling result ≡ denied (codes "default") }
+        ensures value { ruling_of_verdict result ≡ verdict_of self.now facts.now }
+        ensures decided { (rule : Stated) → IsDecidedBy self.now facts.now rule → ruling_of_verdict result ≡ ruling_of_rule rule }
+        ensures undecided { AllByRecursion (λ rule. ¬ RuleFits rule facts.now) self.now → ruling_of_verdict result ≡ denied (codes "default") }
     {
         match &self.rules {
             Rules::Open => Verdict::Allowed("open"),
@@ -98,7 +98,7 @@ impl Policy {
     /// Whether a rule asks if a message is the reader's own. Where none does, the verdict is the same for a message that is
     /// and for one that is not.
     pub fn asks_own(&self) -> bool
-        ensures value { result ≡ asks_own self.now }
+        ensures value { result ≡ has_own_condition self.now }
         ensures alike { result ≡ false → (facts : Question) (own : Bool)
             → verdict_of self.now (record facts { own = own }) ≡ verdict_of self.now facts }
     {
@@ -121,7 +121,7 @@ impl Rule {
 
     /// Whether the rule asks if a message is the reader's own.
     fn asks_own(&self) -> bool
-        ensures { result ≡ list_any is_about_own self.now.conditions }
+        ensures { result ≡ list_any is_own_condition self.now.conditions }
     {
         self.conditions
             .iter()
@@ -135,7 +135,7 @@ impl Rule {
     }
 
     fn verdict(&self) -> Verdict<'_>
-        ensures { ruling result ≡ ruling_by self.now }
+        ensures { ruling_of_verdict result ≡ ruling_of_rule self.now }
     {
         if self.allows {
             Verdict::Allowed(self.name.as_str())

@@ -1,15 +1,15 @@
 //! Calls on an archive in memory.
 use crate::texts::{MINE, TWO, WITHDRAWN};
-use crate::{Mark, said, tell};
+use crate::{Mark, outcome_text, tell};
 use anyhow::bail;
-use archive_desk::{DeskFault, export, import, message};
+use archive_desk::{DeskError, export, import, message};
 use archive_pages::{ServeFault, answer};
 use archive_results::{Ask, Asked, Reader};
 use archive_store::{Key, Store};
 use civil_time::Day;
 use mbox_core::cut;
 use mbox_core::device::Tap;
-use policy_core::{Party, Policy};
+use policy_core::{Policy, WithdrawnBy};
 use sqlite::Alter;
 use std::alloc::Global;
 use std::hash::RandomState;
@@ -43,7 +43,7 @@ fn is_denied<S: Alter>(
     store: &mut Store<S>,
     ask: &Ask<'_>,
     key: &Key,
-) -> Result<bool, DeskFault> {
+) -> Result<bool, DeskError> {
     match message(store, alloc, ask, key)? {
         Asked::Denied(rule) => Ok(rule == "withdrawn"),
         _ => Ok(false),
@@ -55,7 +55,7 @@ fn is_served<S: Alter>(
     store: &mut Store<S>,
     ask: &Ask<'_>,
     key: &Key,
-) -> Result<bool, DeskFault> {
+) -> Result<bool, DeskError> {
     match message(store, alloc, ask, key)? {
         Asked::Served(text) => Ok(text.as_slice() == b"Subject: Re: Hello\n\nTwo.\n".as_slice()),
         _ => Ok(false),
@@ -73,21 +73,21 @@ fn message_rows<S: Alter>(
         bail!("no messages");
     };
     let (one, two) = (Key::of(&one), Key::of(&two));
-    store.withdraw("soc", &one, Party::Author)?;
+    store.withdraw("soc", &one, WithdrawnBy::Author)?;
     tell(rt, Mark::Begin);
     let first = is_denied(alloc, store, ask, &one);
     tell(rt, Mark::End);
     let (first, second) = (
-        said(alloc, first)?,
-        said(alloc, is_denied(alloc, store, ask, &one))?,
+        outcome_text(alloc, first)?,
+        outcome_text(alloc, is_denied(alloc, store, ask, &one))?,
     );
     println!(rt; "denied: {first}, then {second}")?;
     tell(rt, Mark::Begin);
     let first = is_served(alloc, store, ask, &two);
     tell(rt, Mark::End);
     let (first, second) = (
-        said(alloc, first)?,
-        said(alloc, is_served(alloc, store, ask, &two))?,
+        outcome_text(alloc, first)?,
+        outcome_text(alloc, is_served(alloc, store, ask, &two))?,
     );
     println!(rt; "served: {first}, then {second}")?;
     store.restore("soc", &one)?;
@@ -127,7 +127,7 @@ fn own_row<S: Alter>(rt: &HostRuntime, store: &mut Store<S>, day: Day) -> anyhow
     let one = Key::of(&one);
     store.person_add("anna", "0123456789abcdef")?;
     store.address_set(alloc, "anna", "Anna@Example.org")?;
-    store.withdraw("soc", &one, Party::Board)?;
+    store.withdraw("soc", &one, WithdrawnBy::Board)?;
     let rules = format!(in alloc; "{MINE}{WITHDRAWN}")?;
     let policy = Policy::read(alloc, &rules)?;
     let ask = Ask {
@@ -185,7 +185,7 @@ fn reply_row<S: Alter>(
         again.as_slice() == wanted.as_slice(),
     );
     let unavailable = got.starts_with(b"HTTP/1.1 503 Service Unavailable\r\n".as_slice());
-    let (first, second) = (said(alloc, first)?, said(alloc, second)?);
+    let (first, second) = (outcome_text(alloc, first)?, outcome_text(alloc, second)?);
     println!(rt;
         "reply: {first}, whole {is_whole}, part {is_part}, 503 {unavailable}, then {second}, same {is_same}"
     )?;
@@ -219,7 +219,7 @@ fn rows_of<S: Alter>(rt: &HostRuntime, store: &mut Store<S>) -> anyhow::Result<(
 }
 
 /// Each call on an archive that is empty first.
-pub fn rows(rt: &HostRuntime) -> anyhow::Result<()> {
+pub fn archive_rows(rt: &HostRuntime) -> anyhow::Result<()> {
     let mut store = Store::open_in_memory(rt.alloc())?;
     rows_of(rt, &mut store)
 }

@@ -29,7 +29,7 @@ pub fn tell(rt: &HostRuntime, mark: Mark) {
 }
 
 /// What a call came to, in words.
-pub fn said<F: fmt::Debug + Drop>(
+pub fn outcome_text<F: fmt::Debug + Drop>(
     alloc: Global,
     came: Result<bool, F>,
 ) -> Result<String, AllocError> {
@@ -46,5 +46,5 @@ fn main(rt: HostRuntime) -> anyhow::Result<()> {
     texts::base_row(&rt)?;
     texts::threads_rows(&rt)?;
     texts::policy_row(&rt)?;
-    archives::rows(&rt)
+    archives::archive_rows(&rt)
 }

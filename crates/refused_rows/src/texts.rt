@@ -1,5 +1,5 @@
 //! Calls on texts and on entries.
-use crate::{Mark, said, tell};
+use crate::{Mark, outcome_text, tell};
 use anyhow::bail;
 use civil_time::{Day, Instant};
 use mail_core::{Memory, MsgId, Octets, ids};
@@ -49,7 +49,7 @@ pub fn sift_row(rt: &HostRuntime) -> anyhow::Result<()> {
     let is_exact = TWO.starts_with(output.bytes());
     let (mut again, mut whole) = (Tap::new(alloc, TWO, 1000)?, Tap::new(alloc, b"", 1000)?);
     let second = sifted(alloc, day, &mut again, &mut whole);
-    let (first, second) = (said(alloc, first)?, said(alloc, second)?);
+    let (first, second) = (outcome_text(alloc, first)?, outcome_text(alloc, second)?);
     println!(rt; "sift: {first}, exact {is_exact}, then {second}")?;
     Ok(())
 }
@@ -72,7 +72,10 @@ pub fn ids_row(rt: &HostRuntime) -> anyhow::Result<()> {
     tell(rt, Mark::Begin);
     let first = two_ids(alloc);
     tell(rt, Mark::End);
-    let (first, second) = (said(alloc, first)?, said(alloc, two_ids(alloc))?);
+    let (first, second) = (
+        outcome_text(alloc, first)?,
+        outcome_text(alloc, two_ids(alloc))?,
+    );
     println!(rt; "ids: {first}, then {second}")?;
     Ok(())
 }
@@ -88,7 +91,10 @@ pub fn base_row(rt: &HostRuntime) -> anyhow::Result<()> {
     tell(rt, Mark::Begin);
     let first = a_base(alloc);
     tell(rt, Mark::End);
-    let (first, second) = (said(alloc, first)?, said(alloc, a_base(alloc))?);
+    let (first, second) = (
+        outcome_text(alloc, first)?,
+        outcome_text(alloc, a_base(alloc))?,
+    );
     println!(rt; "base: {first}, then {second}")?;
     Ok(())
 }
@@ -104,7 +110,10 @@ pub fn policy_row(rt: &HostRuntime) -> anyhow::Result<()> {
     tell(rt, Mark::Begin);
     let first = a_policy(alloc);
     tell(rt, Mark::End);
-    let (first, second) = (said(alloc, first)?, said(alloc, a_policy(alloc))?);
+    let (first, second) = (
+        outcome_text(alloc, first)?,
+        outcome_text(alloc, a_policy(alloc))?,
+    );
     println!(rt; "policy: {first}, then {second}")?;
     Ok(())
 }
@@ -177,16 +186,16 @@ pub fn threads_rows(rt: &HostRuntime) -> anyhow::Result<()> {
     let first = three_rows(alloc, &nodes, &all);
     tell(rt, Mark::End);
     let (first, second) = (
-        said(alloc, first)?,
-        said(alloc, three_rows(alloc, &nodes, &all))?,
+        outcome_text(alloc, first)?,
+        outcome_text(alloc, three_rows(alloc, &nodes, &all))?,
     );
     println!(rt; "threads: {first}, then {second}")?;
     tell(rt, Mark::Begin);
     let first = three_rows(alloc, &PlainThreader, &all);
     tell(rt, Mark::End);
     let (first, second) = (
-        said(alloc, first)?,
-        said(alloc, three_rows(alloc, &PlainThreader, &all))?,
+        outcome_text(alloc, first)?,
+        outcome_text(alloc, three_rows(alloc, &PlainThreader, &all))?,
     );
     println!(rt; "plain threads: {first}, then {second}")?;
     Ok(())

@@ -1,5 +1,5 @@
 //! The routes of paths, and what a percent-encoded text stands for.
-use archive_requests::{Route, Routes, decoded, route_of};
+use archive_requests::{Route, Routes, percent_decoded, route_of};
 use mail_core::Memory;
 use std::alloc::Global;
 use std::test::Fail;
@@ -88,7 +88,7 @@ static ENCODED: [(&str, &[u8]); 7] = [
 
 /// Whether a text stands for these bytes.
 fn stands_for(alloc: Global, text: &str, bytes: &[u8]) -> Result<bool, Memory> {
-    Ok(decoded(alloc, text)?.as_slice() == bytes)
+    Ok(percent_decoded(alloc, text)?.as_slice() == bytes)
 }
 
 #[test]

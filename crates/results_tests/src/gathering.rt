@@ -1,7 +1,7 @@
 //! Threads of lists that gather those of one subject, and of lists that do not.
 use crate::views::{message, outline};
-use archive_machine::Key;
-use archive_results::{Header, header_of, thread_lines, tree_lines};
+use archive_model::Key;
+use archive_results::{MessageSummary, summary_of, thread_lines, tree_lines};
 use mbox_core::cut;
 use policy_core::Withdrawn;
 use std::alloc::Global;
@@ -51,11 +51,11 @@ References: <1@x>
 
 ";
 
-fn headers(alloc: Global, mbox: &[u8]) -> Result<Vec<Header>, Fail> {
+fn headers(alloc: Global, mbox: &[u8]) -> Result<Vec<MessageSummary>, Fail> {
     let mut found = Vec::new(alloc);
     for item in cut(mbox)? {
         let message = message(alloc, &item, Withdrawn::No)?;
-        found.push(header_of(alloc, &message)?)?;
+        found.push(summary_of(alloc, &message)?)?;
     }
     Ok(found)
 }

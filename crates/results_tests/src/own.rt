@@ -1,7 +1,7 @@
 //! A list of two messages, both withdrawn by the board, of which the second has no author; and who may read their own.
 use crate::views::{ask, message};
-use archive_machine::{Message, kept_address};
-use archive_results::{Asked, ReaderMarks, asked, is_shown};
+use archive_model::{Message, normalize_address};
+use archive_results::{Asked, ReaderFacts, is_shown, lookup_message};
 use mbox_core::cut;
 use policy_core::{Policy, Standing, Withdrawn};
 use std::alloc::Global;
@@ -46,12 +46,12 @@ fn held(alloc: Global, place: usize) -> Result<Option<Message>, Fail> {
 }
 
 /// A reader of this standing with an address, as the archive keeps it.
-fn reader(alloc: Global, standing: Standing, address: Option<&str>) -> Result<ReaderMarks, Fail> {
+fn reader(alloc: Global, standing: Standing, address: Option<&str>) -> Result<ReaderFacts, Fail> {
     let kept = match address {
-        Some(address) => Some(kept_address(alloc, address)?),
+        Some(address) => Some(normalize_address(alloc, address)?),
         None => None,
     };
-    Ok(ReaderMarks {
+    Ok(ReaderFacts {
         standing,
         address: kept,
     })
@@ -61,7 +61,7 @@ fn reader(alloc: Global, standing: Standing, address: Option<&str>) -> Result<Re
 fn told(
     alloc: Global,
     rules: &str,
-    reader: &ReaderMarks,
+    reader: &ReaderFacts,
     place: usize,
 ) -> Result<(Vec<u8>, bool), Fail> {
     let policy = Policy::read(alloc, rules)?;
@@ -71,7 +71,7 @@ fn told(
         Some(message) => is_shown(alloc, &ask, reader, message)?,
         None => false,
     };
-    match asked(alloc, &ask, reader, &held)? {
+    match lookup_message(alloc, &ask, reader, &held)? {
         Asked::Served(text) => Ok((text, shown)),
         Asked::Denied(rule) => Ok((rule.as_bytes().to_vec(alloc)?, shown)),
         Asked::Absent => Ok((Vec::new(alloc), shown)),

@@ -1,8 +1,8 @@
 //! A list of four messages, of which the first is withdrawn.
-use archive_machine::{Key, Message};
+use archive_model::{Key, Message};
 use archive_results::{
-    Ask, Asked, Header, Reader, ReaderMarks, TreeLine, asked, header_of, is_shown, thread_lines,
-    tree_lines,
+    Ask, Asked, MessageSummary, Reader, ReaderFacts, TreeLine, is_shown, lookup_message,
+    summary_of, thread_lines, tree_lines,
 };
 use civil_time::Day;
 use mbox_core::{Item, OwnedItem, cut};
@@ -83,29 +83,29 @@ fn messages(alloc: Global) -> Result<Vec<Message>, Fail> {
 }
 
 /// A reader of this standing, without an address.
-fn nobody(standing: Standing) -> ReaderMarks {
-    ReaderMarks {
+fn nobody(standing: Standing) -> ReaderFacts {
+    ReaderFacts {
         standing,
         address: None,
     }
 }
 
 /// The headers of what a reader of this standing may read.
-pub fn view(alloc: Global, standing: Standing) -> Result<Vec<Header>, Fail> {
+pub fn view(alloc: Global, standing: Standing) -> Result<Vec<MessageSummary>, Fail> {
     let policy = Policy::read(alloc, POLICY)?;
     let ask = ask(&policy)?;
     let reader = nobody(standing);
     let mut found = Vec::new(alloc);
     for message in messages(alloc)? {
         if is_shown(alloc, &ask, &reader, &message)? {
-            found.push(header_of(alloc, &message)?)?;
+            found.push(summary_of(alloc, &message)?)?;
         }
     }
     Ok(found)
 }
 
 /// The subjects of the lines of these headers, each after `|`.
-fn subjects(alloc: Global, headers: &[Header]) -> Result<Vec<u8>, Fail> {
+fn subjects(alloc: Global, headers: &[MessageSummary]) -> Result<Vec<u8>, Fail> {
     let mut text = Vec::new(alloc);
     for header in headers {
         text.push(b'|')?;
@@ -220,7 +220,7 @@ fn first(alloc: Global, standing: Standing) -> Result<(Vec<u8>, bool), Fail> {
         Some(message) => is_shown(alloc, &ask, &reader, message)?,
         None => false,
     };
-    match asked(alloc, &ask, &reader, &held)? {
+    match lookup_message(alloc, &ask, &reader, &held)? {
         Asked::Served(text) => Ok((text, shown)),
         Asked::Denied(rule) => Ok((rule.as_bytes().to_vec(alloc)?, shown)),
         Asked::Absent => Ok((Vec::new(alloc), shown)),

@@ -1,14 +1,14 @@
 //! Devices that the runs are over.
 ghost use Rattle.std.specs.Prelude.{◌≡◌, ◌++◌, [], ◌∷◌};
 ghost use Rattle.archive_listen.specs.Connections.{exchange};
-ghost use Rattle.run_cases.specs.Taps.{over_taps};
+ghost use Rattle.run_cases.specs.Taps.{exchanges_of_taps};
 
-use crate::shelf::Shelf;
-use crate::short_files::ShortFiles;
+use crate::shelf::TestDatabases;
+use crate::short_files::FailingFiles;
 use archive_listen::{
-    AcceptFault, Connection, Gathered, ListenFault, Listener, Listening, Ports, ROOM,
+    AcceptError, BoundListener, Connection, ListenError, Listener, Ports, ROOM, WriteBuffer,
 };
-use archive_run::{System, Threaders};
+use archive_run::{Platform, Threaders};
 use civil_time::Day;
 use http_server::Log;
 use mbox_core::device::Tap;
@@ -22,9 +22,9 @@ use thread_core::NodeThreader;
 
 /// A clock that stands still, or tells nothing.
 #[derive(Drop)]
-pub struct Still(pub Option<Day>);
+pub struct FixedClock(pub Option<Day>);
 
-impl DayClock for Still {
+impl DayClock for FixedClock {
     fn today(&mut self) -> Option<Day> {
         self.0
     }
@@ -45,33 +45,33 @@ impl Threaders for NoThreaders {
 /// A listener that gives no connection.
 #[derive(Drop)]
 pub struct NoListener {
-    taken: Log<Tap, Gathered<Tap, ROOM>>,
+    taken: Log<Tap, WriteBuffer<Tap, ROOM>>,
 }
 
 impl Listener for NoListener {
     ghost use Rattle.std.specs.Prelude.{◌≡◌, ◌++◌, [], ◌∷◌};
-    ghost use Rattle.run_cases.specs.Taps.{over_taps};
+    ghost use Rattle.run_cases.specs.Taps.{exchanges_of_taps};
 
     type Input = Tap;
 
-    type Output = Gathered<Tap, ROOM>;
+    type Output = WriteBuffer<Tap, ROOM>;
 
-    ghost over = { λ l. over_taps l.taken.items };
+    ghost over = { λ l. exchanges_of_taps l.taken.items };
 
-    ghost accepts = { λ old new fault. over_taps new.taken.items ≡ over_taps old.taken.items };
+    ghost accepts = { λ old new fault. exchanges_of_taps new.taken.items ≡ exchanges_of_taps old.taken.items };
 
-    ghost closes = { λ old new went broke_off. over_taps new.taken.items ≡ over_taps old.taken.items ++ went ∷ [] };
+    ghost closes = { λ old new went broke_off. exchanges_of_taps new.taken.items ≡ exchanges_of_taps old.taken.items ++ went ∷ [] };
 
     ghost accepts_none = { λ old new fault same. same };
 
     ghost closes_one = { λ old new went broke_off more. more };
 
-    fn accept(&mut self) -> Result<Connection<Tap, Gathered<Tap, ROOM>>, AcceptFault> {
-        Err(AcceptFault::Listener)
+    fn accept(&mut self) -> Result<Connection<Tap, WriteBuffer<Tap, ROOM>>, AcceptError> {
+        Err(AcceptError::Listener)
     }
 
-    fn close(&mut self, connection: Connection<Tap, Gathered<Tap, ROOM>>, breaks_off: bool)
-        ensures closes { over_taps self.new.taken.items ≡ over_taps self.old.taken.items
+    fn close(&mut self, connection: Connection<Tap, WriteBuffer<Tap, ROOM>>, breaks_off: bool)
+        ensures closes { exchanges_of_taps self.new.taken.items ≡ exchanges_of_taps self.old.taken.items
             ++ exchange connection.input.read connection.output.inner.written ∷ [] }
     {
         self.taken = self.taken.and(&connection.input, &connection.output);
@@ -94,18 +94,18 @@ impl NoPorts {
 
 impl Ports for NoPorts {
     ghost use Rattle.std.specs.Prelude.{IfOk, flat_map};
-    ghost use Rattle.run_cases.specs.Taps.{over_taps};
+    ghost use Rattle.run_cases.specs.Taps.{exchanges_of_taps};
 
     type Listener = NoListener;
 
-    ghost went = { λ p. flat_map (λ e. over_taps e.0.taken.items) p.ended.items };
+    ghost went = { λ p. flat_map (λ e. exchanges_of_taps e.0.taken.items) p.ended.items };
 
     ghost listens = { λ old new port result. IfOk result (λ _. ⊥) };
 
     ghost listens_none = { λ old new port listening given. absurd given };
 
-    fn listen(&mut self, _port: u16) -> Result<Listening<NoListener>, ListenFault> {
-        Err(ListenFault)
+    fn listen(&mut self, _port: u16) -> Result<BoundListener<NoListener>, ListenError> {
+        Err(ListenError)
     }
 
     fn end(&mut self, listener: NoListener) {
@@ -114,18 +114,18 @@ impl Ports for NoPorts {
 }
 
 /// The kinds of devices that the runs are over.
-pub struct Stand<'a, RT> {
+pub struct TestPlatform<'a, RT> {
     of: PhantomData<&'a RT>,
 }
 
-impl<'a, RT: Files + AllocGlobal> System for Stand<'a, RT> {
+impl<'a, RT: Files + AllocGlobal> Platform for TestPlatform<'a, RT> {
     type Storage = FileStore<Memory>;
 
-    type Files = ShortFiles<'a, RT>;
+    type Files = FailingFiles<'a, RT>;
 
-    type Databases = Shelf;
+    type Databases = TestDatabases;
 
-    type Clock = Still;
+    type Clock = FixedClock;
 
     type Ports = NoPorts;
 
@@ -133,7 +133,7 @@ impl<'a, RT: Files + AllocGlobal> System for Stand<'a, RT> {
 
     type Input = Tap;
 
-    type Output = Gathered<Tap, ROOM>;
+    type Output = WriteBuffer<Tap, ROOM>;
 
     type Faults = Tap;
 

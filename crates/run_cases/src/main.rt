@@ -22,13 +22,13 @@ mod shelf;
 mod short_files;
 
 use anyhow::{Context, bail};
-use archive_listen::{Gathered, Outgoing};
-use archive_run::{World, run};
+use archive_listen::{BufferedSink, WriteBuffer};
+use archive_run::{Environment, run};
 use civil_time::Day;
-use devices::{NoPorts, NoThreaders, Stand, Still};
+use devices::{FixedClock, NoPorts, NoThreaders, TestPlatform};
 use mbox_core::device::{Counted, Tap, read_all, write_bytes};
-use shelf::Shelf;
-use short_files::ShortFiles;
+use shelf::TestDatabases;
+use short_files::FailingFiles;
 use sift_run::SystemFiles;
 use std::alloc::{AllocError, AllocGlobal, Global};
 use std::rt::Files;
@@ -42,7 +42,7 @@ const ROOM: usize = 65_536;
 struct Stage {
     input: Vec<u8>,
     today: Option<Day>,
-    databases: Shelf,
+    databases: TestDatabases,
 }
 
 /// What came of a run.
@@ -71,16 +71,16 @@ impl Stage {
     ) -> anyhow::Result<Ran> {
         let alloc = rt.alloc();
         let input = Tap::new(alloc, &self.input, passes)?;
-        let output = Gathered::new(Tap::new(alloc, b"", room)?);
+        let output = WriteBuffer::new(Tap::new(alloc, b"", room)?);
         let faults = Tap::new(alloc, b"", ROOM)?;
-        let databases = mem::replace(&mut self.databases, Shelf::new(alloc));
-        let mut world: World<Stand<'_, RT>> = World {
-            files: ShortFiles {
+        let databases = mem::replace(&mut self.databases, TestDatabases::new(alloc));
+        let mut world: Environment<TestPlatform<'_, RT>> = Environment {
+            files: FailingFiles {
                 files: SystemFiles { rt },
                 passes,
             },
             databases,
-            clock: Still(self.today),
+            clock: FixedClock(self.today),
             ports: NoPorts::new(),
             threaders: NoThreaders,
             input,
@@ -89,7 +89,7 @@ impl Stage {
         };
         let status = run(alloc, &mut world, words);
         let _ = world.output.flush();
-        let World {
+        let Environment {
             databases,
             output,
             faults,
@@ -270,7 +270,7 @@ fn follow<RT: Files + AllocGlobal>(
     } else if let Some(name) = line.strip_prefix("file ") {
         stage.input = fs::read(rt, name)?;
     } else if line == "new" {
-        stage.databases = Shelf::new(rt.alloc());
+        stage.databases = TestDatabases::new(rt.alloc());
     } else if let Some((name, sql)) = line.strip_prefix("sql ").and_then(named_statement) {
         stage.databases.alter(rt.alloc(), name, sql)?;
     } else if let Some(day) = line.strip_prefix("clock ") {
@@ -290,7 +290,7 @@ fn main(rt: HostRuntime) -> anyhow::Result<()> {
     let mut stage = Stage {
         input: Vec::new(alloc),
         today: None,
-        databases: Shelf::new(alloc),
+        databases: TestDatabases::new(alloc),
     };
     let mut page = Vec::new(alloc);
     for line in script.lines() {

@@ -1,6 +1,6 @@
 //! Databases in memory, by their names: files of `sqlite_disk` that are opened and closed as those of a system are.
 ghost use Rattle.std.specs.Prelude.{◌≡◌, None, IfErr};
-ghost use Rattle.archive_port.specs.Replies.{refusal};
+ghost use Rattle.archive_port.specs.Replies.{refusal_of_fault};
 
 use anyhow::bail;
 use archive_run::Databases;
@@ -24,15 +24,15 @@ struct Kept {
 
 /// The databases that are closed, and the name of the one that is open.
 #[derive(Drop)]
-pub struct Shelf {
+pub struct TestDatabases {
     kept: Vec<Kept>,
     open: Option<String>,
 }
 
-impl Shelf {
+impl TestDatabases {
     /// No database, and none open.
-    pub fn new(alloc: Global) -> Shelf {
-        Shelf {
+    pub fn new(alloc: Global) -> TestDatabases {
+        TestDatabases {
             kept: Vec::new(alloc),
             open: None,
         }
@@ -97,7 +97,7 @@ fn few_pages() -> Options {
 
 /// The archive in these files, or the files again.
 fn adopt(alloc: Global, files: Files<Memory>) -> Result<Store<FileStore<Memory>>, Unopened>
-    ensures { IfErr result (λ stop. refusal stop.fault ≡ None) }
+    ensures { IfErr result (λ stop. refusal_of_fault stop.fault ≡ None) }
 {
     if !files.may_be_used() {
         return Err(Unopened {
@@ -123,7 +123,7 @@ fn adopt(alloc: Global, files: Files<Memory>) -> Result<Store<FileStore<Memory>>
     }
 }
 
-impl Databases<Store<FileStore<Memory>>> for Shelf {
+impl Databases<Store<FileStore<Memory>>> for TestDatabases {
     ghost use Rattle.std.specs.Prelude.{⊤};
 
     fn open(&mut self, alloc: Global, name: &str) -> Result<Store<FileStore<Memory>>, StoreFault> {

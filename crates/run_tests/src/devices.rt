@@ -1,17 +1,17 @@
 //! Files, databases, a clock, ports and threaders of memory.
 ghost use Rattle.std.specs.Prelude.{◌≡◌, ◌++◌, [], ◌∷◌};
 ghost use Rattle.archive_listen.specs.Connections.{exchange};
-ghost use Rattle.run_tests.specs.Taps.{over_taps};
+ghost use Rattle.run_tests.specs.Taps.{exchanges_of_taps};
 
 use archive_listen::{
-    AcceptFault, Connection, Gathered, ListenFault, Listener, Listening, Ports, ROOM,
+    AcceptError, BoundListener, Connection, ListenError, Listener, Ports, ROOM, WriteBuffer,
 };
-use archive_run::{Databases, System, Threaders};
+use archive_run::{Databases, Platform, Threaders};
 use archive_store::{Store, StoreFault};
 use civil_time::Day;
 use http_server::Log;
 use mbox_core::device::Tap;
-use sift_run::{DayClock, FileFault, OpenFiles, ReadFiles};
+use sift_run::{DayClock, FileError, ReadFiles, StreamedFiles};
 use sqlite::MemStore;
 use std::alloc::{AllocError, Global};
 use thread_core::NodeThreader;
@@ -55,35 +55,35 @@ const PICKED: u16 = 49152;
 pub struct KnownFiles;
 
 impl ReadFiles for KnownFiles {
-    fn read_file(&self, alloc: Global, name: &str) -> Result<Vec<u8>, FileFault> {
+    fn read_file(&self, alloc: Global, name: &str) -> Result<Vec<u8>, FileError> {
         let text: &[u8] = match name {
             POLICY => b"[[rule]]\nname = \"all\"\neffect = \"allow\"\n",
             HIDING =>
                 b"[[rule]]\nname = \"withdrawn\"\neffect = \"deny\"\nwithdrawn = [\"author\", \"board\"]\n\n[[rule]]\nname = \"all\"\neffect = \"allow\"\n",
             NO_POLICY => b"From anna@example.org Tue Mar  4 10:00:00 2003\n",
-            _ => return Err(FileFault::Read),
+            _ => return Err(FileError::Read),
         };
         let mut bytes = Vec::new(alloc);
         match bytes.extend_from_slice(text) {
             Ok(()) => Ok(bytes),
-            Err(_full) => Err(FileFault::Memory),
+            Err(_full) => Err(FileError::Memory),
         }
     }
 }
 
-impl OpenFiles for KnownFiles {
+impl StreamedFiles for KnownFiles {
     type Input = Tap;
 
-    fn open_file(&self, alloc: Global, name: &str) -> Result<Tap, FileFault> {
+    fn open_file(&self, alloc: Global, name: &str) -> Result<Tap, FileError> {
         let passes = match name {
             MBOX => 1000,
             BROKEN => SECOND,
-            NO_MEMORY => return Err(FileFault::Memory),
-            _ => return Err(FileFault::Read),
+            NO_MEMORY => return Err(FileError::Memory),
+            _ => return Err(FileError::Read),
         };
         match Tap::new(alloc, TWO, passes) {
             Ok(input) => Ok(input),
-            Err(_full) => Err(FileFault::Memory),
+            Err(_full) => Err(FileError::Memory),
         }
     }
 }
@@ -112,11 +112,11 @@ impl Shelf {
 
 impl Databases<Store<MemStore>> for Shelf {
     ghost use Rattle.std.specs.Prelude.{◌≡◌, Some, IfOk, codes};
-    ghost use Rattle.run_tests.specs.Shelf.{IsGiven, KeepsArchive};
+    ghost use Rattle.run_tests.specs.Shelf.{OpensClosedOrEmptyStore, ClosedStoreHoldsArchive};
 
-    ghost holds = { λ shelf name archive. (name ≡ codes "archive.db") × KeepsArchive shelf.store archive };
+    ghost holds = { λ shelf name archive. (name ≡ codes "archive.db") × ClosedStoreHoldsArchive shelf.store archive };
 
-    ghost opens = { λ old new name result. IfOk result (λ store. IsGiven old.store store) };
+    ghost opens = { λ old new name result. IfOk result (λ store. OpensClosedOrEmptyStore old.store store) };
 
     ghost closes = { λ old new store. new.store ≡ Some store };
 
@@ -178,49 +178,49 @@ pub struct Peers {
     peers: &'static [Peer],
     /// What each was sent.
     pub sent: Vec<Tap>,
-    taken: Log<Tap, Gathered<Tap, ROOM>>,
+    taken: Log<Tap, WriteBuffer<Tap, ROOM>>,
 }
 
 impl Listener for Peers {
     ghost use Rattle.std.specs.Prelude.{◌≡◌, ◌++◌, [], ◌∷◌};
-    ghost use Rattle.run_tests.specs.Taps.{over_taps};
+    ghost use Rattle.run_tests.specs.Taps.{exchanges_of_taps};
 
     type Input = Tap;
 
-    type Output = Gathered<Tap, ROOM>;
+    type Output = WriteBuffer<Tap, ROOM>;
 
-    ghost over = { λ p. over_taps p.taken.items };
+    ghost over = { λ p. exchanges_of_taps p.taken.items };
 
-    ghost accepts = { λ old new fault. over_taps new.taken.items ≡ over_taps old.taken.items };
+    ghost accepts = { λ old new fault. exchanges_of_taps new.taken.items ≡ exchanges_of_taps old.taken.items };
 
-    ghost closes = { λ old new went broke_off. over_taps new.taken.items ≡ over_taps old.taken.items ++ went ∷ [] };
+    ghost closes = { λ old new went broke_off. exchanges_of_taps new.taken.items ≡ exchanges_of_taps old.taken.items ++ went ∷ [] };
 
     ghost accepts_none = { λ old new fault same. same };
 
     ghost closes_one = { λ old new went broke_off more. more };
 
-    fn accept(&mut self) -> Result<Connection<Tap, Gathered<Tap, ROOM>>, AcceptFault> {
+    fn accept(&mut self) -> Result<Connection<Tap, WriteBuffer<Tap, ROOM>>, AcceptError> {
         let Some((first, rest)) = self.peers.split_first() else {
-            return Err(AcceptFault::Listener);
+            return Err(AcceptError::Listener);
         };
         self.peers = rest;
         let Peer::Says(text) = *first else {
-            return Err(AcceptFault::Peer);
+            return Err(AcceptError::Peer);
         };
         let Ok(input) = Tap::new(self.alloc, text, 1000) else {
-            return Err(AcceptFault::Listener);
+            return Err(AcceptError::Listener);
         };
         let Ok(output) = Tap::new(self.alloc, b"", 4000) else {
-            return Err(AcceptFault::Listener);
+            return Err(AcceptError::Listener);
         };
         Ok(Connection {
             input,
-            output: Gathered::new(output),
+            output: WriteBuffer::new(output),
         })
     }
 
-    fn close(&mut self, connection: Connection<Tap, Gathered<Tap, ROOM>>, breaks_off: bool)
-        ensures closes { over_taps self.new.taken.items ≡ over_taps self.old.taken.items
+    fn close(&mut self, connection: Connection<Tap, WriteBuffer<Tap, ROOM>>, breaks_off: bool)
+        ensures closes { exchanges_of_taps self.new.taken.items ≡ exchanges_of_taps self.old.taken.items
             ++ exchange connection.input.read connection.output.inner.written ∷ [] }
     {
         self.taken = self.taken.and(&connection.input, &connection.output);
@@ -264,22 +264,22 @@ impl Quay {
 
 impl Ports for Quay {
     ghost use Rattle.std.specs.Prelude.{◌≡◌, [], IfOk, flat_map};
-    ghost use Rattle.run_tests.specs.Taps.{listens_none, over_taps};
+    ghost use Rattle.run_tests.specs.Taps.{no_connection_no_exchange, exchanges_of_taps};
 
     type Listener = Peers;
 
-    ghost went = { λ q. flat_map (λ e. over_taps e.0.taken.items) q.ended.items };
+    ghost went = { λ q. flat_map (λ e. exchanges_of_taps e.0.taken.items) q.ended.items };
 
     ghost listens = { λ old new port result. (new ≡ old) × IfOk result (λ it. it.listener.taken.items ≡ []) };
 
     ghost listens_none = { λ old new port listening given.
-        listens_none (λ q. flat_map (λ e. over_taps e.0.taken.items) q.ended.items) old new listening.listener.taken.items given.0 given.1 };
+        no_connection_no_exchange (λ q. flat_map (λ e. exchanges_of_taps e.0.taken.items) q.ended.items) old new listening.listener.taken.items given.0 given.1 };
 
-    fn listen(&mut self, port: u16) -> Result<Listening<Peers>, ListenFault> {
+    fn listen(&mut self, port: u16) -> Result<BoundListener<Peers>, ListenError> {
         if port == TAKEN {
-            return Err(ListenFault);
+            return Err(ListenError);
         }
-        Ok(Listening {
+        Ok(BoundListener {
             listener: Peers {
                 alloc: self.alloc,
                 peers: self.peers,
@@ -299,8 +299,8 @@ impl Ports for Quay {
 /// The kinds of devices of memory.
 pub struct Desk;
 
-impl System for Desk {
-    ghost use Rattle.run_tests.specs.Shelf.{given_held, kept_held};
+impl Platform for Desk {
+    ghost use Rattle.run_tests.specs.Shelf.{reopened_test_store_remembers, closed_store_holds_its_archive};
 
     type Storage = MemStore;
 
@@ -316,11 +316,11 @@ impl System for Desk {
 
     type Input = Tap;
 
-    type Output = Gathered<Tap, ROOM>;
+    type Output = WriteBuffer<Tap, ROOM>;
 
     type Faults = Tap;
 
-    ghost opens_held = { λ old new name store archive held given. given_held old.store store archive held.1 given };
+    ghost opens_held = { λ old new name store archive held given. reopened_test_store_remembers old.store store archive held.1 given };
 
-    ghost closes_held = { λ old device new name before after archive held given closed returned tables. (held.0, kept_held new.store after closed tables) };
+    ghost closes_held = { λ old device new name before after archive held given closed returned tables. (held.0, closed_store_holds_its_archive new.store after closed tables) };
 }

@@ -2,8 +2,8 @@
 use crate::devices::{
     ARCHIVE, BROKEN, Desk, KnownFiles, MBOX, NO_MEMORY, Nodes, Quay, Shelf, Still,
 };
-use archive_listen::Gathered;
-use archive_run::{World, run};
+use archive_listen::WriteBuffer;
+use archive_run::{Environment, run};
 use mbox_core::device::Tap;
 use std::alloc::Global;
 use std::process::Abort;
@@ -72,14 +72,14 @@ fn comes(
     words: &[&str],
     case: &Case,
 ) -> Result<Shelf, Fail> {
-    let mut world: World<Desk> = World {
+    let mut world: Environment<Desk> = Environment {
         files: KnownFiles,
         databases,
         clock: Still(None),
         ports: Quay::new(alloc, &[]),
         threaders: Nodes(None),
         input: Tap::new(alloc, b"", 0)?,
-        output: Gathered::new(Tap::new(alloc, b"", 100)?),
+        output: WriteBuffer::new(Tap::new(alloc, b"", 100)?),
         faults: Tap::new(alloc, b"", 100)?,
     };
     let status = run(alloc, &mut world, words);

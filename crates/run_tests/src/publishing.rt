@@ -2,8 +2,8 @@
 use crate::devices::{
     ARCHIVE, BROKEN, Desk, HIDING, KnownFiles, MBOX, Nodes, POLICY, Peer, Quay, Shelf, Still,
 };
-use archive_listen::Gathered;
-use archive_run::{World, run};
+use archive_listen::WriteBuffer;
+use archive_run::{Environment, run};
 use example_served::import_withdraw_and_serve;
 use mbox_core::device::Tap;
 use std::alloc::Global;
@@ -101,15 +101,15 @@ const CASES: [Case; 4] = [
 ];
 
 /// The devices that the orders meet: no database yet, and the peers.
-fn world_of(alloc: Global, threader: NodeThreader) -> Result<World<Desk>, Fail> {
-    Ok(World {
+fn world_of(alloc: Global, threader: NodeThreader) -> Result<Environment<Desk>, Fail> {
+    Ok(Environment {
         files: KnownFiles,
         databases: Shelf::new(),
         clock: Still(None),
         ports: Quay::new(alloc, &PEERS),
         threaders: Nodes(Some(threader)),
         input: Tap::new(alloc, b"", 0)?,
-        output: Gathered::new(Tap::new(alloc, b"", 100)?),
+        output: WriteBuffer::new(Tap::new(alloc, b"", 100)?),
         faults: Tap::new(alloc, b"", 100)?,
     })
 }

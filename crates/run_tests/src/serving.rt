@@ -2,8 +2,8 @@
 use crate::devices::{
     ARCHIVE, Desk, KnownFiles, NO_POLICY, Nodes, POLICY, Peer, Quay, Shelf, Still,
 };
-use archive_listen::Gathered;
-use archive_run::{World, run};
+use archive_listen::WriteBuffer;
+use archive_run::{Environment, run};
 use civil_time::Day;
 use mbox_core::device::Tap;
 use std::alloc::Global;
@@ -152,21 +152,21 @@ const CASES: [Case; 12] = [
 ];
 
 /// The devices that an order meets.
-fn world_of(alloc: Global, threader: NodeThreader, case: &Case) -> Result<World<Desk>, Fail> {
+fn world_of(alloc: Global, threader: NodeThreader, case: &Case) -> Result<Environment<Desk>, Fail> {
     let today = if case.tells_day {
         Day::of(2024, 3, 20)
     } else {
         None
     };
     let threader = if case.threads { Some(threader) } else { None };
-    Ok(World {
+    Ok(Environment {
         files: KnownFiles,
         databases: Shelf::new(),
         clock: Still(today),
         ports: Quay::new(alloc, &PEERS),
         threaders: Nodes(threader),
         input: Tap::new(alloc, b"", 0)?,
-        output: Gathered::new(Tap::new(alloc, b"", case.room)?),
+        output: WriteBuffer::new(Tap::new(alloc, b"", case.room)?),
         faults: Tap::new(alloc, b"", 1000)?,
     })
 }

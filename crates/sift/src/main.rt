@@ -3,21 +3,21 @@
 
 ghost use Rattle.std.specs.Prelude.{map, string_bytes};
 ghost use Rattle.std.specs.Process.{exit_status};
-ghost use Rattle.sift.specs.Program.{IsProgram, RunsWhole};
+ghost use Rattle.sift.specs.Program.{RunsSiftProgram, RunsSiftOnArgs};
 
-use archive_listen::{Gathered, Outgoing};
-use archive_words::OrderStop;
+use archive_args::OrderStop;
+use archive_listen::{BufferedSink, WriteBuffer};
 use mbox_core::device::{Counted, Sink, Source};
 use sift_run::{
-    DayClock, HasWords, OUTPUT_ROOM, ReadFiles, SystemDay, SystemFiles, borrowed, command_words,
-    run, say_stop,
+    DayClock, HasArguments, OUTPUT_ROOM, ReadFiles, SystemClock, SystemFiles, borrowed,
+    command_words, report_parse_error, run,
 };
 use std::alloc::{AllocGlobal, Global};
 use std::io;
 use std::process::ExitCode;
 
 /// Carries out what these arguments order. What a sift that is refused left in the output is passed on here.
-fn run_words<F: ReadFiles, C: DayClock, R: Source, O: Outgoing, E: Sink>(
+fn run_words<F: ReadFiles, C: DayClock, R: Source, O: BufferedSink, E: Sink>(
     alloc: Global,
     files: &F,
     clock: &mut C,
@@ -26,11 +26,11 @@ fn run_words<F: ReadFiles, C: DayClock, R: Source, O: Outgoing, E: Sink>(
     faults: &mut E,
     words: &[String],
 ) -> u8
-    ensures { RunsWhole C.DayClock R.Source O.Sink O.Outgoing.own E.Sink F.ReadFiles files.now clock.old clock.new input.old input.new
+    ensures { RunsSiftOnArgs C.DayClock R.Source O.Sink O.BufferedSink.own E.Sink F.ReadFiles files.now clock.old clock.new input.old input.new
         output.old faults.old faults.new (map string_bytes words.now) output.new result }
 {
     let Ok(words) = borrowed(alloc, words) else {
-        return say_stop(output, faults, &OrderStop::Memory);
+        return report_parse_error(output, faults, &OrderStop::Memory);
     };
     let status = run(alloc, files, clock, input, output, faults, words.as_slice());
     let _ = output.flush();
@@ -38,15 +38,15 @@ fn run_words<F: ReadFiles, C: DayClock, R: Source, O: Outgoing, E: Sink>(
 }
 
 /// Carries out what the command line orders.
-fn run_line<Y: HasWords + AllocGlobal, F: ReadFiles, C: DayClock, R: Source, O: Outgoing, E: Sink>(
-    rt: &Y,
-    files: &F,
-    clock: &mut C,
-    input: &mut R,
-    output: &mut O,
-    faults: &mut E,
-) -> u8
-    ensures { IsProgram C.DayClock R.Source O.Sink O.Outgoing.own E.Sink F.ReadFiles files.now clock.old clock.new input.old input.new
+fn run_line<
+    Y: HasArguments + AllocGlobal,
+    F: ReadFiles,
+    C: DayClock,
+    R: Source,
+    O: BufferedSink,
+    E: Sink,
+>(rt: &Y, files: &F, clock: &mut C, input: &mut R, output: &mut O, faults: &mut E) -> u8
+    ensures { RunsSiftProgram C.DayClock R.Source O.Sink O.BufferedSink.own E.Sink F.ReadFiles files.now clock.old clock.new input.old input.new
         output.old faults.old faults.new Y.gave rt.now output.new result }
 {
     match command_words(rt) {
@@ -59,20 +59,20 @@ fn run_line<Y: HasWords + AllocGlobal, F: ReadFiles, C: DayClock, R: Source, O: 
             faults,
             words.as_slice(),
         ),
-        Err(stop) => say_stop(output, faults, &stop),
+        Err(stop) => report_parse_error(output, faults, &stop),
     }
 }
 
 /// Carries out what the command line orders, over these devices, and ends with its status.
-fn carry_out<Y: HasWords + AllocGlobal, F: ReadFiles, C: DayClock, R: Source, O: Outgoing, E: Sink>(
-    rt: &Y,
-    files: &F,
-    clock: &mut C,
-    input: &mut R,
-    output: &mut O,
-    faults: &mut E,
-) -> ExitCode
-    ensures { IsProgram C.DayClock R.Source O.Sink O.Outgoing.own E.Sink F.ReadFiles files.now clock.old clock.new input.old input.new
+fn carry_out<
+    Y: HasArguments + AllocGlobal,
+    F: ReadFiles,
+    C: DayClock,
+    R: Source,
+    O: BufferedSink,
+    E: Sink,
+>(rt: &Y, files: &F, clock: &mut C, input: &mut R, output: &mut O, faults: &mut E) -> ExitCode
+    ensures { RunsSiftProgram C.DayClock R.Source O.Sink O.BufferedSink.own E.Sink F.ReadFiles files.now clock.old clock.new input.old input.new
         output.old faults.old faults.new Y.gave rt.now output.new (exit_status result) }
 {
     ExitCode::from(run_line(rt, files, clock, input, output, faults))
@@ -80,11 +80,11 @@ fn carry_out<Y: HasWords + AllocGlobal, F: ReadFiles, C: DayClock, R: Source, O:
 
 /// Makes the devices of the system.
 fn main(rt: HostRuntime) -> ExitCode {
-    let mut output: Gathered<_, OUTPUT_ROOM> = Gathered::new(Counted::new(io::writer(&rt)));
+    let mut output: WriteBuffer<_, OUTPUT_ROOM> = WriteBuffer::new(Counted::new(io::writer(&rt)));
     carry_out(
         &rt,
         &SystemFiles { rt: &rt },
-        &mut SystemDay { rt: &rt },
+        &mut SystemClock { rt: &rt },
         &mut Counted::new(rt.reader()),
         &mut output,
         &mut Counted::new(rt.stderr()),

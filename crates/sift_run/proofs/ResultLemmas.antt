@@ -5,8 +5,8 @@ use Rattle.std.specs.declared.alloc.Global.{Global}
 use Rattle.std.proofs.lemmas.List.{drop-map}
 use Rattle.std.specs.Result.{IsErrAnd}
 use Rattle.std.proofs.Math.Seq.{take-length}
-use Rattle.mbox_core.specs.Written.{IsCutShort}
-use Rattle.sift_run.specs.Streams.{IsSent, Sent}
+use Rattle.mbox_core.specs.Written.{AppendsPrefixOfText}
+use Rattle.sift_run.specs.Streams.{WritesAndFlushesOrFails, OutputStreamState}
 
 pub by_result : {A E : Type 0} (R : Result A E → Type 0) (P : A → Type 0) (Q : E → Type 0) (result : Result A E) → MatchResult result P Q
     → ((a : A) → P a → R (Ok a)) → ((e : E) → Q e → R (Err e)) → R result
@@ -40,14 +40,14 @@ at_three {A = A} {B = B} {C = C} P a a' b b' c c' e f h it =
 -- ---- texts that go out
 
 -- a text of which all was written, and that the output failed to pass on
-pub whole_cut : (before after text : List ℕ) → after ≡ before ++ text → IsCutShort before after text (length text)
+pub whole_cut : (before after text : List ℕ) → after ≡ before ++ text → AppendsPrefixOfText before after text (length text)
 whole_cut before after text e = (omega arith, e ∙ ap (λ t. before ++ t) (sym (take-length text)))
 
 -- the same text
-pub sent_as : {E : Type 0} (told : E) (before after : Sent) (text line : List ℕ) (result : Result ⊤ E) → text ≡ line
-    → IsSent told before after text result → IsSent told before after line result
+pub sent_as : {E : Type 0} (told : E) (before after : OutputStreamState) (text line : List ℕ) (result : Result ⊤ E) → text ≡ line
+    → WritesAndFlushesOrFails told before after text result → WritesAndFlushesOrFails told before after line result
 sent_as told before after text line result e it =
-    let P : List ℕ → Type 0 = λ t. IsSent told before after t result in
+    let P : List ℕ → Type 0 = λ t. WritesAndFlushesOrFails told before after t result in
     subst P e it
 
 -- ---- the words of a command line

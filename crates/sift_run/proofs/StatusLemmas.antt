@@ -1,21 +1,21 @@
 -- What an exit status says.
 use Rattle.std.proofs.Common.{◌≡◌, ◌≤◌, ◌⊎◌, inl, inr, ℕ, List, [], ◌∷◌, Bool, true, false, Option, Some, None, Result, Ok, Err, arith}
 use Rattle.std.specs.Prelude.{MatchResult}
-use Rattle.archive_words.specs.Values.{SiftValues}
-use Rattle.archive_words.specs.declared.orders.Order.{Order}
-use Rattle.archive_words.specs.declared.orders.Order.TheVariants.{Sift}
-use Rattle.archive_words.specs.declared.orders.OrderStop.{OrderStop}
-use Rattle.archive_words.specs.declared.orders.OrderStop.TheVariants.{Help, Words, Memory}
-use Rattle.archive_words.specs.Orders.{AreBad, IsMemory, IsStopOf, ordered}
+use Rattle.archive_args.specs.Values.{SiftValues}
+use Rattle.archive_args.specs.declared.orders.Order.{Order}
+use Rattle.archive_args.specs.declared.orders.Order.TheVariants.{Sift}
+use Rattle.archive_args.specs.declared.orders.OrderStop.{OrderStop}
+use Rattle.archive_args.specs.declared.orders.OrderStop.TheVariants.{Help, Words, Memory}
+use Rattle.archive_args.specs.Orders.{IsUsageError, IsOutOfMemoryStop, IsOrderStopOf, order_of_args}
 use Rattle.clap.specs.Words.{IsAmong, Kinds, fault_of, takes}
-use Rattle.archive_words.specs.Program.{archive_app}
+use Rattle.archive_args.specs.Program.{archive_app}
 use Rattle.clap.specs.declared.error.kind.ErrorKind.{ErrorKind}
-use Rattle.sift_run.specs.Running.{GiveOrder}
+use Rattle.sift_run.specs.Running.{ParseAsOrder}
 use Rattle.byte_device.specs.declared.devices.Sink.{Ghosts as Takes}
-use Rattle.archive_listen.specs.declared.connections.Outgoing.{Ghosts as Passes}
-use Rattle.sift_run.specs.Refusals.{SaysStop, Tells, run_text}
-use Rattle.archive_listen.specs.Connections.{noted}
-use Rattle.sift_run.specs.declared.faults.RunFault.TheVariants as fault
+use Rattle.archive_listen.specs.declared.connections.BufferedSink.{Ghosts as Passes}
+use Rattle.sift_run.specs.Refusals.{ReportsOrderStop, WritesErrorLine, command_error_text}
+use Rattle.archive_listen.specs.Connections.{error_stream_state}
+use Rattle.sift_run.specs.declared.faults.CommandError.TheVariants as fault
 
 none_among : (k : ErrorKind) (kinds : Kinds) → kinds ≡ [] → IsAmong k kinds → ⊥
 none_among k [] e among = among
@@ -46,15 +46,15 @@ stopped takes found order (inr (inl e)) taken some = cc
 stopped takes found order (inr (inr e)) taken some = cc
 
 -- and so are words of which `clap` has no fault to tell
-unfaulted : (words : List (List ℕ)) (order : Order) (stop : OrderStop) → IsStopOf words stop → fault_of archive_app words ≡ [] → ordered words ≡ Some order → IsMemory stop
+unfaulted : (words : List (List ℕ)) (order : Order) (stop : OrderStop) → IsOrderStopOf words stop → fault_of archive_app words ≡ [] → order_of_args words ≡ Some order → IsOutOfMemoryStop stop
 unfaulted words order Memory is none some = tt
 unfaulted words order (Help text) (inl help) none some = absurd (none_among _ _ none help)
 unfaulted words order (Help text) (inr version) none some = absurd (none_among _ _ none version)
 unfaulted words order (Words text) (inl refused) none some = absurd (none_among _ _ none refused.1)
-unfaulted words order (Words text) (inr bad) none some = let nothing : ordered words ≡ None = bad.1 in cc
+unfaulted words order (Words text) (inr bad) none some = let nothing : order_of_args words ≡ None = bad.1 in cc
 
 pub memory_alone : (words : List (List ℕ)) (order : Order) (stop : OrderStop)
-    → IsMemory stop ⊎ ((takes archive_app words ≡ false) ⊎ (ordered words ≡ None)) → IsStopOf words stop → GiveOrder words order → IsMemory stop
+    → IsOutOfMemoryStop stop ⊎ ((takes archive_app words ≡ false) ⊎ (order_of_args words ≡ None)) → IsOrderStopOf words stop → ParseAsOrder words order → IsOutOfMemoryStop stop
 memory_alone words order stop refused is (inl taken, some) = stopped _ _ _ refused taken some
 memory_alone words order stop refused is (inr none, some) = unfaulted words order stop is none some
 
@@ -66,15 +66,15 @@ same_sift found first x y a b c = cc
 
 -- what is said of a want of memory, and of bad words
 module _ {O E : Type 0} (writes : Takes O) (passes : Passes O) (notes : Takes E) (out_old out_new : O) (err_old err_new : E) (status : ℕ) where
-  pub memory_said : (stop : OrderStop) → IsMemory stop → SaysStop writes passes notes out_old out_new err_old err_new stop status
-      → (status ≡ 1) × (out_new ≡ out_old) × Tells (run_text fault.Memory) (noted notes err_old) (noted notes err_new)
+  pub memory_said : (stop : OrderStop) → IsOutOfMemoryStop stop → ReportsOrderStop writes passes notes out_old out_new err_old err_new stop status
+      → (status ≡ 1) × (out_new ≡ out_old) × WritesErrorLine (command_error_text fault.Memory) (error_stream_state notes err_old) (error_stream_state notes err_new)
   memory_said Memory is said = said
   memory_said (Help text) is said = absurd is
   memory_said (Words text) is said = absurd is
 
-  pub words_bad : (words : List (List ℕ)) (stop : OrderStop) → IsStopOf words stop
-      → IsMemory stop ⊎ ((takes archive_app words ≡ false) ⊎ (ordered words ≡ None)) → SaysStop writes passes notes out_old out_new err_old err_new stop status
-      → status ≡ 2 → AreBad words × ((takes archive_app words ≡ false) ⊎ (ordered words ≡ None))
+  pub words_bad : (words : List (List ℕ)) (stop : OrderStop) → IsOrderStopOf words stop
+      → IsOutOfMemoryStop stop ⊎ ((takes archive_app words ≡ false) ⊎ (order_of_args words ≡ None)) → ReportsOrderStop writes passes notes out_old out_new err_old err_new stop status
+      → status ≡ 2 → IsUsageError words × ((takes archive_app words ≡ false) ⊎ (order_of_args words ≡ None))
   words_bad words Memory is why said two = let one : status ≡ 1 = said.0 in cc
   words_bad words (Help text) is why (inl done) two = let zero : status ≡ 0 = done.0 in cc
   words_bad words (Help text) is why (inr failed) two = let one : status ≡ 1 = failed.0 in cc

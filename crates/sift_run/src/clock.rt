@@ -1,8 +1,8 @@
 //! The day: whoever tells it, and a system's clock.
 ghost use Rattle.std.specs.Prelude.{◌≡◌};
-ghost use Rattle.sift_run.specs.Systems.{day_after};
+ghost use Rattle.sift_run.specs.Systems.{day_of_unix_seconds};
 
-use crate::system::TellsTime;
+use crate::system::HasClock;
 use civil_time::{Day, Instant};
 
 /// Whoever knows which day it is, in UTC. `None`: it does not.
@@ -18,20 +18,20 @@ pub trait DayClock {
 
 /// A system's clock.
 #[derive(Drop)]
-pub struct SystemDay<'a, R> {
+pub struct SystemClock<'a, R> {
     /// The system that is asked for the time.
     pub rt: &'a R,
 }
 
 /// The day of so many seconds after 1970-01-01 00:00:00 UTC. `None` after the year 9998.
 fn day_at(seconds: u64) -> Option<Day>
-    ensures { result ≡ day_after seconds }
+    ensures { result ≡ day_of_unix_seconds seconds }
 {
     let seconds = i64::try_from(seconds).ok()?;
     Some(Instant::new(seconds)?.day())
 }
 
-impl<'a, R: TellsTime> DayClock for SystemDay<'a, R> {
+impl<'a, R: HasClock> DayClock for SystemClock<'a, R> {
     ghost use Rattle.std.specs.Prelude.{◌≡◌};
     ghost use Rattle.sift_run.specs.Systems.{IsToday};
 

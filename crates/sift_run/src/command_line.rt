@@ -1,10 +1,10 @@
 //! The words of a program's command line.
 ghost use Rattle.std.specs.Prelude.{◌≡◌, drop, map, string_bytes, IfOk, IfErr};
 ghost use Rattle.std.specs.Vec.Iter.{into_iter_items};
-ghost use Rattle.sift_run.specs.Systems.{AreWordsOf, IsWordsStop};
+ghost use Rattle.sift_run.specs.Systems.{AreProgramArguments, IsArgumentsError};
 
-use crate::system::HasWords;
-use archive_words::OrderStop;
+use crate::system::HasArguments;
+use archive_args::OrderStop;
 use std::alloc::{AllocError, AllocGlobal, Global};
 use std::env::Args;
 
@@ -19,9 +19,9 @@ fn words_behind(alloc: Global, words: Args) -> Result<Vec<String>, AllocError>
 }
 
 /// The words behind the program's name. Words: one of them is no UTF-8. Memory: there was no memory for them.
-pub fn command_words<R: HasWords + AllocGlobal>(rt: &R) -> Result<Vec<String>, OrderStop>
-    ensures ok { IfOk result (λ words. AreWordsOf R.gave rt.now (map string_bytes words.items)) }
-    ensures refused { IfErr result (IsWordsStop R.gave rt.now) }
+pub fn command_words<R: HasArguments + AllocGlobal>(rt: &R) -> Result<Vec<String>, OrderStop>
+    ensures ok { IfOk result (λ words. AreProgramArguments R.gave rt.now (map string_bytes words.items)) }
+    ensures refused { IfErr result (IsArgumentsError R.gave rt.now) }
 {
     let alloc = rt.alloc();
     let Ok(words) = rt.all_words() else {

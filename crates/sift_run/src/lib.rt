@@ -12,12 +12,12 @@ mod sifting;
 mod system;
 mod telling;
 
-pub use clock::{DayClock, SystemDay};
+pub use clock::{DayClock, SystemClock};
 pub use command_line::{OUTPUT_ROOM, borrowed, command_words};
-pub use faults::{Refuses, RunFault, put, put_number};
-pub use files::{FileFault, OpenFiles, ReadFiles, SystemFiles};
-pub use policies::asked_policy;
+pub use faults::{CommandError, PrintsError, put_number, write_piece};
+pub use files::{FileError, ReadFiles, StreamedFiles, SystemFiles};
+pub use policies::read_policy_or_open;
 pub use running::{run, run_sift};
 pub use sifting::{SiftFault, SiftWords, sift};
-pub use system::{HasFiles, HasWords, TellsTime};
-pub use telling::{BAD_WORDS, DONE, REFUSED, finish, say_stop, send, tell};
+pub use system::{HasArguments, HasClock, HasFiles};
+pub use telling::{BAD_WORDS, DONE, REFUSED, finish, report_error, report_parse_error, send};

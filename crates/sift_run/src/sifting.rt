@@ -1,10 +1,10 @@
 //! Writing the messages of an mbox that pass.
 ghost use Rattle.std.specs.Prelude.{◌≡◌, ◌≢◌, ◌≤◌, ◌<◌, ◌+◌, ◌-◌, ◌^◌, ◌++◌, ◌∷◌, [], ℕ, List, length, min, IfOk, IfErr, OnOk, OnErr};
-ghost use Rattle.mbox_core.specs.Written.{IsCutShort};
-ghost use Rattle.mbox_stream.specs.Cutter.{IsCutter};
-ghost use Rattle.sift_run.specs.Sifting.{passes, sifted, IsFresh, SiftsDone, SiftsSoFar, SiftsNot, IsOfCutter};
-ghost use Rattle.sift_run.specs.Streams.{heard};
-ghost use Rattle.archive_listen.specs.Connections.{noted};
+ghost use Rattle.mbox_core.specs.Written.{AppendsPrefixOfText};
+ghost use Rattle.mbox_stream.specs.Cutter.{IsCutterConsistent};
+ghost use Rattle.sift_run.specs.Sifting.{message_passes, filtered_text, IsFreshCutter, FiltersWholeInput, FiltersSoFar, FilteringFails, MatchesCutterState};
+ghost use Rattle.sift_run.specs.Streams.{input_stream_state};
+ghost use Rattle.archive_listen.specs.Connections.{error_stream_state};
 
 use civil_time::Day;
 use mbox_core::device::{Sink, Source, WriteFault};
@@ -28,9 +28,9 @@ pub struct SiftWords<'a> {
 }
 
 impl<'a> Model for SiftWords<'a> {
-    ghost use Rattle.sift_run.specs.Sifting.{Asked};
+    ghost use Rattle.sift_run.specs.Sifting.{SiftConditions};
 
-    ghost Value = { Asked };
+    ghost Value = { SiftConditions };
 
     ghost view = { λ w. record { list = w.list.now; standing = w.standing; day = w.day; min_age = w.min_age } };
 }
@@ -48,7 +48,7 @@ pub enum SiftFault {
 impl<'a> SiftWords<'a> {
     /// Whether a message passes: it is old enough, where an age is asked for, and the policy allows it.
     fn passes(&self, policy: &Policy, item: &Item) -> bool
-        ensures { result ≡ passes policy.now self.now item.now }
+        ensures { result ≡ message_passes policy.now self.now item.now }
     {
         let facts = Facts {
             list: self.list,
@@ -79,10 +79,10 @@ fn write_if<W: Sink>(
     item: &OwnedItem,
     output: &mut W,
 ) -> Result<u64, WriteFault>
-    ensures ok { OnOk result (W.told output.new ≡ W.told output.old ++ sifted policy.now words.now (item.now ∷ [])) }
-    ensures count { IfOk result (λ n. n ≡ min (length (sifted policy.now words.now (item.now ∷ []))) (2 ^ 64 - 1)) }
+    ensures ok { OnOk result (W.told output.new ≡ W.told output.old ++ filtered_text policy.now words.now (item.now ∷ [])) }
+    ensures count { IfOk result (λ n. n ≡ min (length (filtered_text policy.now words.now (item.now ∷ []))) (2 ^ 64 - 1)) }
     ensures fault { IfErr result (λ e. length (W.told output.new) < 2 ^ 64
-        → IsCutShort (W.told output.old) (W.told output.new) (sifted policy.now words.now (item.now ∷ [])) e.written) }
+        → AppendsPrefixOfText (W.told output.old) (W.told output.new) (filtered_text policy.now words.now (item.now ∷ [])) e.written) }
     ensures quiet { OnOk result (W.failures output.new ≡ W.failures output.old) }
     ensures cause { OnErr result (W.failures output.old < W.failures output.new) }
 {
@@ -104,17 +104,17 @@ fn write_waiting<W: Sink>(
     cutter: &mut Cutter,
     output: &mut W,
 ) -> Result<u64, WriteFault>
-    requires { IsCutter cutter.old }
-    ensures ok { OnOk result (W.told output.new ≡ W.told output.old ++ sifted policy.now words.now cutter.old.waiting) }
-    ensures count { IfOk result (λ n. n ≡ min (length (sifted policy.now words.now cutter.old.waiting)) (2 ^ 64 - 1)) }
+    requires { IsCutterConsistent cutter.old }
+    ensures ok { OnOk result (W.told output.new ≡ W.told output.old ++ filtered_text policy.now words.now cutter.old.waiting) }
+    ensures count { IfOk result (λ n. n ≡ min (length (filtered_text policy.now words.now cutter.old.waiting)) (2 ^ 64 - 1)) }
     ensures quiet { OnOk result (W.failures output.new ≡ W.failures output.old) }
     ensures taken { OnOk result ((cutter.new.taken ≡ cutter.old.taken ++ cutter.old.waiting) × (cutter.new.waiting ≡ [])) }
     ensures stream { cutter.new.stream ≡ cutter.old.stream }
     ensures phase { cutter.new.phase ≡ cutter.old.phase }
-    ensures given { IsCutter cutter.new }
+    ensures given { IsCutterConsistent cutter.new }
 
     ensures fault { IfErr result (λ e. length (W.told output.new) < 2 ^ 64
-        → IsCutShort (W.told output.old) (W.told output.new) (sifted policy.now words.now cutter.old.waiting) e.written) }
+        → AppendsPrefixOfText (W.told output.old) (W.told output.new) (filtered_text policy.now words.now cutter.old.waiting) e.written) }
     ensures some { OnErr result (cutter.old.waiting ≢ []) }
     ensures cause { OnErr result (W.failures output.old < W.failures output.new) }
 {
@@ -140,14 +140,14 @@ fn sift_settled<R: Source, W: Sink>(
     input: &mut R,
     output: &mut W,
 ) -> Result<u64, SiftFault>
-    requires { IsFresh cutter.old }
-    ensures ok { IfOk result (SiftsSoFar policy.now words.now (R.told input.old) (R.told input.new) (W.told output.old) (W.told output.new) cutter.new) }
+    requires { IsFreshCutter cutter.old }
+    ensures ok { IfOk result (FiltersSoFar policy.now words.now (R.told input.old) (R.told input.new) (W.told output.old) (W.told output.new) cutter.new) }
     ensures ended { OnOk result ((R.ends input.new ≡ R.ends input.old + 1) × (R.failures input.new ≡ R.failures input.old)
         × (W.failures output.new ≡ W.failures output.old)) }
 
-    ensures stopped { IfErr result (SiftsNot policy.now words.now (heard R.Source input.old) (heard R.Source input.new)
-        (noted W.Sink output.old) (noted W.Sink output.new)) }
-    ensures caused { IfErr result (IsOfCutter cutter.new) }
+    ensures stopped { IfErr result (FilteringFails policy.now words.now (input_stream_state R.Source input.old) (input_stream_state R.Source input.new)
+        (error_stream_state W.Sink output.old) (error_stream_state W.Sink output.new)) }
+    ensures caused { IfErr result (MatchesCutterState cutter.new) }
 {
     let mut before: u64 = 0;
     for reads in 0..u64::MAX {
@@ -176,12 +176,12 @@ fn sift_through<R: Source, W: Sink>(
     input: &mut R,
     output: &mut W,
 ) -> Result<(), SiftFault>
-    requires { IsFresh cutter.old }
-    ensures done { OnOk result (SiftsDone policy.now words.now (heard R.Source input.old) (heard R.Source input.new)
-        (noted W.Sink output.old) (noted W.Sink output.new)) }
-    ensures stopped { IfErr result (SiftsNot policy.now words.now (heard R.Source input.old) (heard R.Source input.new)
-        (noted W.Sink output.old) (noted W.Sink output.new)) }
-    ensures caused { IfErr result (IsOfCutter cutter.new) }
+    requires { IsFreshCutter cutter.old }
+    ensures done { OnOk result (FiltersWholeInput policy.now words.now (input_stream_state R.Source input.old) (input_stream_state R.Source input.new)
+        (error_stream_state W.Sink output.old) (error_stream_state W.Sink output.new)) }
+    ensures stopped { IfErr result (FilteringFails policy.now words.now (input_stream_state R.Source input.old) (input_stream_state R.Source input.new)
+        (error_stream_state W.Sink output.old) (error_stream_state W.Sink output.new)) }
+    ensures caused { IfErr result (MatchesCutterState cutter.new) }
 {
     let before = match sift_settled(policy, words, cutter, input, output) {
         Ok(before) => before,
@@ -211,10 +211,10 @@ pub fn sift<R: Source, W: Sink>(
     input: &mut R,
     output: &mut W,
 ) -> Result<(), SiftFault>
-    ensures done { OnOk result (SiftsDone policy.now words.now (heard R.Source input.old) (heard R.Source input.new)
-        (noted W.Sink output.old) (noted W.Sink output.new)) }
-    ensures stopped { IfErr result (SiftsNot policy.now words.now (heard R.Source input.old) (heard R.Source input.new)
-        (noted W.Sink output.old) (noted W.Sink output.new)) }
+    ensures done { OnOk result (FiltersWholeInput policy.now words.now (input_stream_state R.Source input.old) (input_stream_state R.Source input.new)
+        (error_stream_state W.Sink output.old) (error_stream_state W.Sink output.new)) }
+    ensures stopped { IfErr result (FilteringFails policy.now words.now (input_stream_state R.Source input.old) (input_stream_state R.Source input.new)
+        (error_stream_state W.Sink output.old) (error_stream_state W.Sink output.new)) }
 {
     let mut cutter = Cutter::new(alloc);
     sift_through(policy, words, &mut cutter, input, output)

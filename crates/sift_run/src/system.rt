@@ -8,7 +8,7 @@ use std::rt::{Clock, Env, Files};
 use std::time::{SystemTime, UNIX_EPOCH};
 
 /// A system that tells the time.
-pub trait TellsTime {
+pub trait HasClock {
     ghost use Rattle.std.specs.Prelude.{ℕ, Option, ⊤};
 
     // Holds of a system, and of the seconds that it told, if any.
@@ -42,7 +42,7 @@ pub trait HasFiles {
 }
 
 /// A system that was given words.
-pub trait HasWords {
+pub trait HasArguments {
     ghost use Rattle.std.specs.Prelude.{ℕ, List, Option, Some, None, map, string_bytes, ⊤, MatchResult};
     ghost use Rattle.std.specs.Vec.Iter.{into_iter_items};
 
@@ -54,7 +54,7 @@ pub trait HasWords {
         ensures { MatchResult result (λ words. gave self.now (Some (map string_bytes (into_iter_items words)))) (λ _. gave self.now None) };
 }
 
-impl<R: Clock> TellsTime for R {
+impl<R: Clock> HasClock for R {
     fn seconds(&self) -> Option<u64> {
         let now = SystemTime::now(self).ok()?;
         Some(now.duration_since(UNIX_EPOCH).ok()?.as_secs())
@@ -73,7 +73,7 @@ impl<R: Files + AllocGlobal> HasFiles for R {
     }
 }
 
-impl<R: Env + AllocGlobal> HasWords for R {
+impl<R: Env + AllocGlobal> HasArguments for R {
     fn all_words(&self) -> io::Result<Args> {
         env::args(self)
     }

@@ -1,6 +1,6 @@
 //! Many messages at once, and a walk over a list by the messages' numbers.
 use archive_store::limits::add_limited;
-use archive_store::{AddReport, AddStop, Added, Store, StoreFault};
+use archive_store::{AddError, AddReport, Added, Store, StoreFault};
 use archive_tables::rows::read_place;
 use archive_tables::texts::messages;
 use civil_time::Instant;
@@ -111,7 +111,7 @@ fn none_of_no_messages(rt: HostRuntime) -> Result<(), Fail> {
 fn no_list_to_add_to(rt: HostRuntime) -> Result<(), Fail> {
     let mut store = with_list(rt.alloc())?;
     let items = [item(b"one")?];
-    let stop = AddStop {
+    let stop = AddError {
         done: 0,
         fault: StoreFault::NoList,
     };

@@ -1,8 +1,8 @@
 //! Calls that follow one another, with what they do together proved, whatever is filed: of a walk that is dropped early, and a
 //! question behind it.
 ghost use Rattle.std.specs.Prelude.{◌≡◌, IfOk};
-ghost use Rattle.archive_machine.specs.Questions.{has_list};
-ghost use Rattle.archive_store.specs.Told.{HadReturned, HasReturned, HoldsTables, archive_in};
+ghost use Rattle.archive_model.specs.Questions.{has_list};
+ghost use Rattle.archive_store.specs.Told.{HadCleanDisk, StoreHasCleanDisk, HoldsTables, archive_in};
 
 use archive_store::{Message, Store, StoreFault};
 use sqlite::Alter;
@@ -15,9 +15,9 @@ pub fn first_of<S: Alter>(
     list: &str,
     other: &str,
 ) -> Result<(Option<Message>, bool), StoreFault>
-    ensures left { HasReturned S.Store store.new → HoldsTables S.Store store.old → IfOk result (λ found. HoldsTables S.Store store.new
+    ensures left { StoreHasCleanDisk S.Store store.new → HoldsTables S.Store store.old → IfOk result (λ found. HoldsTables S.Store store.new
         × (archive_in S.Store store.new ≡ archive_in S.Store store.old) × (found.1 ≡ has_list (archive_in S.Store store.old) other.now)) }
-    ensures clean { HadReturned S.Store store.old store.new }
+    ensures clean { HadCleanDisk S.Store store.old store.new }
 {
     let first = walk_to_first(store, alloc, list)?;
     let is_there = store.has_list(other)?;
@@ -29,9 +29,9 @@ fn walk_to_first<S: Alter>(
     alloc: Global,
     list: &str,
 ) -> Result<Option<Message>, StoreFault>
-    ensures left { HasReturned S.Store store.new → HoldsTables S.Store store.old → IfOk result (λ _. HoldsTables S.Store store.new
+    ensures left { StoreHasCleanDisk S.Store store.new → HoldsTables S.Store store.old → IfOk result (λ _. HoldsTables S.Store store.new
         × (archive_in S.Store store.new ≡ archive_in S.Store store.old)) }
-    ensures clean { HadReturned S.Store store.old store.new }
+    ensures clean { HadCleanDisk S.Store store.old store.new }
 {
     let mut walk = store.each_row(alloc, list)?;
     walk.next(store)

@@ -1,7 +1,7 @@
 //! What `check` finds: nothing in what commands made, and else the first message that is not sound, lists by name and then in
 //! mailbox order.
 use crate::questions::item;
-use archive_store::{CheckStop, Store};
+use archive_store::{CheckError, Store};
 use sqlite::{Alter, Connection, MemStore};
 use std::alloc::Global;
 use std::process::Abort;
@@ -118,10 +118,10 @@ fn finds<S: Alter>(
 ) -> Result<(), Fail> {
     match store.check(alloc) {
         Ok(()) => assert!(rt; wanted.is_none()),
-        Err(CheckStop::Damaged { list, key }) => {
+        Err(CheckError::Damaged { list, key }) => {
             assert_eq!(rt; Some((list.as_slice(), key.as_slice())), wanted);
         }
-        Err(CheckStop::Failed(fault)) => return Err(Fail::from(fault)),
+        Err(CheckError::Failed(fault)) => return Err(Fail::from(fault)),
     }
     Ok(())
 }

@@ -4,7 +4,7 @@ use archive_store::limits::add_limited;
 use archive_store::{Added, Command, Key, Outcome, Store, StoreFault};
 use civil_time::Day;
 use mbox_core::Item;
-use policy_core::{Kind, Party, Withdrawn};
+use policy_core::{GrantKind, Withdrawn, WithdrawnBy};
 use sqlite::Alter;
 use std::alloc::Global;
 use std::process::Abort;
@@ -44,7 +44,7 @@ pub fn commands<S: Alter>(
     let key = Key::of(&one);
     lists_and_persons(rt, alloc, store)?;
     names_and_tokens(rt, alloc, store)?;
-    for kind in [Kind::Member, Kind::Subscriber] {
+    for kind in [GrantKind::Member, GrantKind::Subscriber] {
         grants(rt, alloc, store, kind, first, last)?;
     }
     withdrawals(rt, alloc, store, &one, &key)?;
@@ -116,7 +116,7 @@ fn grants<S: Alter>(
     rt: &impl Abort,
     alloc: Global,
     store: &mut Store<S>,
-    kind: Kind,
+    kind: GrantKind,
     first: Day,
     last: Day,
 ) -> Result<(), Fail> {
@@ -126,12 +126,12 @@ fn grants<S: Alter>(
         grant("anna", "soc", kind, last, first),
         grant("anna", "soc", kind, first, first),
         grant("anna", "soc", kind, first, last),
-        grant("anna", "soc", Kind::Moderator, first, last),
+        grant("anna", "soc", GrantKind::Moderator, first, last),
         revoke("eve", "soc", kind),
         revoke("anna", "xyz", kind),
         revoke("anna", "soc", kind),
         revoke("anna", "soc", kind),
-        revoke("anna", "soc", Kind::Moderator),
+        revoke("anna", "soc", GrantKind::Moderator),
     ];
     let wanted = [
         Outcome::Refused(StoreFault::NoPerson),
@@ -149,7 +149,13 @@ fn grants<S: Alter>(
     run(rt, alloc, store, &told, &wanted)
 }
 
-fn grant<'a>(person: &'a str, list: &'a str, kind: Kind, from: Day, until: Day) -> Command<'a> {
+fn grant<'a>(
+    person: &'a str,
+    list: &'a str,
+    kind: GrantKind,
+    from: Day,
+    until: Day,
+) -> Command<'a> {
     Command::Grant {
         person,
         list,
@@ -159,7 +165,7 @@ fn grant<'a>(person: &'a str, list: &'a str, kind: Kind, from: Day, until: Day) 
     }
 }
 
-fn revoke<'a>(person: &'a str, list: &'a str, kind: Kind) -> Command<'a> {
+fn revoke<'a>(person: &'a str, list: &'a str, kind: GrantKind) -> Command<'a> {
     Command::Revoke { person, list, kind }
 }
 
@@ -172,20 +178,20 @@ fn withdrawals<'a, S: Alter>(
     key: &'a Key,
 ) -> Result<(), Fail> {
     let told = [
-        withdraw("xyz", key, Party::Author),
-        withdraw("soc", key, Party::Author),
+        withdraw("xyz", key, WithdrawnBy::Author),
+        withdraw("soc", key, WithdrawnBy::Author),
         restore("soc", key),
         add(alloc, "xyz", item),
         add(alloc, "soc", item),
         restore("soc", key),
-        withdraw("soc", key, Party::Author),
+        withdraw("soc", key, WithdrawnBy::Author),
         add(alloc, "soc", item),
-        withdraw("soc", key, Party::Author),
-        withdraw("soc", key, Party::Board),
+        withdraw("soc", key, WithdrawnBy::Author),
+        withdraw("soc", key, WithdrawnBy::Board),
         restore("xyz", key),
         restore("soc", key),
         restore("soc", key),
-        withdraw("soc", key, Party::Board),
+        withdraw("soc", key, WithdrawnBy::Board),
     ];
     let wanted = [
         Outcome::Refused(StoreFault::NoList),
@@ -212,7 +218,7 @@ pub fn add<'a>(alloc: Global, list: &'a str, item: &'a Item<'a>) -> Command<'a> 
 }
 
 /// The command that withdraws a message.
-pub fn withdraw<'a>(list: &'a str, key: &'a Key, by: Party) -> Command<'a> {
+pub fn withdraw<'a>(list: &'a str, key: &'a Key, by: WithdrawnBy) -> Command<'a> {
     Command::Withdraw { list, key, by }
 }
 
@@ -345,10 +351,10 @@ pub fn calls<S: Alter>(rt: &impl Abort, alloc: Global, store: &mut Store<S>) -> 
     let key = Key::of(&one);
     store.list_add("soc")?;
     store.person_add("anna", TOKEN)?;
-    store.grant("anna", "soc", Kind::Member, first, last)?;
-    assert_eq!(rt; store.revoke("anna", "soc", Kind::Member), Ok(true));
+    store.grant("anna", "soc", GrantKind::Member, first, last)?;
+    assert_eq!(rt; store.revoke("anna", "soc", GrantKind::Member), Ok(true));
     assert_eq!(rt; store.add(alloc, "soc", &one), Ok(Added::New));
-    store.withdraw("soc", &key, Party::Author)?;
+    store.withdraw("soc", &key, WithdrawnBy::Author)?;
     store.restore("soc", &key)?;
     store.embargo("soc", &key, last)?;
     assert_eq!(rt; store.lift("soc", &key), Ok(true));

@@ -3,7 +3,7 @@ use crate::questions::{day, item};
 use archive_store::{Added, Key, Message, Store, StoreFault};
 use civil_time::Month;
 use mbox_core::Item;
-use policy_core::Party;
+use policy_core::WithdrawnBy;
 use sqlite::{Alter, Connection, MemStore, params};
 use std::alloc::Global;
 use std::process::Abort;
@@ -66,7 +66,7 @@ fn mark<S: Alter>(rt: &impl Abort, alloc: Global, store: &mut Store<S>) -> Resul
     for (text, _sent, _month, _author) in CASES.iter() {
         let message = item("c@d", text)?;
         let key = Key::of(&message);
-        store.withdraw("soc", &key, Party::Board)?;
+        store.withdraw("soc", &key, WithdrawnBy::Board)?;
         store.embargo("soc", &key, until)?;
         assert_eq!(rt;
             store.add(alloc, "soc", &item("e@f", text)?),
@@ -74,7 +74,7 @@ fn mark<S: Alter>(rt: &impl Abort, alloc: Global, store: &mut Store<S>) -> Resul
         );
         store.restore("soc", &key)?;
         assert!(rt; store.lift("soc", &key)?);
-        store.withdraw("a", &key, Party::Author)?;
+        store.withdraw("a", &key, WithdrawnBy::Author)?;
     }
     Ok(())
 }

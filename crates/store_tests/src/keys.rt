@@ -1,5 +1,5 @@
 //! The keys of messages, and tokens.
-use archive_machine::{Key, is_token};
+use archive_model::{Key, is_token};
 use civil_time::Instant;
 use mbox_core::{Envelope, Item, Sender};
 use std::process::Abort;

@@ -3,7 +3,7 @@ use crate::commands::{TOKEN, add, embargo, run, withdraw};
 use archive_store::{Added, Command, Key, Message, Outcome, Store, StoreFault, key_of};
 use civil_time::{Day, Instant};
 use mbox_core::{Envelope, Item, Sender};
-use policy_core::{Kind, Party, Standing, Withdrawn};
+use policy_core::{GrantKind, Standing, Withdrawn, WithdrawnBy};
 use sqlite::Alter;
 use std::alloc::Global;
 use std::process::Abort;
@@ -41,8 +41,8 @@ pub fn standings<S: Alter>(rt: &impl Abort, store: &mut Store<S>) -> Result<(), 
     store.list_add("soc")?;
     store.person_add("anna", TOKEN)?;
     for (kind, from, until) in [
-        (Kind::Member, "2003-01-01", "2003-12-31"),
-        (Kind::Moderator, "2003-06-01", "2003-06-30"),
+        (GrantKind::Member, "2003-01-01", "2003-12-31"),
+        (GrantKind::Moderator, "2003-06-01", "2003-06-30"),
     ] {
         store.grant("anna", "soc", kind, day(from)?, day(until)?)?;
     }
@@ -99,7 +99,7 @@ fn fill_with<'a, S: Alter>(
         add(alloc, "soc", items.0),
         add(alloc, "other", items.1),
         add(alloc, "soc", items.1),
-        withdraw("soc", keys.0, Party::Author),
+        withdraw("soc", keys.0, WithdrawnBy::Author),
         embargo("soc", keys.1, until),
     ];
     let wanted = [
@@ -184,7 +184,7 @@ fn a_walk_that_passes_by<S: Alter>(
     let mut walk = store.each_row(alloc, "soc")?;
     for row in rows.iter() {
         for _ in 0..2 {
-            let marks = walk.next_marks(store)?.ok_or("marks")?;
+            let marks = walk.peek_marks(store)?.ok_or("marks")?;
             assert_eq!(rt; marks.arrival, row.item.arrival());
             assert_eq!(rt;
                 (marks.withdrawn, marks.embargo_until),
@@ -195,7 +195,7 @@ fn a_walk_that_passes_by<S: Alter>(
     }
     walk.pass();
     assert_eq!(rt; walk.left(), 0);
-    assert!(rt; walk.next_marks(store)?.is_none() && walk.next(store)?.is_none());
+    assert!(rt; walk.peek_marks(store)?.is_none() && walk.next(store)?.is_none());
     let mut walk = store.each_row(alloc, "soc")?;
     walk.pass();
     let second = walk.next(store)?.ok_or("a message")?;

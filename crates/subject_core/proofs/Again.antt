@@ -4,12 +4,12 @@ use Rattle.std.proofs.lemmas.Bool.Decides.{nat_tests}
 use Rattle.std.specs.Prelude.{codes}
 use Rattle.std.specs.Option.{option_map}
 use Rattle.std.specs.Char.{to_ascii_lowercase}
-use Rattle.subject_core.specs.Spaces.{is_white, begins_white, spaced}
-use Rattle.subject_core.specs.Pieces.{lower}
-use Rattle.subject_core.specs.Removal.{Left, left}
-use Rattle.subject_core.specs.BaseSubject.{Goes, Reaches, next_of, rest_of, base_of, is_reply}
-use Rattle.subject_core.specs.BaseSubject.Goes.{trailer, leader, blob, pair}
-use Rattle.subject_core.specs.BaseSubject.Reaches.{here, further}
+use Rattle.subject_core.specs.Spaces.{is_space_or_tab, begins_with_space_or_tab, with_single_spaces}
+use Rattle.subject_core.specs.Pieces.{ascii_lowercase}
+use Rattle.subject_core.specs.Removal.{StrippedSubject, stripped_subject}
+use Rattle.subject_core.specs.BaseSubject.{RemovesOnePiece, RemovesPieces, after_one_removal, after_all_removals, base_subject_of, is_reply}
+use Rattle.subject_core.specs.BaseSubject.RemovesOnePiece.{trailer, leader, blob, pair}
+use Rattle.subject_core.specs.BaseSubject.RemovesPieces.{here, further}
 use Rattle.subject_core.proofs.Steps.{is_it, is_not, not_equal}
 use Rattle.subject_core.proofs.Blobs.{as_it_is}
 use Rattle.subject_core.proofs.Spacings.{spaced-text, spaced-run, spaced-last, spaced-end}
@@ -18,38 +18,39 @@ use Rattle.subject_core.proofs.OneBase.{reaches, stops}
 use Rattle.subject_core.proofs.LowerCase.{lower_left, lower-lower, rest-lower, next-lower}
 
 -- what white space is
-white_is : (b : ℕ) → is_white b ≡ true → b ≢ 9 → b ≡ 32
+white_is : (b : ℕ) → is_space_or_tab b ≡ true → b ≢ 9 → b ≡ 32
 white_is b h n = grind (arith, nat_tests, h, n)
 
-text_is : (b : ℕ) → is_white b ≡ false → (b ≢ 9) × (b ≢ 32)
+text_is : (b : ℕ) → is_space_or_tab b ≡ false → (b ≢ 9) × (b ≢ 32)
 text_is b h = (λ (e : b ≡ 9). grind (arith, nat_tests, h, e), λ (e : b ≡ 32). grind (arith, nat_tests, h, e))
 
-is_text : (b : ℕ) → b ≢ 9 → b ≢ 32 → is_white b ≡ false
+is_text : (b : ℕ) → b ≢ 9 → b ≢ 32 → is_space_or_tab b ≡ false
 is_text b p q = rw (not_equal b 9 p, not_equal b 32 q) refl
 
-is_space : (b : ℕ) → b ≡ 32 → is_white b ≡ true
-is_space b e = ap is_white e
+is_space : (b : ℕ) → b ≡ 32 → is_space_or_tab b ≡ true
+is_space b e = ap is_space_or_tab e
 
 -- no tab, and no space before another
 AreSingle : List ℕ → Type 0
 AreSingle [] = Unit {0}
-AreSingle (b ∷ bs) = (b ≢ 9) × (b ≡ 32 → begins_white bs ≡ false) × AreSingle bs
+AreSingle (b ∷ bs) = (b ≢ 9) × (b ≡ 32 → begins_with_space_or_tab bs ≡ false) × AreSingle bs
 
-begins-spaced : (t : List ℕ) → begins_white (spaced t) ≡ begins_white t
-begins-spaced [] = ap begins_white spaced-end
-begins-spaced (b ∷ bs) = go (begins-spaced bs) (is_white b) refl (begins_white bs) refl
+begins-spaced : (t : List ℕ) → begins_with_space_or_tab (with_single_spaces t) ≡ begins_with_space_or_tab t
+begins-spaced [] = ap begins_with_space_or_tab spaced-end
+begins-spaced (b ∷ bs) = go (begins-spaced bs) (is_space_or_tab b) refl (begins_with_space_or_tab bs) refl
   where
-    go : begins_white (spaced bs) ≡ begins_white bs → (w : Bool) → is_white b ≡ w → (n : Bool) → begins_white bs ≡ n → begins_white (spaced (b ∷ bs)) ≡ is_white b
-    go ih true e true f = ap begins_white (spaced-run b bs e f) ∙ ih ∙ f ∙ sym e
-    go ih true e false f = ap begins_white (spaced-last b bs e f) ∙ sym e
-    go ih false e n f = ap begins_white (spaced-text b bs e)
+    go : begins_with_space_or_tab (with_single_spaces bs) ≡ begins_with_space_or_tab bs → (w : Bool) → is_space_or_tab b ≡ w → (n : Bool) → begins_with_space_or_tab bs ≡ n
+        → begins_with_space_or_tab (with_single_spaces (b ∷ bs)) ≡ is_space_or_tab b
+    go ih true e true f = ap begins_with_space_or_tab (spaced-run b bs e f) ∙ ih ∙ f ∙ sym e
+    go ih true e false f = ap begins_with_space_or_tab (spaced-last b bs e f) ∙ sym e
+    go ih false e n f = ap begins_with_space_or_tab (spaced-text b bs e)
 
-single_spaced : (t : List ℕ) → AreSingle (spaced t)
+single_spaced : (t : List ℕ) → AreSingle (with_single_spaces t)
 unfolding AreSingle
 single_spaced [] = let P : List ℕ → Type 0 = AreSingle in subst P (sym spaced-end) tt
-single_spaced (b ∷ bs) = go (single_spaced bs) (is_white b) refl (begins_white bs) refl
+single_spaced (b ∷ bs) = go (single_spaced bs) (is_space_or_tab b) refl (begins_with_space_or_tab bs) refl
   where
-    go : AreSingle (spaced bs) → (w : Bool) → is_white b ≡ w → (n : Bool) → begins_white bs ≡ n → AreSingle (spaced (b ∷ bs))
+    go : AreSingle (with_single_spaces bs) → (w : Bool) → is_space_or_tab b ≡ w → (n : Bool) → begins_with_space_or_tab bs ≡ n → AreSingle (with_single_spaces (b ∷ bs))
     go ih true e true f = let P : List ℕ → Type 0 = AreSingle in subst P (sym (spaced-run b bs e f)) ih
     go ih true e false f =
         let P : List ℕ → Type 0 = AreSingle in
@@ -59,12 +60,12 @@ single_spaced (b ∷ bs) = go (single_spaced bs) (is_white b) refl (begins_white
         let P : List ℕ → Type 0 = AreSingle in
         subst P (sym (spaced-text b bs e)) (x.0, λ (s : b ≡ 32). absurd (x.1 s), ih)
 
-spaced-single : (t : List ℕ) → AreSingle t → spaced t ≡ t
+spaced-single : (t : List ℕ) → AreSingle t → with_single_spaces t ≡ t
 unfolding AreSingle
 spaced-single [] a = spaced-end
 spaced-single (b ∷ bs) a = go (spaced-single bs a.2) (b == 32) refl
   where
-    go : spaced bs ≡ bs → (s : Bool) → (b == 32) ≡ s → spaced (b ∷ bs) ≡ b ∷ bs
+    go : with_single_spaces bs ≡ bs → (s : Bool) → (b == 32) ≡ s → with_single_spaces (b ∷ bs) ≡ b ∷ bs
     go ih true e =
         let i = is_it b 32 e in
         spaced-last b bs (is_space b i) (a.1 i) ∙ ap₂ (λ (x : ℕ) (l : List ℕ). x ∷ l) (sym i) ih
@@ -75,7 +76,7 @@ unfolding AreSingle
 single_behind [] u a = a
 single_behind (b ∷ f) u a = single_behind f u a.2
 
-begins_before : (u v : List ℕ) → begins_white (u ++ v) ≡ false → begins_white u ≡ false
+begins_before : (u v : List ℕ) → begins_with_space_or_tab (u ++ v) ≡ false → begins_with_space_or_tab u ≡ false
 begins_before [] v h = refl
 begins_before (b ∷ u) v h = h
 
@@ -87,11 +88,11 @@ single_before (b ∷ u) v a = (a.0, λ (e : b ≡ 32). begins_before u v (a.1 e)
 not_lower : (b k : ℕ) → k < 97 → b ≢ k → to_ascii_lowercase b ≢ k
 not_lower b k l n h = n (as_it_is b k l h)
 
-begins-lower : (t : List ℕ) → begins_white t ≡ false → begins_white (lower t) ≡ false
+begins-lower : (t : List ℕ) → begins_with_space_or_tab t ≡ false → begins_with_space_or_tab (ascii_lowercase t) ≡ false
 begins-lower [] h = refl
 begins-lower (b ∷ t) h = let x = text_is b h in is_text (to_ascii_lowercase b) (not_lower b 9 (omega arith) x.0) (not_lower b 32 (omega arith) x.1)
 
-single_lower : (t : List ℕ) → AreSingle t → AreSingle (lower t)
+single_lower : (t : List ℕ) → AreSingle t → AreSingle (ascii_lowercase t)
 unfolding AreSingle
 single_lower [] a = tt
 single_lower (b ∷ t) a = (
@@ -101,71 +102,74 @@ single_lower (b ∷ t) a = (
 )
 
 -- removals leave white space single
-single_goes : (t u : List ℕ) (m : Bool) → Goes t m u → AreSingle t → AreSingle u
+single_goes : (t u : List ℕ) (m : Bool) → RemovesOnePiece t m u → AreSingle t → AreSingle u
 single_goes t u m (trailer l) a = let P : List ℕ → Type 0 = AreSingle in single_before u l.trailer (subst P l.is a)
 single_goes t u m (leader never l) a = let P : List ℕ → Type 0 = AreSingle in single_behind l.leader u (subst P l.is a)
 single_goes t u m (blob never none l) a = let P : List ℕ → Type 0 = AreSingle in single_behind l.blob u (subst P l.is a)
 single_goes t u m (pair never none not l) a =
     let P : List ℕ → Type 0 = AreSingle in single_behind l.opening u (single_before (l.opening ++ u) (codes "]") (subst P l.is a))
 
-single_reached : (t u : List ℕ) (m : Bool) → Reaches t m u → AreSingle t → AreSingle u
+single_reached : (t u : List ℕ) (m : Bool) → RemovesPieces t m u → AreSingle t → AreSingle u
 single_reached t u m here a = a
 single_reached t u m (further {next = v} {reply = p} {later = q} g r) a = single_reached v u q r (single_goes t v p g a)
 
-single_rest : (s : List ℕ) → AreSingle (lower (rest_of (spaced s)).text)
+single_rest : (s : List ℕ) → AreSingle (ascii_lowercase (after_all_removals (with_single_spaces s)).text)
 single_rest s =
-    single_lower (rest_of (spaced s)).text
-    (single_reached (spaced s) (rest_of (spaced s)).text (rest_of (spaced s)).reply (reaches (length (spaced s)) (spaced s)) (single_spaced s))
+    single_lower (after_all_removals (with_single_spaces s)).text
+    (single_reached (with_single_spaces s) (after_all_removals (with_single_spaces s)).text (after_all_removals (with_single_spaces s)).reply
+    (reaches (length (with_single_spaces s)) (with_single_spaces s)) (single_spaced s))
 
-again : (s : List ℕ) → rest_of (spaced (base_of s)) ≡ left false (base_of s)
+again : (s : List ℕ) → after_all_removals (with_single_spaces (base_subject_of s)) ≡ stripped_subject false (base_subject_of s)
 again s =
-    ap rest_of (spaced-single (base_of s) (single_rest s))
-    ∙ rest-done (base_of s) (next-lower (rest_of (spaced s)).text ∙ none)
+    ap after_all_removals (spaced-single (base_subject_of s) (single_rest s))
+    ∙ rest-done (base_subject_of s) (next-lower (after_all_removals (with_single_spaces s)).text ∙ none)
   where
-    none : option_map lower_left (next_of (rest_of (spaced s)).text) ≡ None
-    none = ap (option_map lower_left) (stops (length (spaced s)) (spaced s) (omega arith))
+    none : option_map lower_left (after_one_removal (after_all_removals (with_single_spaces s)).text) ≡ None
+    none = ap (option_map lower_left) (stops (length (with_single_spaces s)) (with_single_spaces s) (omega arith))
 
-pub base_again : (s : List ℕ) → base_of (base_of s) ≡ base_of s
-base_again s = ap (λ (w : Left). lower w.text) (again s) ∙ lower-lower (rest_of (spaced s)).text
+pub base_again : (s : List ℕ) → base_subject_of (base_subject_of s) ≡ base_subject_of s
+base_again s = ap (λ (w : StrippedSubject). ascii_lowercase w.text) (again s) ∙ lower-lower (after_all_removals (with_single_spaces s)).text
 
-pub base_plain : (s : List ℕ) → is_reply (base_of s) ≡ false
-base_plain s = ap (λ (w : Left). w.reply) (again s)
+pub base_plain : (s : List ℕ) → is_reply (base_subject_of s) ≡ false
+base_plain s = ap (λ (w : StrippedSubject). w.reply) (again s)
 
-pub lower_base : (s : List ℕ) → lower (base_of s) ≡ base_of s
-lower_base s = lower-lower (rest_of (spaced s)).text
+pub lower_base : (s : List ℕ) → ascii_lowercase (base_subject_of s) ≡ base_subject_of s
+lower_base s = lower-lower (after_all_removals (with_single_spaces s)).text
 
 -- the case of the subject's letters
-white-lower : (b : ℕ) → is_white (to_ascii_lowercase b) ≡ is_white b
-white-lower b = go (is_white b) refl
+white-lower : (b : ℕ) → is_space_or_tab (to_ascii_lowercase b) ≡ is_space_or_tab b
+white-lower b = go (is_space_or_tab b) refl
   where
-    go : (w : Bool) → is_white b ≡ w → is_white (to_ascii_lowercase b) ≡ is_white b
+    go : (w : Bool) → is_space_or_tab b ≡ w → is_space_or_tab (to_ascii_lowercase b) ≡ is_space_or_tab b
     go false e = let x = text_is b e in is_text (to_ascii_lowercase b) (not_lower b 9 (omega arith) x.0) (not_lower b 32 (omega arith) x.1) ∙ sym e
     go true e = split (b == 9) refl
       where
-        split : (s : Bool) → (b == 9) ≡ s → is_white (to_ascii_lowercase b) ≡ is_white b
-        split true f = let i = is_it b 9 f in ap (λ (x : ℕ). is_white (to_ascii_lowercase x)) i ∙ ap is_white (sym i)
-        split false f = let i = white_is b e (is_not b 9 f) in ap (λ (x : ℕ). is_white (to_ascii_lowercase x)) i ∙ ap is_white (sym i)
+        split : (s : Bool) → (b == 9) ≡ s → is_space_or_tab (to_ascii_lowercase b) ≡ is_space_or_tab b
+        split true f = let i = is_it b 9 f in ap (λ (x : ℕ). is_space_or_tab (to_ascii_lowercase x)) i ∙ ap is_space_or_tab (sym i)
+        split false f = let i = white_is b e (is_not b 9 f) in ap (λ (x : ℕ). is_space_or_tab (to_ascii_lowercase x)) i ∙ ap is_space_or_tab (sym i)
 
-begins_white-lower : (t : List ℕ) → begins_white (lower t) ≡ begins_white t
+begins_white-lower : (t : List ℕ) → begins_with_space_or_tab (ascii_lowercase t) ≡ begins_with_space_or_tab t
 begins_white-lower [] = refl
 begins_white-lower (b ∷ t) = white-lower b
 
-spaced-lower : (t : List ℕ) → spaced (lower t) ≡ lower (spaced t)
-spaced-lower [] = spaced-end ∙ ap lower (sym spaced-end)
-spaced-lower (b ∷ t) = go (spaced-lower t) (is_white b) refl (begins_white t) refl
+spaced-lower : (t : List ℕ) → with_single_spaces (ascii_lowercase t) ≡ ascii_lowercase (with_single_spaces t)
+spaced-lower [] = spaced-end ∙ ap ascii_lowercase (sym spaced-end)
+spaced-lower (b ∷ t) = go (spaced-lower t) (is_space_or_tab b) refl (begins_with_space_or_tab t) refl
   where
-    go : spaced (lower t) ≡ lower (spaced t) → (w : Bool) → is_white b ≡ w → (n : Bool) → begins_white t ≡ n → spaced (lower (b ∷ t)) ≡ lower (spaced (b ∷ t))
-    go ih true e true f = spaced-run (to_ascii_lowercase b) (lower t) (white-lower b ∙ e) (begins_white-lower t ∙ f) ∙ ih ∙ ap lower (sym (spaced-run b t e f))
-    go ih true e false f = spaced-last (to_ascii_lowercase b) (lower t) (white-lower b ∙ e) (begins_white-lower t ∙ f) ∙ ap (λ (l : List ℕ). 32 ∷ l) ih ∙ ap lower (sym (spaced-last b t e f))
-    go ih false e n f = spaced-text (to_ascii_lowercase b) (lower t) (white-lower b ∙ e) ∙ ap (λ (l : List ℕ). to_ascii_lowercase b ∷ l) ih ∙ ap lower (sym (spaced-text b t e))
+    go : with_single_spaces (ascii_lowercase t) ≡ ascii_lowercase (with_single_spaces t) → (w : Bool) → is_space_or_tab b ≡ w → (n : Bool) → begins_with_space_or_tab t ≡ n
+        → with_single_spaces (ascii_lowercase (b ∷ t)) ≡ ascii_lowercase (with_single_spaces (b ∷ t))
+    go ih true e true f = spaced-run (to_ascii_lowercase b) (ascii_lowercase t) (white-lower b ∙ e) (begins_white-lower t ∙ f) ∙ ih ∙ ap ascii_lowercase (sym (spaced-run b t e f))
+    go ih true e false f = spaced-last (to_ascii_lowercase b) (ascii_lowercase t) (white-lower b ∙ e) (begins_white-lower t ∙ f) ∙ ap (λ (l : List ℕ). 32 ∷ l) ih ∙ ap ascii_lowercase
+        (sym (spaced-last b t e f))
+    go ih false e n f = spaced-text (to_ascii_lowercase b) (ascii_lowercase t) (white-lower b ∙ e) ∙ ap (λ (l : List ℕ). to_ascii_lowercase b ∷ l) ih ∙ ap ascii_lowercase (sym (spaced-text b t e))
 
-rest-lower_subject : (s : List ℕ) → rest_of (spaced (lower s)) ≡ lower_left (rest_of (spaced s))
-rest-lower_subject s = ap rest_of (spaced-lower s) ∙ rest-lower (spaced s)
+rest-lower_subject : (s : List ℕ) → after_all_removals (with_single_spaces (ascii_lowercase s)) ≡ lower_left (after_all_removals (with_single_spaces s))
+rest-lower_subject s = ap after_all_removals (spaced-lower s) ∙ rest-lower (with_single_spaces s)
 
-pub base-lower : (s : List ℕ) → base_of (lower s) ≡ base_of s
+pub base-lower : (s : List ℕ) → base_subject_of (ascii_lowercase s) ≡ base_subject_of s
 unfolding lower_left
-base-lower s = ap (λ (w : Left). lower w.text) (rest-lower_subject s) ∙ lower-lower (rest_of (spaced s)).text
+base-lower s = ap (λ (w : StrippedSubject). ascii_lowercase w.text) (rest-lower_subject s) ∙ lower-lower (after_all_removals (with_single_spaces s)).text
 
-pub reply-lower : (s : List ℕ) → is_reply (lower s) ≡ is_reply s
+pub reply-lower : (s : List ℕ) → is_reply (ascii_lowercase s) ≡ is_reply s
 unfolding lower_left
-reply-lower s = ap (λ (w : Left). w.reply) (rest-lower_subject s)
+reply-lower s = ap (λ (w : StrippedSubject). w.reply) (rest-lower_subject s)

@@ -1,94 +1,100 @@
 -- The steps of the loops over removals: what was removed before, and one removal more.
 use Rattle.std.proofs.Common.{◌≡◌, ℕ, ◌+◌, ◌-◌, ◌<◌, ◌≤◌, arith, length-append, Bool, true, false, ◌||◌, List, ◌++◌, length, refl, ap, ◌∙◌, sym, Some, None, append_assoc}
 use Rattle.std.specs.Prelude.{codes}
-use Rattle.subject_core.specs.Removal.{Left, left, without_trailer, without_pair}
-use Rattle.subject_core.specs.BaseSubject.{marked, rest_of}
-use Rattle.subject_core.specs.Front.{without_front, IsEndGone, IsFrontGone}
+use Rattle.subject_core.specs.Removal.{StrippedSubject, stripped_subject, without_trailer, without_fwd_brackets}
+use Rattle.subject_core.specs.BaseSubject.{with_earlier_reply, after_all_removals}
+use Rattle.subject_core.specs.Front.{without_front_piece, StripsTrailers, StripsFrontPieces}
 use Rattle.subject_core.proofs.Literals.{literal_length}
 use Rattle.subject_core.proofs.Parts.{IsPart, without_end, without_start}
 use Rattle.subject_core.proofs.Removals.{trailer_sound, pair_sound}
 use Rattle.subject_core.proofs.Rests.{next-trailer, next_shorter, rest-next, rest-done}
 use Rattle.subject_core.proofs.Fronts.{front_step, front_end}
 
-pub marked-more : (a b : Bool) (w : Left) → marked a (marked b w) ≡ marked (a || b) w
+pub marked-more : (a b : Bool) (w : StrippedSubject) → with_earlier_reply a (with_earlier_reply b w) ≡ with_earlier_reply (a || b) w
 marked-more true b w = refl
 marked-more false b w = refl
 
-pub marked-none : (w : Left) → marked false w ≡ w
+pub marked-none : (w : StrippedSubject) → with_earlier_reply false w ≡ w
 marked-none w = refl
 
 -- one more at the end
-pub end_less : (rest : List ℕ) (w : Left) → without_trailer rest ≡ Some w → length w.text < length rest
+pub end_less : (rest : List ℕ) (w : StrippedSubject) → without_trailer rest ≡ Some w → length w.text < length rest
 end_less rest w h = next_shorter rest w (next-trailer rest w h)
 
-pub end_same : (t rest : List ℕ) (m : Bool) (w : Left) → rest_of t ≡ marked m (rest_of rest) → without_trailer rest ≡ Some w → rest_of t ≡ marked (m || w.reply) (rest_of w.text)
-end_same t rest m w h e = h ∙ ap (marked m) (rest-next rest w (next-trailer rest w e)) ∙ marked-more m w.reply (rest_of w.text)
+pub end_same : (t rest : List ℕ) (m : Bool) (w : StrippedSubject) → after_all_removals t ≡ with_earlier_reply m (after_all_removals rest) → without_trailer rest ≡ Some w
+    → after_all_removals t ≡ with_earlier_reply (m || w.reply) (after_all_removals w.text)
+end_same t rest m w h e = h ∙ ap (with_earlier_reply m) (rest-next rest w (next-trailer rest w e)) ∙ marked-more m w.reply (after_all_removals w.text)
 
-pub end_within : (t rest : List ℕ) (w : Left) → (trailer : List ℕ) × (t ≡ rest ++ trailer) → without_trailer rest ≡ Some w → (trailer : List ℕ) × (t ≡ w.text ++ trailer)
+pub end_within : (t rest : List ℕ) (w : StrippedSubject) → (trailer : List ℕ) × (t ≡ rest ++ trailer) → without_trailer rest ≡ Some w → (trailer : List ℕ) × (t ≡ w.text ++ trailer)
 end_within t rest w h e =
     let l = trailer_sound rest w e in
     (l.trailer ++ h.0, h.1 ∙ ap (λ (x : List ℕ). x ++ h.0) l.is ∙ append_assoc w.text l.trailer h.0)
 
 -- one more at the front
-pub front_less : (rest : List ℕ) (w : Left) → without_trailer rest ≡ None → without_front rest ≡ Some w → length w.text < length rest
+pub front_less : (rest : List ℕ) (w : StrippedSubject) → without_trailer rest ≡ None → without_front_piece rest ≡ Some w → length w.text < length rest
 front_less rest w n h = (front_step rest w n h).less
 
-pub front_none : (rest : List ℕ) (w : Left) → without_trailer rest ≡ None → without_front rest ≡ Some w → without_trailer w.text ≡ None
+pub front_none : (rest : List ℕ) (w : StrippedSubject) → without_trailer rest ≡ None → without_front_piece rest ≡ Some w → without_trailer w.text ≡ None
 front_none rest w n h = (front_step rest w n h).none
 
-pub front_same : (t rest : List ℕ) (m : Bool) (w : Left) → rest_of t ≡ marked m (rest_of rest) → without_trailer rest ≡ None → without_front rest ≡ Some w
-    → rest_of t ≡ marked (m || w.reply) (rest_of w.text)
-front_same t rest m w h n e = h ∙ ap (marked m) (front_step rest w n e).same ∙ marked-more m w.reply (rest_of w.text)
+pub front_same : (t rest : List ℕ) (m : Bool) (w : StrippedSubject) → after_all_removals t ≡ with_earlier_reply m (after_all_removals rest) → without_trailer rest ≡ None
+    → without_front_piece rest ≡ Some w
+    → after_all_removals t ≡ with_earlier_reply (m || w.reply) (after_all_removals w.text)
+front_same t rest m w h n e = h ∙ ap (with_earlier_reply m) (front_step rest w n e).same ∙ marked-more m w.reply (after_all_removals w.text)
 
-pub front_within : (t rest : List ℕ) (w : Left) → (leader : List ℕ) × (t ≡ leader ++ rest) → without_trailer rest ≡ None → without_front rest ≡ Some w → (leader : List ℕ) × (t ≡ leader ++ w.text)
+pub front_within : (t rest : List ℕ) (w : StrippedSubject) → (leader : List ℕ) × (t ≡ leader ++ rest) → without_trailer rest ≡ None → without_front_piece rest ≡ Some w → (leader : List ℕ)
+    × (t ≡ leader ++ w.text)
 front_within t rest w h n e =
     let s = front_step rest w n e in
     (h.0 ++ s.front, h.1 ∙ ap (λ (x : List ℕ). h.0 ++ x) s.is ∙ sym (append_assoc h.0 s.front w.text))
 
 -- a turn of removals at the end, at the front and of the pair
-pub turn_same : (t rest ended begun : List ℕ) (m p q : Bool) → rest_of t ≡ marked m (rest_of rest) → IsEndGone rest ended p → IsFrontGone ended begun q
-    → rest_of t ≡ marked (m || (p || q)) (rest_of begun)
+pub turn_same : (t rest ended begun : List ℕ) (m p q : Bool) → after_all_removals t ≡ with_earlier_reply m (after_all_removals rest) → StripsTrailers rest ended p → StripsFrontPieces ended begun q
+    → after_all_removals t ≡ with_earlier_reply (m || (p || q)) (after_all_removals begun)
 turn_same t rest ended begun m p q h e f =
-    h ∙ ap (marked m) (e.same ∙ ap (marked p) f.same ∙ marked-more p q (rest_of begun)) ∙ marked-more m (p || q) (rest_of begun)
+    h ∙ ap (with_earlier_reply m) (e.same ∙ ap (with_earlier_reply p) f.same ∙ marked-more p q (after_all_removals begun)) ∙ marked-more m (p || q) (after_all_removals begun)
 
-pub turn_done : (t begun : List ℕ) (m : Bool) → rest_of t ≡ marked m (rest_of begun) → without_trailer begun ≡ None → without_front begun ≡ None → without_pair begun ≡ None → rest_of t ≡ left m begun
-turn_done t begun m h n f p = h ∙ ap (marked m) (rest-done begun (front_end begun n f ∙ p)) ∙ flat m
+pub turn_done : (t begun : List ℕ) (m : Bool) → after_all_removals t ≡ with_earlier_reply m (after_all_removals begun) → without_trailer begun ≡ None → without_front_piece begun ≡ None
+    → without_fwd_brackets begun ≡ None → after_all_removals t ≡ stripped_subject m begun
+turn_done t begun m h n f p = h ∙ ap (with_earlier_reply m) (rest-done begun (front_end begun n f ∙ p)) ∙ flat m
   where
-    flat : (m : Bool) → marked m (left false begun) ≡ left m begun
+    flat : (m : Bool) → with_earlier_reply m (stripped_subject false begun) ≡ stripped_subject m begun
     flat true = refl
     flat false = refl
 
-pub turn_pair : (t begun inner : List ℕ) (m : Bool) → rest_of t ≡ marked m (rest_of begun) → without_trailer begun ≡ None → without_front begun ≡ None → without_pair begun ≡ Some (left true inner)
-    → rest_of t ≡ marked true (rest_of inner)
-turn_pair t begun inner m h n f p = h ∙ ap (marked m) (rest-next begun (left true inner) (front_end begun n f ∙ p)) ∙ all m
+pub turn_pair : (t begun inner : List ℕ) (m : Bool) → after_all_removals t ≡ with_earlier_reply m (after_all_removals begun) → without_trailer begun ≡ None → without_front_piece begun ≡ None
+    → without_fwd_brackets begun ≡ Some (stripped_subject true inner)
+    → after_all_removals t ≡ with_earlier_reply true (after_all_removals inner)
+turn_pair t begun inner m h n f p = h ∙ ap (with_earlier_reply m) (rest-next begun (stripped_subject true inner) (front_end begun n f ∙ p)) ∙ all m
   where
-    all : (m : Bool) → marked m (marked true (rest_of inner)) ≡ marked true (rest_of inner)
+    all : (m : Bool) → with_earlier_reply m (with_earlier_reply true (after_all_removals inner)) ≡ with_earlier_reply true (after_all_removals inner)
     all true = refl
     all false = refl
 
-pub inside_pair : (begun inner : List ℕ) → without_pair begun ≡ Some (left true inner) → (opening : List ℕ) × (length opening ≡ 5) × (begun ≡ opening ++ (inner ++ codes "]"))
+pub inside_pair : (begun inner : List ℕ) → without_fwd_brackets begun ≡ Some (stripped_subject true inner) → (opening : List ℕ) × (length opening ≡ 5) × (begun ≡ opening ++ (inner ++ codes "]"))
 inside_pair begun inner h =
-    let p = (pair_sound begun (left true inner) h).1 in
+    let p = (pair_sound begun (stripped_subject true inner) h).1 in
     (p.opening, literal_length (codes "[fwd:") p.opening p.is_opening, p.is ∙ append_assoc p.opening inner (codes "]"))
 
-pub pair_less : (begun inner : List ℕ) → without_pair begun ≡ Some (left true inner) → length inner < length begun
+pub pair_less : (begun inner : List ℕ) → without_fwd_brackets begun ≡ Some (stripped_subject true inner) → length inner < length begun
 pair_less begun inner h =
     let p = inside_pair begun inner h in
     let n : length begun ≡ length p.0 + (length inner + 1) = ap length p.2 ∙ length-append p.0 (inner ++ codes "]") ∙ ap (λ (m : ℕ). length p.0 + m) (length-append inner (codes "]")) in
     omega (arith, n, p.1)
 
-pub turn_less : (rest ended begun : List ℕ) (p q : Bool) → IsEndGone rest ended p → IsFrontGone ended begun q → length begun ≤ length rest
+pub turn_less : (rest ended begun : List ℕ) (p q : Bool) → StripsTrailers rest ended p → StripsFrontPieces ended begun q → length begun ≤ length rest
 turn_less rest ended begun p q e f =
     let n : length rest ≡ length ended + length e.trailer = ap length e.is ∙ length-append ended e.trailer in
     let m : length ended ≡ length f.leader + length begun = ap length f.is ∙ length-append f.leader begun in
     omega (arith, n, m)
 
-pub turn_part : (t rest ended begun : List ℕ) (from : ℕ) (p q : Bool) → IsPart t from rest → IsEndGone rest ended p → IsFrontGone ended begun q → IsPart t (from + (length ended - length begun)) begun
+pub turn_part : (t rest ended begun : List ℕ) (from : ℕ) (p q : Bool) → IsPart t from rest → StripsTrailers rest ended p → StripsFrontPieces ended begun q
+    → IsPart t (from + (length ended - length begun)) begun
 turn_part t rest ended begun from p q h e f =
     let m : length ended ≡ length f.leader + length begun = ap length f.is ∙ length-append f.leader begun in
     without_start t ended f.leader begun from (from + (length ended - length begun)) (without_end t rest ended e.trailer from h e.is) f.is (omega (arith, m))
 
-pub pair_part : (t begun inner : List ℕ) (from : ℕ) → IsPart t from begun → without_pair begun ≡ Some (left true inner) → IsPart t (from + 5) inner
+pub pair_part : (t begun inner : List ℕ) (from : ℕ) → IsPart t from begun → without_fwd_brackets begun ≡ Some (stripped_subject true inner) → IsPart t (from + 5) inner
 pair_part t begun inner from h e =
     let p = inside_pair begun inner e in
     without_end t (inner ++ codes "]") inner (codes "]") (from + 5)

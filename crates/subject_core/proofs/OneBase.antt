@@ -2,75 +2,78 @@
 use Rattle.std.proofs.Common.{◌≡◌, ℕ, zero, suc, ◌≤◌, Bool, true, false, List, [], ◌∷◌, ◌++◌, length, refl, arith, ap, ◌∙◌, sym, Option, Some, None, append_assoc, subst, ◌⊎◌, inl, inr, take, drop}
 use Rattle.std.specs.Prelude.{codes}
 use Rattle.std.specs.Option.{option_map}
-use Rattle.subject_core.specs.Spaces.{spaced}
-use Rattle.subject_core.specs.Pieces.{AreSpaces, lower}
-use Rattle.subject_core.specs.Removal.{Left, left, after, after_leader, without_trailer, without_leader}
-use Rattle.subject_core.specs.BaseSubject.{HasTrailer, Reaches, IsDone, IsBase, next_of, marked, rest_within, rest_of, base_of, is_reply}
-use Rattle.subject_core.specs.BaseSubject.Reaches.{here, further}
+use Rattle.subject_core.specs.Spaces.{with_single_spaces}
+use Rattle.subject_core.specs.Pieces.{AreSpaces, ascii_lowercase}
+use Rattle.subject_core.specs.Removal.{StrippedSubject, stripped_subject, after_literal, after_leader, without_trailer, without_leader}
+use Rattle.subject_core.specs.BaseSubject.{HasTrailer, RemovesPieces, HasNothingToRemove, IsBaseSubject, after_one_removal}
+use Rattle.subject_core.specs.BaseSubject.{with_earlier_reply, after_bounded_removals, after_all_removals, base_subject_of, is_reply}
+use Rattle.subject_core.specs.BaseSubject.RemovesPieces.{here, further}
 use Rattle.subject_core.proofs.Options.{or_some, map_some, is_none}
 use Rattle.subject_core.proofs.Removals.{at_space}
 use Rattle.subject_core.proofs.Rests.{next-leader, next_sound, next_complete, next_shorter, IsNext, no_trailer_behind, within-done, within-more, rest-done, rest-next, empty_done}
 
-pub is_done : (t : List ℕ) → next_of t ≡ None → IsDone t
-is_done t h m u g = let x = next_complete t u m g in let e : None ≡ Some (left m x.rest) = sym h ∙ x.next in cc
+pub is_done : (t : List ℕ) → after_one_removal t ≡ None → HasNothingToRemove t
+is_done t h m u g = let x = next_complete t u m g in let e : None ≡ Some (stripped_subject m x.rest) = sym h ∙ x.next in cc
 
-pub next-done : (t : List ℕ) → IsDone t → next_of t ≡ None
-next-done t d = is_none (next_of t) (λ (w : Left) (e : next_of t ≡ Some w). d w.reply w.text (next_sound t w e))
+pub next-done : (t : List ℕ) → HasNothingToRemove t → after_one_removal t ≡ None
+next-done t d = is_none (after_one_removal t) (λ (w : StrippedSubject) (e : after_one_removal t ≡ Some w). d w.reply w.text (next_sound t w e))
 
-pub reaches : (n : ℕ) (t : List ℕ) → Reaches t (rest_within n t).reply (rest_within n t).text
-unfolding rest_within
+pub reaches : (n : ℕ) (t : List ℕ) → RemovesPieces t (after_bounded_removals n t).reply (after_bounded_removals n t).text
+unfolding after_bounded_removals
 reaches zero t = here
-reaches (suc n) t = go (reaches n) (next_of t) refl
+reaches (suc n) t = go (reaches n) (after_one_removal t) refl
   where
-    go : ((t : List ℕ) → Reaches t (rest_within n t).reply (rest_within n t).text) → (o : Option Left) → next_of t ≡ o → Reaches t (rest_within (suc n) t).reply (rest_within (suc n) t).text
-    go ih None e = let P : Left → Type 0 = λ l. Reaches t l.reply l.text in subst P (sym (within-done (suc n) t e)) here
-    go ih (Some w) e = let P : Left → Type 0 = λ l. Reaches t l.reply l.text in subst P (sym (within-more n t w e)) (further (next_sound t w e) (ih w.text))
+    go : ((t : List ℕ) → RemovesPieces t (after_bounded_removals n t).reply (after_bounded_removals n t).text) → (o : Option StrippedSubject) → after_one_removal t ≡ o
+        → RemovesPieces t (after_bounded_removals (suc n) t).reply (after_bounded_removals (suc n) t).text
+    go ih None e = let P : StrippedSubject → Type 0 = λ l. RemovesPieces t l.reply l.text in subst P (sym (within-done (suc n) t e)) here
+    go ih (Some w) e = let P : StrippedSubject → Type 0 = λ l. RemovesPieces t l.reply l.text in subst P (sym (within-more n t w e)) (further (next_sound t w e) (ih w.text))
 
-pub stops : (n : ℕ) (t : List ℕ) → length t ≤ n → next_of (rest_within n t).text ≡ None
-unfolding rest_within
+pub stops : (n : ℕ) (t : List ℕ) → length t ≤ n → after_one_removal (after_bounded_removals n t).text ≡ None
+unfolding after_bounded_removals
 stops zero t l = empty_done t l
-stops (suc n) t l = go (stops n) (next_of t) refl
+stops (suc n) t l = go (stops n) (after_one_removal t) refl
   where
-    go : ((t : List ℕ) → length t ≤ n → next_of (rest_within n t).text ≡ None) → (o : Option Left) → next_of t ≡ o → next_of (rest_within (suc n) t).text ≡ None
-    go ih None e = ap (λ (l : Left). next_of l.text) (within-done (suc n) t e) ∙ e
-    go ih (Some w) e = ap (λ (l : Left). next_of l.text) (within-more n t w e) ∙ ih w.text (let k = next_shorter t w e in omega (arith, k, l))
+    go : ((t : List ℕ) → length t ≤ n → after_one_removal (after_bounded_removals n t).text ≡ None) → (o : Option StrippedSubject) → after_one_removal t ≡ o
+        → after_one_removal (after_bounded_removals (suc n) t).text ≡ None
+    go ih None e = ap (λ (l : StrippedSubject). after_one_removal l.text) (within-done (suc n) t e) ∙ e
+    go ih (Some w) e = ap (λ (l : StrippedSubject). after_one_removal l.text) (within-more n t w e) ∙ ih w.text (let k = next_shorter t w e in omega (arith, k, l))
 
 -- spaces in front make no difference where no trailer is left
-space_goes : (b : ℕ) (u : List ℕ) → b ≡ 32 → without_trailer (b ∷ u) ≡ None → rest_of (b ∷ u) ≡ rest_of u
+space_goes : (b : ℕ) (u : List ℕ) → b ≡ 32 → without_trailer (b ∷ u) ≡ None → after_all_removals (b ∷ u) ≡ after_all_removals u
 unfolding without_leader
 space_goes b u e n =
-    let f : after (codes " ") (b ∷ u) ≡ Some u = ap (λ (x : ℕ). after (codes " ") (x ∷ u)) e ∙ at_space u in
-    rest-next (b ∷ u) (left false u) (next-leader (b ∷ u) (left false u) n
-    (or_some (option_map (left false) (after (codes " ") (b ∷ u))) (option_map (left true) (after_leader (length (b ∷ u)) (b ∷ u))) (left false u)
-    (map_some (left false) (after (codes " ") (b ∷ u)) u f)))
+    let f : after_literal (codes " ") (b ∷ u) ≡ Some u = ap (λ (x : ℕ). after_literal (codes " ") (x ∷ u)) e ∙ at_space u in
+    rest-next (b ∷ u) (stripped_subject false u) (next-leader (b ∷ u) (stripped_subject false u) n
+    (or_some (option_map (stripped_subject false) (after_literal (codes " ") (b ∷ u))) (option_map (stripped_subject true) (after_leader (length (b ∷ u)) (b ∷ u))) (stripped_subject false u)
+    (map_some (stripped_subject false) (after_literal (codes " ") (b ∷ u)) u f)))
 
-pub spaces_go : (s u : List ℕ) → AreSpaces s → without_trailer (s ++ u) ≡ None → rest_of (s ++ u) ≡ rest_of u
+pub spaces_go : (s u : List ℕ) → AreSpaces s → without_trailer (s ++ u) ≡ None → after_all_removals (s ++ u) ≡ after_all_removals u
 spaces_go [] u a n = refl
 spaces_go (b ∷ s) u a n = space_goes b (s ++ u) a.0 n ∙ spaces_go s u a.1 (no_trailer_behind (b ∷ []) (s ++ u) n)
 
-next_same : (t u : List ℕ) (m : Bool) → IsNext t u m → rest_of t ≡ marked m (rest_of u)
-next_same t u m x = rest-next t (left m x.rest) x.next ∙ ap (marked m) (sym (go x.end))
+next_same : (t u : List ℕ) (m : Bool) → IsNext t u m → after_all_removals t ≡ with_earlier_reply m (after_all_removals u)
+next_same t u m x = rest-next t (stripped_subject m x.rest) x.next ∙ ap (with_earlier_reply m) (sym (go x.end))
   where
-    go : (x.spaces ≡ []) ⊎ (without_trailer u ≡ None) → rest_of u ≡ rest_of x.rest
-    go (inl e) = ap rest_of (x.is ∙ ap (λ (s : List ℕ). s ++ x.rest) e)
-    go (inr n) = ap rest_of x.is ∙ spaces_go x.spaces x.rest x.are_spaces (ap without_trailer (sym x.is) ∙ n)
+    go : (x.spaces ≡ []) ⊎ (without_trailer u ≡ None) → after_all_removals u ≡ after_all_removals x.rest
+    go (inl e) = ap after_all_removals (x.is ∙ ap (λ (s : List ℕ). s ++ x.rest) e)
+    go (inr n) = ap after_all_removals x.is ∙ spaces_go x.spaces x.rest x.are_spaces (ap without_trailer (sym x.is) ∙ n)
 
-pub one_rest : (t u : List ℕ) (m : Bool) → Reaches t m u → IsDone u → rest_of t ≡ left m u
+pub one_rest : (t u : List ℕ) (m : Bool) → RemovesPieces t m u → HasNothingToRemove u → after_all_removals t ≡ stripped_subject m u
 one_rest t u m here d = rest-done t (next-done t d)
-one_rest t u m (further {next = v} {reply = p} {later = q} g r) d = next_same t v p (next_complete t v p g) ∙ ap (marked p) (one_rest v u q r d)
+one_rest t u m (further {next = v} {reply = p} {later = q} g r) d = next_same t v p (next_complete t v p g) ∙ ap (with_earlier_reply p) (one_rest v u q r d)
 
-pub base_found : (subject : List ℕ) → IsBase subject (base_of subject) (is_reply subject)
+pub base_found : (subject : List ℕ) → IsBaseSubject subject (base_subject_of subject) (is_reply subject)
 base_found subject = record {
-  rest = (rest_of (spaced subject)).text;
-  reached = reaches (length (spaced subject)) (spaced subject);
-  done = is_done (rest_of (spaced subject)).text (stops (length (spaced subject)) (spaced subject) (omega arith));
+  rest = (after_all_removals (with_single_spaces subject)).text;
+  reached = reaches (length (with_single_spaces subject)) (with_single_spaces subject);
+  done = is_done (after_all_removals (with_single_spaces subject)).text (stops (length (with_single_spaces subject)) (with_single_spaces subject) (omega arith));
   is = refl;
 }
 
-pub one_base : (subject base : List ℕ) (reply : Bool) → IsBase subject base reply → (base ≡ base_of subject) × (reply ≡ is_reply subject)
+pub one_base : (subject base : List ℕ) (reply : Bool) → IsBaseSubject subject base reply → (base ≡ base_subject_of subject) × (reply ≡ is_reply subject)
 one_base subject base reply b =
-    let e = one_rest (spaced subject) b.rest reply b.reached b.done in
-    (b.is ∙ ap (λ (l : Left). lower l.text) (sym e), ap (λ (l : Left). l.reply) (sym e))
+    let e = one_rest (with_single_spaces subject) b.rest reply b.reached b.done in
+    (b.is ∙ ap (λ (l : StrippedSubject). ascii_lowercase l.text) (sym e), ap (λ (l : StrippedSubject). l.reply) (sym e))
 
 pub trailer_stays : (front rest : List ℕ) → HasTrailer rest → HasTrailer (front ++ rest)
 trailer_stays front rest (m, u, l) = (
@@ -84,10 +87,10 @@ trailer_stays front rest (m, u, l) = (
 )
 
 -- a part of the text with single spaces, in lower case, is the base where that part is the rest
-pub part_found : (subject text base : List ℕ) (from len : ℕ) (m : Bool) → text ≡ spaced subject → rest_of text ≡ left m (take len (drop from text))
-    → base ≡ lower (take len (drop from text)) → IsBase subject base m
+pub part_found : (subject text base : List ℕ) (from len : ℕ) (m : Bool) → text ≡ with_single_spaces subject → after_all_removals text ≡ stripped_subject m (take len (drop from text))
+    → base ≡ ascii_lowercase (take len (drop from text)) → IsBaseSubject subject base m
 part_found subject text base from len m e h b =
-    let r : rest_of (spaced subject) ≡ left m (take len (drop from text)) = ap rest_of (sym e) ∙ h in
-    let P : List ℕ → Type 0 = λ l. IsBase subject l m in
-    let Q : Bool → Type 0 = λ k. IsBase subject (base_of subject) k in
-    subst P (ap (λ (l : Left). lower l.text) r ∙ sym b) (subst Q (ap (λ (l : Left). l.reply) r) (base_found subject))
+    let r : after_all_removals (with_single_spaces subject) ≡ stripped_subject m (take len (drop from text)) = ap after_all_removals (sym e) ∙ h in
+    let P : List ℕ → Type 0 = λ l. IsBaseSubject subject l m in
+    let Q : Bool → Type 0 = λ k. IsBaseSubject subject (base_subject_of subject) k in
+    subst P (ap (λ (l : StrippedSubject). ascii_lowercase l.text) r ∙ sym b) (subst Q (ap (λ (l : StrippedSubject). l.reply) r) (base_found subject))

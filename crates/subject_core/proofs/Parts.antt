@@ -2,7 +2,7 @@
 use Rattle.std.proofs.Common.{◌≡◌, ℕ, ◌+◌, ◌-◌, ◌<◌, ◌≤◌, List, [], ◌++◌, length, refl, arith, ap, ◌∙◌, sym, take, drop, get_or, append_assoc, length-append}
 use Rattle.std.proofs.lemmas.List.{append-nil, take_at, drop_at, length-map, length-drop, length-take-le, get_or-take, get_or-drop, get_or-map, ext_get_or}
 use Rattle.std.specs.Char.{to_ascii_lowercase}
-use Rattle.subject_core.specs.Pieces.{lower}
+use Rattle.subject_core.specs.Pieces.{ascii_lowercase}
 
 pub record IsPart (text : List ℕ) (from : ℕ) (part : List ℕ) : Type 0 where
   pub front : List ℕ
@@ -43,13 +43,13 @@ part_is text part from p =
 
 -- bytes that were moved to the front in lower case
 pub moved_part : (new old : List ℕ) (from len : ℕ) → from + len ≤ length old → length new ≡ length old
-    → ((k : ℕ) → k < len → get_or new k 0 ≡ to_ascii_lowercase (get_or old (from + k) 0)) → take len new ≡ lower (take len (drop from old))
+    → ((k : ℕ) → k < len → get_or new k 0 ≡ to_ascii_lowercase (get_or old (from + k) 0)) → take len new ≡ ascii_lowercase (take len (drop from old))
 moved_part new old from len l n h =
     let a : length (take len new) ≡ len = length-take-le len new (omega (arith, l, n)) in
     let d : length (drop from old) ≡ length old - from = length-drop from old in
     let b : length (take len (drop from old)) ≡ len = length-take-le len (drop from old) (omega (arith, l, d)) in
-    let m : length (lower (take len (drop from old))) ≡ len = length-map (take len (drop from old)) to_ascii_lowercase ∙ b in
-    ext_get_or 0 (take len new) (lower (take len (drop from old))) (a ∙ sym m)
+    let m : length (ascii_lowercase (take len (drop from old))) ≡ len = length-map (take len (drop from old)) to_ascii_lowercase ∙ b in
+    ext_get_or 0 (take len new) (ascii_lowercase (take len (drop from old))) (a ∙ sym m)
     (λ (i : ℕ) (k : i < length (take len new)).
     let j : i < len = omega (arith, k, a) in
     get_or-take len new i 0 j

@@ -5,12 +5,12 @@ use Rattle.std.specs.List.{AllByRecursion}
 use Rattle.std.specs.Char.{to_ascii_lowercase}
 
 -- the text in ASCII lower case
-abbrev pub lower : List ℕ → List ℕ
-lower text = map to_ascii_lowercase text
+abbrev pub ascii_lowercase : List ℕ → List ℕ
+ascii_lowercase text = map to_ascii_lowercase text
 
 -- the text is this literal, in any case
-abbrev pub IsLiteral : List ℕ → List ℕ → Type 0
-IsLiteral literal text = lower text ≡ literal
+abbrev pub EqualsIgnoringCase : List ℕ → List ℕ → Type 0
+EqualsIgnoringCase literal text = ascii_lowercase text ≡ literal
 
 -- *WSP
 abbrev pub AreSpaces : List ℕ → Type 0
@@ -24,13 +24,13 @@ AreBlobChars = AllByRecursion (λ b. (b ≢ 91) × (b ≢ 93))
 pub record IsBlob (text : List ℕ) : Type 0 where
   pub inside : List ℕ
   pub spaces : List ℕ
-  pub are_chars : AreBlobChars inside
+  pub are_blob_chars : AreBlobChars inside
   pub are_spaces : AreSpaces spaces
   pub is : text ≡ 91 ∷ inside ++ 93 ∷ spaces
 
 -- "re" / ("fw" ["d"])
 abbrev pub IsReplyWord : List ℕ → Type 0
-IsReplyWord word = IsLiteral (codes "re") word ⊎ IsLiteral (codes "fwd") word ⊎ IsLiteral (codes "fw") word
+IsReplyWord word = EqualsIgnoringCase (codes "re") word ⊎ EqualsIgnoringCase (codes "fwd") word ⊎ EqualsIgnoringCase (codes "fw") word
 
 -- subj-refwd = ("re" / ("fw" ["d"])) *WSP [subj-blob] ":"
 pub record IsRefwd (text : List ℕ) : Type 0 where
@@ -53,4 +53,4 @@ pub data IsLeader : Bool → List ℕ → Type 0 where
 -- Beside it whether it is "(fwd)", so marks a reply.
 pub data IsTrailer : Bool → List ℕ → Type 0 where
   space : IsTrailer false (32 ∷ [])
-  forwarded : {text : List ℕ} → IsLiteral (codes "(fwd)") text → IsTrailer true text
+  forwarded : {text : List ℕ} → EqualsIgnoringCase (codes "(fwd)") text → IsTrailer true text

@@ -1,10 +1,10 @@
 //! What begins and ends a subject: the pieces of the ABNF in RFC 5256, section 5.
 ghost use Rattle.std.specs.Prelude.{◌≡◌, MatchOption, Some, None};
-ghost use Rattle.subject_core.specs.Removal.{after, before, after_spaces, after_closing, after_blob, after_colon, after_mark, after_refwd};
+ghost use Rattle.subject_core.specs.Removal.{after_literal, before_literal, after_spaces, after_closing_bracket, after_blob, after_blob_and_colon, after_reply_word, after_refwd};
 
 /// What follows a literal in lower case, in any case, that begins the text.
 pub(crate) fn after<'a>(text: &'a [u8], literal: &[u8]) -> Option<&'a [u8]>
-    ensures { MatchOption result (after literal.now text.now ≡ None) (λ rest. after literal.now text.now ≡ Some rest.now) }
+    ensures { MatchOption result (after_literal literal.now text.now ≡ None) (λ rest. after_literal literal.now text.now ≡ Some rest.now) }
 {
     let mut rest = text;
     for letter in literal {
@@ -21,7 +21,7 @@ pub(crate) fn after<'a>(text: &'a [u8], literal: &[u8]) -> Option<&'a [u8]>
 
 /// What stands before a literal in lower case, in any case, that ends the text.
 pub(crate) fn before<'a>(text: &'a [u8], literal: &[u8]) -> Option<&'a [u8]>
-    ensures { MatchOption result (before literal.now text.now ≡ None) (λ rest. before literal.now text.now ≡ Some rest.now) }
+    ensures { MatchOption result (before_literal literal.now text.now ≡ None) (λ rest. before_literal literal.now text.now ≡ Some rest.now) }
 {
     if text.len() < literal.len() {
         return None;
@@ -49,7 +49,7 @@ fn after_spaces(text: &[u8]) -> &[u8]
 
 /// What follows the first bracket, where that is a closing one.
 fn after_closing(text: &[u8]) -> Option<&[u8]>
-    ensures { MatchOption result (after_closing text.now ≡ None) (λ rest. after_closing text.now ≡ Some rest.now) }
+    ensures { MatchOption result (after_closing_bracket text.now ≡ None) (λ rest. after_closing_bracket text.now ≡ Some rest.now) }
 {
     let mut rest = text;
     while let Some((first, others)) = rest.split_first() {
@@ -75,7 +75,7 @@ pub(crate) fn after_blob(text: &[u8]) -> Option<&[u8]>
 
 /// What follows spaces, a blob that may be missing, and a colon.
 fn after_colon(text: &[u8]) -> Option<&[u8]>
-    ensures { MatchOption result (after_colon text.now ≡ None) (λ rest. after_colon text.now ≡ Some rest.now) }
+    ensures { MatchOption result (after_blob_and_colon text.now ≡ None) (λ rest. after_blob_and_colon text.now ≡ Some rest.now) }
 {
     let begun = after_spaces(text);
     if let Some(rest) = after(begun, b":") {
@@ -87,7 +87,7 @@ fn after_colon(text: &[u8]) -> Option<&[u8]>
 
 /// What follows a word and a colon.
 fn after_word<'a>(text: &'a [u8], word: &[u8]) -> Option<&'a [u8]>
-    ensures { MatchOption result (after_mark word.now text.now ≡ None) (λ rest. after_mark word.now text.now ≡ Some rest.now) }
+    ensures { MatchOption result (after_reply_word word.now text.now ≡ None) (λ rest. after_reply_word word.now text.now ≡ Some rest.now) }
 {
     let rest = after(text, word)?;
     after_colon(rest)

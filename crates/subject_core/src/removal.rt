@@ -1,8 +1,8 @@
 //! What is left of a subject once all that can be removed is: RFC 5256, section 2.1, steps (2) to (6).
 ghost use Rattle.std.specs.Prelude.{◌≡◌, ◌+◌, ◌≤◌, length, MatchOption, Some, None, take, drop, true, false};
-ghost use Rattle.subject_core.specs.Removal.{left, without_trailer, without_pair};
-ghost use Rattle.subject_core.specs.BaseSubject.{marked, rest_of};
-ghost use Rattle.subject_core.specs.Front.{without_front, IsFrontGone, IsEndGone};
+ghost use Rattle.subject_core.specs.Removal.{stripped_subject, without_trailer, without_fwd_brackets};
+ghost use Rattle.subject_core.specs.BaseSubject.{with_earlier_reply, after_all_removals};
+ghost use Rattle.subject_core.specs.Front.{without_front_piece, StripsFrontPieces, StripsTrailers};
 
 use crate::pieces::{after, after_blob, after_refwd, before};
 
@@ -34,7 +34,7 @@ impl<'a> Rest<'a> {
 /// The text without the space or the `(fwd)` that ends it.
 #[tactic(auto, unfolding(crate::specs::Removal::without_trailer))]
 fn without_trailer(text: &[u8]) -> Option<Rest<'_>>
-    ensures { MatchOption result (without_trailer text.now ≡ None) (λ rest. without_trailer text.now ≡ Some (left rest.reply rest.text.now)) }
+    ensures { MatchOption result (without_trailer text.now ≡ None) (λ rest. without_trailer text.now ≡ Some (stripped_subject rest.reply rest.text.now)) }
 {
     if let Some(rest) = before(text, b" ") {
         return Some(Rest::plain(rest));
@@ -44,9 +44,9 @@ fn without_trailer(text: &[u8]) -> Option<Rest<'_>>
 }
 
 /// The text without the space, the mark of a reply or the blob that begins it. A blob stays where nothing follows it.
-#[tactic(auto, unfolding(crate::specs::Front::without_front))]
+#[tactic(auto, unfolding(crate::specs::Front::without_front_piece))]
 fn without_front(text: &[u8]) -> Option<Rest<'_>>
-    ensures { MatchOption result (without_front text.now ≡ None) (λ rest. without_front text.now ≡ Some (left rest.reply rest.text.now)) }
+    ensures { MatchOption result (without_front_piece text.now ≡ None) (λ rest. without_front_piece text.now ≡ Some (stripped_subject rest.reply rest.text.now)) }
 {
     if let Some(rest) = after(text, b" ") {
         return Some(Rest::plain(rest));
@@ -63,7 +63,7 @@ fn without_front(text: &[u8]) -> Option<Rest<'_>>
 
 /// The text without what can be removed at its end.
 fn without_trailers(text: &[u8]) -> Rest<'_>
-    ensures { IsEndGone text.now result.text.now result.reply }
+    ensures { StripsTrailers text.now result.text.now result.reply }
 {
     let mut rest = text;
     let mut reply = false;
@@ -77,7 +77,7 @@ fn without_trailers(text: &[u8]) -> Rest<'_>
 /// The text without what can be removed at its front. Nothing can be removed at its end.
 fn without_fronts(text: &[u8]) -> Rest<'_>
     requires { without_trailer text.now ≡ None }
-    ensures { IsFrontGone text.now result.text.now result.reply }
+    ensures { StripsFrontPieces text.now result.text.now result.reply }
 {
     let mut rest = text;
     let mut reply = false;
@@ -99,7 +99,7 @@ pub(crate) struct Part {
 /// The part of a text that stays when all that can be removed is.
 pub(crate) fn kept(text: &[u8]) -> Part
     ensures within { result.from + result.len ≤ length text.now }
-    ensures same { rest_of text.now ≡ left result.reply (take result.len (drop result.from text.now)) }
+    ensures same { after_all_removals text.now ≡ stripped_subject result.reply (take result.len (drop result.from text.now)) }
 {
     let mut rest = text;
     let mut from = 0;
@@ -123,9 +123,9 @@ pub(crate) fn kept(text: &[u8]) -> Part
 }
 
 /// What stands between `[fwd:` and `]`, where they begin and end the text.
-#[tactic(auto, unfolding(crate::specs::Removal::without_pair))]
+#[tactic(auto, unfolding(crate::specs::Removal::without_fwd_brackets))]
 fn inside_pair(text: &[u8]) -> Option<&[u8]>
-    ensures { MatchOption result (without_pair text.now ≡ None) (λ rest. without_pair text.now ≡ Some (left true rest.now)) }
+    ensures { MatchOption result (without_fwd_brackets text.now ≡ None) (λ rest. without_fwd_brackets text.now ≡ Some (stripped_subject true rest.now)) }
 {
     let rest = after(text, b"[fwd:")?;
     before(rest, b"]")

@@ -8,9 +8,9 @@ use Rattle.std.proofs.lemmas.List.Elements.{filter-append}
 use Rattle.std.proofs.lemmas.List.Folds.{list_any-append}
 use Rattle.std.proofs.lemmas.Bool.Decides.{nat_tests}
 use Rattle.thread_links.specs.Links.{Link}
-use Rattle.thread_core.specs.Merge.{MergedTop, base_of, subject, with_subject, distinct_subjects, group_of, groups}
-use Rattle.thread_core.specs.Merge.{links_under_first, taken_of_group, is_dummy_tree, messages_of, merged_group, merged_trees}
-use Rattle.thread_core.specs.Parts.{merged_for}
+use Rattle.thread_core.specs.Merge.{MergedThreads, base_subject_at, thread_subject, with_subject, distinct_subjects, trees_with_subject, subject_groups}
+use Rattle.thread_core.specs.Merge.{links_under_first, merged_children_of_group, is_dummy_tree, messages_of_tree, merged_group, merged_trees}
+use Rattle.thread_core.specs.Parts.{merged_group_of_message}
 use Rattle.thread_links.specs.declared.entry.Entry.{Entry}
 use Rattle.thread_core.specs.declared.tree.Tree.{Tree}
 
@@ -87,30 +87,31 @@ map-filter f t (x ∷ xs) = by_test (t (f x)) (map-filter f t xs)
     by_test false later = later
 
 -- a message is put before those of other subjects
-pub leader_put : (entries : List Entry) (place : ℕ) (old kept new : List ℕ) → length (base_of entries place) ≢ 0
-    → kept ≡ filter (λ (o : ℕ). not (bytes_eq (base_of entries place) (base_of entries o))) old → new ≡ place ∷ kept
-    → map (base_of entries) new ≡ with_subject (base_of entries place) (map (base_of entries) old)
+pub leader_put : (entries : List Entry) (place : ℕ) (old kept new : List ℕ) → length (base_subject_at entries place) ≢ 0
+    → kept ≡ filter (λ (o : ℕ). not (bytes_eq (base_subject_at entries place) (base_subject_at entries o))) old → new ≡ place ∷ kept
+    → map (base_subject_at entries) new ≡ with_subject (base_subject_at entries place) (map (base_subject_at entries) old)
 leader_put entries place old kept new some is_kept is_new =
-    ap (map (base_of entries)) (is_new ∙ ap (λ (ks : List ℕ). place ∷ ks) is_kept)
-    ∙ ap (λ (bs : List (List ℕ)). base_of entries place ∷ bs) (map-filter (base_of entries) (λ other. not (bytes_eq (base_of entries place) other)) old)
-    ∙ sym (with_subject-some (base_of entries place) (map (base_of entries) old) some)
+    ap (map (base_subject_at entries)) (is_new ∙ ap (λ (ks : List ℕ). place ∷ ks) is_kept)
+    ∙ ap (λ (bs : List (List ℕ)). base_subject_at entries place ∷ bs) (map-filter (base_subject_at entries) (λ other. not (bytes_eq (base_subject_at entries place) other)) old)
+    ∙ sym (with_subject-some (base_subject_at entries place) (map (base_subject_at entries) old) some)
 
 pub subjects_more : (entries : List Entry) (trees : List Tree) (i : ℕ) (d : Tree) → i < length trees
-    → distinct_subjects (map (subject entries) (drop i trees)) ≡ with_subject (subject entries (get_or trees i d)) (distinct_subjects (map (subject entries) (drop (i + 1) trees)))
+    → distinct_subjects (map (thread_subject entries) (drop i trees)) ≡ with_subject (thread_subject entries (get_or trees i d)) (distinct_subjects (map (thread_subject entries) (drop (i + 1) trees)))
 subjects_more entries trees i d h = rw (drop_more trees i d h) refl
 
 -- the group among the trees before a place
 group_step : (entries : List Entry) (trees : List Tree) (base : List ℕ) (i : ℕ) (d : Tree) → i < length trees
-    → group_of entries (take (i + 1) trees) base ≡ group_of entries (take i trees) base ++ cond (bytes_eq base (subject entries (get_or trees i d))) (get_or trees i d ∷ []) []
+    → trees_with_subject entries (take (i + 1) trees) base ≡ trees_with_subject entries (take i trees) base ++ cond (bytes_eq base (thread_subject entries (get_or trees i d)))
+    (get_or trees i d ∷ []) []
 group_step entries trees base i d h =
-    rw (take_more trees i d h) (filter-append (λ (tree : Tree). bytes_eq base (subject entries tree)) (take i trees) (get_or trees i d ∷ []))
+    rw (take_more trees i d h) (filter-append (λ (tree : Tree). bytes_eq base (thread_subject entries tree)) (take i trees) (get_or trees i d ∷ []))
 
-pub group_no : (entries : List Entry) (trees : List Tree) (base : List ℕ) (i : ℕ) (d : Tree) → i < length trees → bytes_eq base (subject entries (get_or trees i d)) ≡ false
-    → group_of entries (take (i + 1) trees) base ≡ group_of entries (take i trees) base
+pub group_no : (entries : List Entry) (trees : List Tree) (base : List ℕ) (i : ℕ) (d : Tree) → i < length trees → bytes_eq base (thread_subject entries (get_or trees i d)) ≡ false
+    → trees_with_subject entries (take (i + 1) trees) base ≡ trees_with_subject entries (take i trees) base
 group_no entries trees base i d h t = group_step entries trees base i d h ∙ rw t (append-nil _)
 
-pub group_yes : (entries : List Entry) (trees : List Tree) (base : List ℕ) (i : ℕ) (d : Tree) → i < length trees → bytes_eq base (subject entries (get_or trees i d)) ≡ true
-    → group_of entries (take (i + 1) trees) base ≡ group_of entries (take i trees) base ++ get_or trees i d ∷ []
+pub group_yes : (entries : List Entry) (trees : List Tree) (base : List ℕ) (i : ℕ) (d : Tree) → i < length trees → bytes_eq base (thread_subject entries (get_or trees i d)) ≡ true
+    → trees_with_subject entries (take (i + 1) trees) base ≡ trees_with_subject entries (take i trees) base ++ get_or trees i d ∷ []
 group_yes entries trees base i d h t = group_step entries trees base i d h ∙ rw t refl
 
 or-false : (t : Bool) → (t || false) ≡ t
@@ -120,63 +121,63 @@ or-false false = refl
 pub dummy_last : (trees : List Tree) (tree : Tree) → list_any is_dummy_tree (trees ++ tree ∷ []) ≡ (list_any is_dummy_tree trees || is_dummy_tree tree)
 dummy_last trees tree = list_any-append is_dummy_tree trees (tree ∷ []) ∙ ap (λ (t : Bool). list_any is_dummy_tree trees || t) (or-false (is_dummy_tree tree))
 
-pub messages_last : (trees : List Tree) (tree : Tree) → flat_map messages_of (trees ++ tree ∷ []) ≡ flat_map messages_of trees ++ messages_of tree
-messages_last trees tree = flat_map-append messages_of trees (tree ∷ []) ∙ ap (λ (ms : List ℕ). flat_map messages_of trees ++ ms) (append-nil (messages_of tree))
+pub messages_last : (trees : List Tree) (tree : Tree) → flat_map messages_of_tree (trees ++ tree ∷ []) ≡ flat_map messages_of_tree trees ++ messages_of_tree tree
+messages_last trees tree = flat_map-append messages_of_tree trees (tree ∷ []) ∙ ap (λ (ms : List ℕ). flat_map messages_of_tree trees ++ ms) (append-nil (messages_of_tree tree))
 
 gathered-trees : (entries : List Entry) (trees : List Tree) (leaders : List ℕ)
-    → flat_map (λ (m : MergedTop). m.trees) (map (merged_group entries) (map (group_of entries trees) (map (base_of entries) leaders))) ≡ flat_map
-    (λ leader. (merged_for entries trees leader).trees) leaders
+    → flat_map (λ (m : MergedThreads). m.trees) (map (merged_group entries) (map (trees_with_subject entries trees) (map (base_subject_at entries) leaders))) ≡ flat_map
+    (λ leader. (merged_group_of_message entries trees leader).trees) leaders
 gathered-trees entries trees [] = refl
-gathered-trees entries trees (leader ∷ leaders) = ap (λ (ts : List Tree). (merged_for entries trees leader).trees ++ ts) (gathered-trees entries trees leaders)
+gathered-trees entries trees (leader ∷ leaders) = ap (λ (ts : List Tree). (merged_group_of_message entries trees leader).trees ++ ts) (gathered-trees entries trees leaders)
 
 gathered-links : (entries : List Entry) (trees : List Tree) (leaders : List ℕ)
-    → flat_map (λ (m : MergedTop). m.links) (map (merged_group entries) (map (group_of entries trees) (map (base_of entries) leaders))) ≡ flat_map
-    (λ leader. (merged_for entries trees leader).links) leaders
+    → flat_map (λ (m : MergedThreads). m.links) (map (merged_group entries) (map (trees_with_subject entries trees) (map (base_subject_at entries) leaders))) ≡ flat_map
+    (λ leader. (merged_group_of_message entries trees leader).links) leaders
 gathered-links entries trees [] = refl
-gathered-links entries trees (leader ∷ leaders) = ap (λ (ls : List Link). (merged_for entries trees leader).links ++ ls) (gathered-links entries trees leaders)
+gathered-links entries trees (leader ∷ leaders) = ap (λ (ls : List Link). (merged_group_of_message entries trees leader).links ++ ls) (gathered-links entries trees leaders)
 
 -- the groups by their leaders are all
-pub all_gathered_trees : (entries : List Entry) (trees : List Tree) (leaders : List ℕ) → map (base_of entries) leaders ≡ distinct_subjects (map (subject entries) trees)
-    → flat_map (λ leader. (merged_for entries trees leader).trees) leaders ≡ flat_map (λ (m : MergedTop). m.trees) (map (merged_group entries) (groups entries trees))
+pub all_gathered_trees : (entries : List Entry) (trees : List Tree) (leaders : List ℕ) → map (base_subject_at entries) leaders ≡ distinct_subjects (map (thread_subject entries) trees)
+    → flat_map (λ leader. (merged_group_of_message entries trees leader).trees) leaders ≡ flat_map (λ (m : MergedThreads). m.trees) (map (merged_group entries) (subject_groups entries trees))
 all_gathered_trees entries trees leaders is =
-    sym (gathered-trees entries trees leaders) ∙ ap (λ (bs : List (List ℕ)). flat_map (λ (m : MergedTop). m.trees) (map (merged_group entries) (map (group_of entries trees) bs))) is
+    sym (gathered-trees entries trees leaders) ∙ ap (λ (bs : List (List ℕ)). flat_map (λ (m : MergedThreads). m.trees) (map (merged_group entries) (map (trees_with_subject entries trees) bs))) is
 
-pub all_gathered_links : (entries : List Entry) (trees : List Tree) (leaders : List ℕ) → map (base_of entries) leaders ≡ distinct_subjects (map (subject entries) trees)
-    → flat_map (λ leader. (merged_for entries trees leader).links) leaders ≡ (merged_trees entries trees).links
+pub all_gathered_links : (entries : List Entry) (trees : List Tree) (leaders : List ℕ) → map (base_subject_at entries) leaders ≡ distinct_subjects (map (thread_subject entries) trees)
+    → flat_map (λ leader. (merged_group_of_message entries trees leader).links) leaders ≡ (merged_trees entries trees).links
 all_gathered_links entries trees leaders is =
-    sym (gathered-links entries trees leaders) ∙ ap (λ (bs : List (List ℕ)). flat_map (λ (m : MergedTop). m.links) (map (merged_group entries) (map (group_of entries trees) bs))) is
+    sym (gathered-links entries trees leaders) ∙ ap (λ (bs : List (List ℕ)). flat_map (λ (m : MergedThreads). m.links) (map (merged_group entries) (map (trees_with_subject entries trees) bs))) is
 
 pub leader_trees : (entries : List Entry) (trees : List Tree) (leaders : List ℕ) (i : ℕ) → i < length leaders
-    → flat_map (λ leader. (merged_for entries trees leader).trees) (take (i + 1) leaders) ≡ flat_map (λ leader. (merged_for entries trees leader).trees)
-    (take i leaders) ++ (merged_for entries trees (get_or leaders i 0)).trees
+    → flat_map (λ leader. (merged_group_of_message entries trees leader).trees) (take (i + 1) leaders) ≡ flat_map (λ leader. (merged_group_of_message entries trees leader).trees)
+    (take i leaders) ++ (merged_group_of_message entries trees (get_or leaders i 0)).trees
 leader_trees entries trees leaders i h =
-    rw (take_more leaders i 0 h) (flat_map-append (λ leader. (merged_for entries trees leader).trees) (take i leaders) (get_or leaders i 0 ∷ [])
-    ∙ ap (λ (ts : List Tree). flat_map (λ leader. (merged_for entries trees leader).trees) (take i leaders) ++ ts) (append-nil _))
+    rw (take_more leaders i 0 h) (flat_map-append (λ leader. (merged_group_of_message entries trees leader).trees) (take i leaders) (get_or leaders i 0 ∷ [])
+    ∙ ap (λ (ts : List Tree). flat_map (λ leader. (merged_group_of_message entries trees leader).trees) (take i leaders) ++ ts) (append-nil _))
 
 pub leader_links : (entries : List Entry) (trees : List Tree) (leaders : List ℕ) (i : ℕ) → i < length leaders
-    → flat_map (λ leader. (merged_for entries trees leader).links) (take (i + 1) leaders) ≡ flat_map (λ leader. (merged_for entries trees leader).links)
-    (take i leaders) ++ (merged_for entries trees (get_or leaders i 0)).links
+    → flat_map (λ leader. (merged_group_of_message entries trees leader).links) (take (i + 1) leaders) ≡ flat_map (λ leader. (merged_group_of_message entries trees leader).links)
+    (take i leaders) ++ (merged_group_of_message entries trees (get_or leaders i 0)).links
 leader_links entries trees leaders i h =
-    rw (take_more leaders i 0 h) (flat_map-append (λ leader. (merged_for entries trees leader).links) (take i leaders) (get_or leaders i 0 ∷ [])
-    ∙ ap (λ (ls : List Link). flat_map (λ leader. (merged_for entries trees leader).links) (take i leaders) ++ ls) (append-nil _))
+    rw (take_more leaders i 0 h) (flat_map-append (λ leader. (merged_group_of_message entries trees leader).links) (take i leaders) (get_or leaders i 0 ∷ [])
+    ∙ ap (λ (ls : List Link). flat_map (λ leader. (merged_group_of_message entries trees leader).links) (take i leaders) ++ ls) (append-nil _))
 
 -- the links of a group by how many of its messages are plain
-pub no_links_dummy : (messages plain : List ℕ) (dummy : Bool) → dummy ≡ true → links_under_first plain (taken_of_group dummy messages plain) ≡ []
+pub no_links_dummy : (messages plain : List ℕ) (dummy : Bool) → dummy ≡ true → links_under_first plain (merged_children_of_group dummy messages plain) ≡ []
 no_links_dummy messages [] dummy e = refl
 no_links_dummy messages (p ∷ plain) dummy e = rw e refl
 
-pub no_links_none : (messages plain : List ℕ) (dummy : Bool) → length plain ≡ 0 → links_under_first plain (taken_of_group dummy messages plain) ≡ []
+pub no_links_none : (messages plain : List ℕ) (dummy : Bool) → length plain ≡ 0 → links_under_first plain (merged_children_of_group dummy messages plain) ≡ []
 no_links_none messages [] dummy e = refl
 no_links_none messages (p ∷ plain) dummy e = absurd (let bad : suc (length plain) ≡ 0 = e in omega (arith, bad))
 
 pub links_of_one : (messages plain : List ℕ) (dummy : Bool) → dummy ≡ false → length plain ≡ 1
-    → links_under_first plain (taken_of_group dummy messages plain) ≡ map (λ (p : ℕ). (p, get_or plain 0 0)) (filter (λ (p : ℕ). not (p == get_or plain 0 0)) messages)
+    → links_under_first plain (merged_children_of_group dummy messages plain) ≡ map (λ (p : ℕ). (p, get_or plain 0 0)) (filter (λ (p : ℕ). not (p == get_or plain 0 0)) messages)
 links_of_one messages [] dummy t e = absurd (let bad : 0 ≡ 1 = e in omega (arith, bad))
 links_of_one messages (p ∷ []) dummy t e = rw t refl
 links_of_one messages (p ∷ q ∷ plain) dummy t e = absurd (let bad : suc (suc (length plain)) ≡ 1 = e in omega (arith, bad))
 
 pub links_of_two : (messages plain : List ℕ) (dummy : Bool) → dummy ≡ false → 1 < length plain
-    → links_under_first plain (taken_of_group dummy messages plain)
+    → links_under_first plain (merged_children_of_group dummy messages plain)
     ≡ map (λ (p : ℕ). (p, get_or plain 0 0)) (filter (λ (p : ℕ). not (p == get_or plain 0 0)) (before_first (λ (p : ℕ). p == get_or plain 1 0) messages))
 links_of_two messages [] dummy t e = absurd (let bad : 1 < 0 = e in omega (arith, bad))
 links_of_two messages (p ∷ []) dummy t e = absurd (let bad : 1 < 1 = e in omega (arith, bad))

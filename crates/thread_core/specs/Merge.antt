@@ -22,26 +22,26 @@ use Rattle.std.specs.Prelude.{ℕ, Bool, true, false, not, ◌==◌, List, [], �
 use Rattle.std.specs.List.{list_any, before_first, after_first}
 use Rattle.std.specs.Option.{option_map_or}
 use Rattle.thread_links.specs.Links.{Link}
-use Rattle.thread_core.specs.Forest.{key, trees_of_dummy}
+use Rattle.thread_core.specs.Forest.{tree_key_place, trees_of_dummy}
 use Rattle.thread_links.specs.declared.entry.Entry.{Entry}
 use Rattle.thread_core.specs.declared.tree.Tree.{Tree}
 use Rattle.thread_core.specs.declared.tree.Tree.TheVariants.{Message, DummyOver}
 
-abbrev pub base_of : List Entry → ℕ → List ℕ
-base_of entries place = option_map_or (λ (entry : Entry). entry.base) (slice_get entries place) []
+abbrev pub base_subject_at : List Entry → ℕ → List ℕ
+base_subject_at entries place = option_map_or (λ (entry : Entry). entry.base) (slice_get entries place) []
 
-abbrev pub is_reply : List Entry → ℕ → Bool
-is_reply entries place = option_map_or (λ (entry : Entry). entry.reply) (slice_get entries place) false
+abbrev pub has_reply_subject : List Entry → ℕ → Bool
+has_reply_subject entries place = option_map_or (λ (entry : Entry). entry.reply) (slice_get entries place) false
 
 -- Step 5.B.i. "Find the subject of this thread, by using the base subject from either the current message or its
 -- first child if the current message is a dummy. This is the thread subject."
-abbrev pub subject : List Entry → Tree → List ℕ
-subject entries tree = base_of entries (key entries tree)
+abbrev pub thread_subject : List Entry → Tree → List ℕ
+thread_subject entries tree = base_subject_at entries (tree_key_place entries tree)
 
 -- a message, or the children of a dummy
-abbrev pub messages_of : Tree → List ℕ
-messages_of (Message place) = place ∷ []
-messages_of (DummyOver places) = places
+abbrev pub messages_of_tree : Tree → List ℕ
+messages_of_tree (Message place) = place ∷ []
+messages_of_tree (DummyOver places) = places
 
 -- a dummy is at the top of the tree, so the tree has no message there (RFC 5256, section 3)
 abbrev pub is_dummy_tree : Tree → Bool
@@ -58,11 +58,11 @@ trees_of_group false messages (first ∷ second ∷ others) =
     DummyOver (first ∷ second ∷ after_first (λ place. place == second) messages) ∷ []
 
 -- the messages of a group that become children of its first plain one: all replies, or those before the second plain one
-abbrev pub taken_of_group : (dummy : Bool) (messages plain : List ℕ) → List ℕ
-taken_of_group true messages plain = []
-taken_of_group false messages [] = []
-taken_of_group false messages (first ∷ []) = filter (λ place. not (place == first)) messages
-taken_of_group false messages (first ∷ second ∷ others) =
+abbrev pub merged_children_of_group : (dummy : Bool) (messages plain : List ℕ) → List ℕ
+merged_children_of_group true messages plain = []
+merged_children_of_group false messages [] = []
+merged_children_of_group false messages (first ∷ []) = filter (λ place. not (place == first)) messages
+merged_children_of_group false messages (first ∷ second ∷ others) =
     filter (λ place. not (place == first)) (before_first (λ place. place == second) messages)
 
 -- as links under the first plain one
@@ -71,25 +71,25 @@ links_under_first [] children = []
 links_under_first (first ∷ plain) children = map (λ child. (child, first)) children
 
 -- the top trees, and the links of messages that were taken from the top
-pub record MergedTop : Type 0 where
+pub record MergedThreads : Type 0 where
   pub trees : List Tree
   pub links : List Link
 
-abbrev pub plain_of : List Entry → List ℕ → List ℕ
-plain_of entries places = filter (λ place. not (is_reply entries place)) places
+abbrev pub non_replies : List Entry → List ℕ → List ℕ
+non_replies entries places = filter (λ place. not (has_reply_subject entries place)) places
 
 -- What step 5.C makes of one group, by its messages and the children of its dummies, in order, and whether it has a dummy.
-abbrev pub merged_messages : List Entry → Bool → List ℕ → MergedTop
-merged_messages entries dummy messages =
+abbrev pub merged_group_messages : List Entry → Bool → List ℕ → MergedThreads
+merged_group_messages entries dummy messages =
     record {
-      trees = trees_of_group dummy messages (plain_of entries messages);
-      links = links_under_first (plain_of entries messages)
-          (taken_of_group dummy messages (plain_of entries messages));
+      trees = trees_of_group dummy messages (non_replies entries messages);
+      links = links_under_first (non_replies entries messages)
+          (merged_children_of_group dummy messages (non_replies entries messages));
     }
 
 -- what becomes of a group
-abbrev pub merged_group : List Entry → List Tree → MergedTop
-merged_group entries group = merged_messages entries (list_any is_dummy_tree group) (flat_map messages_of group)
+abbrev pub merged_group : List Entry → List Tree → MergedThreads
+merged_group entries group = merged_group_messages entries (list_any is_dummy_tree group) (flat_map messages_of_tree group)
 
 -- a subject before others and no more among them, unless it is empty
 abbrev pub with_subject : List ℕ → List (List ℕ) → List (List ℕ)
@@ -102,29 +102,29 @@ distinct_subjects [] = []
 distinct_subjects (base ∷ subjects) = with_subject base (distinct_subjects subjects)
 
 -- the trees with a subject
-abbrev pub group_of : List Entry → List Tree → List ℕ → List Tree
-group_of entries trees base = filter (λ tree. bytes_eq base (subject entries tree)) trees
+abbrev pub trees_with_subject : List Entry → List Tree → List ℕ → List Tree
+trees_with_subject entries trees base = filter (λ tree. bytes_eq base (thread_subject entries tree)) trees
 
 -- the groups of one subject that is not empty, each in the order of the trees
-abbrev pub groups : List Entry → List Tree → List (List Tree)
-groups entries trees = map (group_of entries trees) (distinct_subjects (map (subject entries) trees))
+abbrev pub subject_groups : List Entry → List Tree → List (List Tree)
+subject_groups entries trees = map (trees_with_subject entries trees) (distinct_subjects (map (thread_subject entries) trees))
 
 -- Step 5.B.ii, 5.C.ii. "If the thread subject is empty, skip this message."
-abbrev pub without_subject : List Entry → List Tree → List Tree
-without_subject entries trees = group_of entries trees []
+abbrev pub trees_without_subject : List Entry → List Tree → List Tree
+trees_without_subject entries trees = trees_with_subject entries trees []
 
 -- the trees below the root after step 5, given those before it in order of key
-abbrev pub merged_trees : List Entry → List Tree → MergedTop
+abbrev pub merged_trees : List Entry → List Tree → MergedThreads
 merged_trees entries trees =
-    let gathered = map (merged_group entries) (groups entries trees) in
+    let gathered = map (merged_group entries) (subject_groups entries trees) in
     record {
-      trees = without_subject entries trees ++ flat_map (λ (m : MergedTop). m.trees) gathered;
-      links = flat_map (λ (m : MergedTop). m.links) gathered;
+      trees = trees_without_subject entries trees ++ flat_map (λ (m : MergedThreads). m.trees) gathered;
+      links = flat_map (λ (m : MergedThreads). m.links) gathered;
     }
 
 -- The trees below the root, given those before step 5 in order of key: after it, or, where a mailbox leaves it out, as
 -- they were.
 -- profile: a list may be threaded without step 5, by its references alone.
-abbrev pub top_after : List Entry → (merge : Bool) → List Tree → MergedTop
-top_after entries false trees = record { trees = trees; links = [] }
-top_after entries true trees = merged_trees entries trees
+abbrev pub merged_if_enabled : List Entry → (merge : Bool) → List Tree → MergedThreads
+merged_if_enabled entries false trees = record { trees = trees; links = [] }
+merged_if_enabled entries true trees = merged_trees entries trees

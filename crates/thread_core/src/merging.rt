@@ -3,14 +3,14 @@
 ghost use Rattle.std.specs.Prelude.{◌≡◌, ◌==◌, ◌∷◌, ◌++◌, [], ℕ, not, bytes_eq, filter, flat_map, map, position, IfOk, OnOk};
 ghost use Rattle.thread_core.specs.declared.tree.Tree.{Tree};
 ghost use Rattle.std.specs.List.{after_first, before_first, list_any};
-ghost use Rattle.thread_core.specs.Merge.{base_of, distinct_subjects, group_of, is_dummy_tree, is_reply};
-ghost use Rattle.thread_core.specs.Merge.{links_under_first, merged_messages, merged_trees, messages_of};
-ghost use Rattle.thread_core.specs.Merge.{plain_of, subject, taken_of_group, trees_of_group, with_subject};
-ghost use Rattle.thread_core.specs.Merge.{without_subject};
-ghost use Rattle.thread_core.specs.Parts.{merged_for};
+ghost use Rattle.thread_core.specs.Merge.{base_subject_at, distinct_subjects, trees_with_subject, is_dummy_tree, has_reply_subject};
+ghost use Rattle.thread_core.specs.Merge.{links_under_first, merged_group_messages, merged_trees, messages_of_tree};
+ghost use Rattle.thread_core.specs.Merge.{non_replies, thread_subject, merged_children_of_group, trees_of_group, with_subject};
+ghost use Rattle.thread_core.specs.Merge.{trees_without_subject};
+ghost use Rattle.thread_core.specs.Parts.{merged_group_of_message};
 
 use crate::forest::push_dummy;
-use crate::order::find_key;
+use crate::order::date_key_of;
 use crate::tree::{Places, Tree};
 use mail_core::Memory;
 use std::alloc::Global;
@@ -38,7 +38,7 @@ impl Merged {
     }
 
     /// These trees and no links, which takes no memory.
-    pub fn unmerged(alloc: Global, trees: Vec<Tree>) -> Merged
+    pub fn without_links(alloc: Global, trees: Vec<Tree>) -> Merged
         ensures trees { result.trees.items ≡ trees.items }
         ensures links { result.links.items ≡ [] }
     {
@@ -49,11 +49,16 @@ impl Merged {
     }
 
     /// Adds what becomes of a group.
-    pub fn add(&mut self, alloc: Global, entries: &[Entry], group: Group) -> Result<(), Memory>
+    pub fn add(
+        &mut self,
+        alloc: Global,
+        entries: &[Entry],
+        group: SubjectGroup,
+    ) -> Result<(), Memory>
         ensures trees { OnOk result (self.new.trees.items
-            ≡ self.old.trees.items ++ (merged_messages entries.now group.dummy group.messages.items).trees) }
+            ≡ self.old.trees.items ++ (merged_group_messages entries.now group.dummy group.messages.items).trees) }
         ensures links { OnOk result (self.new.links.items
-            ≡ self.old.links.items ++ (merged_messages entries.now group.dummy group.messages.items).links) }
+            ≡ self.old.links.items ++ (merged_group_messages entries.now group.dummy group.messages.items).links) }
     {
         let plain = find_plain(alloc, entries, &group.messages)?;
         push_links(&mut self.links, &group, &plain)?;
@@ -63,7 +68,7 @@ impl Merged {
 
 /// The messages of one subject at the top.
 #[derive(Drop)]
-pub struct Group {
+pub struct SubjectGroup {
     /// Whether a dummy stands above them.
     pub dummy: bool,
     /// By place in the mailbox.
@@ -72,7 +77,7 @@ pub struct Group {
 
 /// The base subject of the message at a place.
 fn base_at(entries: &[Entry], place: usize) -> &[u8]
-    ensures { result.now ≡ base_of entries.now place }
+    ensures { result.now ≡ base_subject_at entries.now place }
 {
     match entries.get(place) {
         Some(entry) => entry.base.as_slice(),
@@ -82,7 +87,7 @@ fn base_at(entries: &[Entry], place: usize) -> &[u8]
 
 /// Whether the message at a place is a reply or a forward.
 fn is_reply_at(entries: &[Entry], place: usize) -> bool
-    ensures { result ≡ is_reply entries.now place }
+    ensures { result ≡ has_reply_subject entries.now place }
 {
     match entries.get(place) {
         Some(entry) => entry.reply,
@@ -92,22 +97,22 @@ fn is_reply_at(entries: &[Entry], place: usize) -> bool
 
 /// Whether two messages have the same base subject.
 fn is_same_base(entries: &[Entry], place: usize, other: usize) -> bool
-    ensures { result ≡ bytes_eq (base_of entries.now place) (base_of entries.now other) }
+    ensures { result ≡ bytes_eq (base_subject_at entries.now place) (base_subject_at entries.now other) }
 {
     base_at(entries, place) == base_at(entries, other)
 }
 
 /// Whether a tree has an empty subject.
 fn has_no_subject(entries: &[Entry], tree: &Tree) -> bool
-    ensures { result ≡ bytes_eq [] (subject entries.now tree.now) }
+    ensures { result ≡ bytes_eq [] (thread_subject entries.now tree.now) }
 {
-    base_at(entries, find_key(entries, tree)).is_empty()
+    base_at(entries, date_key_of(entries, tree)).is_empty()
 }
 
 /// Puts a message before those of other subjects, and drops its subject there.
 fn put_leader(entries: &[Entry], leaders: &mut Vec<usize>, place: usize) -> Result<(), Memory>
-    ensures { OnOk result (map (base_of entries.now) leaders.new.items
-        ≡ with_subject (base_of entries.now place) (map (base_of entries.now) leaders.old.items)) }
+    ensures { OnOk result (map (base_subject_at entries.now) leaders.new.items
+        ≡ with_subject (base_subject_at entries.now place) (map (base_subject_at entries.now) leaders.old.items)) }
 {
     if base_at(entries, place).is_empty() {
         return Ok(());
@@ -119,14 +124,14 @@ fn put_leader(entries: &[Entry], leaders: &mut Vec<usize>, place: usize) -> Resu
 
 /// A message for each subject that is not empty, in the order of the trees.
 fn find_leaders(alloc: Global, entries: &[Entry], trees: &[Tree]) -> Result<Vec<usize>, Memory>
-    ensures { IfOk result (λ v. map (base_of entries.now) v.items
-        ≡ distinct_subjects (map (subject entries.now) trees.now)) }
+    ensures { IfOk result (λ v. map (base_subject_at entries.now) v.items
+        ≡ distinct_subjects (map (thread_subject entries.now) trees.now)) }
 {
     let mut leaders = Vec::new(alloc);
     let mut left = trees.len();
     while left > 0 {
         left -= 1;
-        put_leader(entries, &mut leaders, find_key(entries, &trees[left]))?;
+        put_leader(entries, &mut leaders, date_key_of(entries, &trees[left]))?;
     }
     Ok(leaders)
 }
@@ -143,7 +148,7 @@ pub fn is_dummy(tree: &Tree) -> bool
 
 /// Adds a message, or the children of a dummy.
 pub fn push_messages(messages: &mut Vec<usize>, tree: &Tree) -> Result<(), Memory>
-    ensures { OnOk result (messages.new.items ≡ messages.old.items ++ messages_of tree.now) }
+    ensures { OnOk result (messages.new.items ≡ messages.old.items ++ messages_of_tree tree.now) }
 {
     match tree {
         Tree::Message(place) => messages.push(*place)?,
@@ -158,26 +163,26 @@ fn find_group(
     entries: &[Entry],
     trees: &[Tree],
     leader: usize,
-) -> Result<Group, Memory>
+) -> Result<SubjectGroup, Memory>
     ensures dummy { IfOk result (λ group. group.dummy
-        ≡ list_any is_dummy_tree (group_of entries.now trees.now (base_of entries.now leader))) }
+        ≡ list_any is_dummy_tree (trees_with_subject entries.now trees.now (base_subject_at entries.now leader))) }
     ensures messages { IfOk result (λ group. group.messages.items
-        ≡ flat_map messages_of (group_of entries.now trees.now (base_of entries.now leader))) }
+        ≡ flat_map messages_of_tree (trees_with_subject entries.now trees.now (base_subject_at entries.now leader))) }
 {
     let mut dummy = false;
     let mut messages = Vec::new(alloc);
     for tree in trees {
-        if is_same_base(entries, leader, find_key(entries, tree)) {
+        if is_same_base(entries, leader, date_key_of(entries, tree)) {
             dummy = dummy || is_dummy(tree);
             push_messages(&mut messages, tree)?;
         }
     }
-    Ok(Group { dummy, messages })
+    Ok(SubjectGroup { dummy, messages })
 }
 
 /// The messages that are no replies.
 fn find_plain(alloc: Global, entries: &[Entry], messages: &[usize]) -> Result<Vec<usize>, Memory>
-    ensures { IfOk result (λ v. v.items ≡ plain_of entries.now messages.now) }
+    ensures { IfOk result (λ v. v.items ≡ non_replies entries.now messages.now) }
 {
     let mut plain = Vec::from_slice(alloc, messages)?;
     plain.retain(|place| !is_reply_at(entries, *place));
@@ -233,9 +238,13 @@ fn link_under(
 
 /// Adds the links of the messages of a group that become children of its first plain one.
 #[tactic(auto, using(crate::proofs::MergeLemmas::no_links_dummy, crate::proofs::MergeLemmas::no_links_none, crate::proofs::MergeLemmas::links_of_one, crate::proofs::MergeLemmas::links_of_two))]
-fn push_links(links: &mut Vec<(usize, usize)>, group: &Group, plain: &[usize]) -> Result<(), Memory>
+fn push_links(
+    links: &mut Vec<(usize, usize)>,
+    group: &SubjectGroup,
+    plain: &[usize],
+) -> Result<(), Memory>
     ensures { OnOk result (links.new.items ≡ links.old.items
-        ++ links_under_first plain.now (taken_of_group group.now.dummy group.now.messages.items plain.now)) }
+        ++ links_under_first plain.now (merged_children_of_group group.now.dummy group.now.messages.items plain.now)) }
 {
     if group.dummy || plain.is_empty() {
         return Ok(());
@@ -265,7 +274,7 @@ fn dummy_over(
 fn push_group(
     alloc: Global,
     trees: &mut Vec<Tree>,
-    group: Group,
+    group: SubjectGroup,
     plain: &[usize],
 ) -> Result<(), Memory>
     ensures { OnOk result (trees.new.items ≡ trees.old.items
@@ -292,7 +301,7 @@ pub fn keep_without_subject(
     mut trees: Vec<Tree>,
     merged: Vec<Tree>,
 ) -> Result<Vec<Tree>, Memory>
-    ensures { IfOk result (λ v. v.items ≡ without_subject entries.now trees.items ++ merged.items) }
+    ensures { IfOk result (λ v. v.items ≡ trees_without_subject entries.now trees.items ++ merged.items) }
 {
     trees.retain(|tree| has_no_subject(entries, tree));
     trees.extend(merged)?;
@@ -308,9 +317,9 @@ fn merge_groups(
     leaders: &[usize],
 ) -> Result<Merged, Memory>
     ensures trees { IfOk result (λ merged. merged.trees.items
-        ≡ flat_map (λ (leader : ℕ). (merged_for entries.now trees.now leader).trees) leaders.now) }
+        ≡ flat_map (λ (leader : ℕ). (merged_group_of_message entries.now trees.now leader).trees) leaders.now) }
     ensures links { IfOk result (λ merged. merged.links.items
-        ≡ flat_map (λ (leader : ℕ). (merged_for entries.now trees.now leader).links) leaders.now) }
+        ≡ flat_map (λ (leader : ℕ). (merged_group_of_message entries.now trees.now leader).links) leaders.now) }
 {
     let mut merged = Merged::new(alloc);
     for leader in leaders {

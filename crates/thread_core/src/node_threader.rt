@@ -1,9 +1,9 @@
 //! The threader of numbered nodes.
 
 ghost use Rattle.std.specs.Prelude.{◌≡◌, ◌≤◌, ◌+◌, ◌*◌, IfOk, length};
-ghost use Rattle.thread_links.specs.Containers.{count_of, mentioned};
-ghost use Rattle.thread_links.specs.Links.{IsLinkedAs, links_of, parent_of};
-ghost use Rattle.thread_core.specs.Threads.{rows_of};
+ghost use Rattle.thread_links.specs.Containers.{container_count, referenced_ids};
+ghost use Rattle.thread_links.specs.Links.{IsForestOfLinks, links_of, parent_of};
+ghost use Rattle.thread_core.specs.Threads.{rows_of_parents};
 
 use crate::plain::table_rows;
 use crate::row::Row;
@@ -54,9 +54,9 @@ impl Threader for NodeThreader {
         entries: &[Entry],
         steps: &mut Steps<L>,
     ) -> Result<Nodes, Memory>
-        ensures step_one { IfOk result (λ links. IsLinkedAs (count_of entries.now) (links_of entries.now) links) }
+        ensures step_one { IfOk result (λ links. IsForestOfLinks (container_count entries.now) (links_of entries.now) links) }
         ensures few { IfOk result (λ _. steps.new ≤ steps.old
-            + (length entries.now + length (mentioned entries.now)) * count_of entries.now) }
+            + (length entries.now + length (referenced_ids entries.now)) * container_count entries.now) }
     {
         join_nodes(alloc, self.state, entries, steps)
     }
@@ -70,7 +70,7 @@ impl Threader for NodeThreader {
         steps: &mut Steps<L>,
     ) -> Result<Vec<Row>, Memory>
         ensures steps_two_to_six { IfOk result
-            (λ rows. rows.items ≡ rows_of entries.now merge links.count (parent_of links.links)) }
+            (λ rows. rows.items ≡ rows_of_parents entries.now merge links.count (parent_of links.links)) }
         ensures few { steps.new ≤ steps.old + links.count }
     {
         let parents = read_parents(alloc, &links, steps)?;

@@ -2,15 +2,15 @@
 
 ghost use Rattle.std.specs.Prelude.{◌≡◌, ◌≤◌, IfOk, length};
 ghost use Rattle.thread_links.specs.Links.{parent_of};
-ghost use Rattle.thread_core.specs.Parts.{containers_of};
-ghost use Rattle.thread_core.specs.Threads.{rows_of, rows_of_containers};
+ghost use Rattle.thread_core.specs.Parts.{containers_of_parents};
+ghost use Rattle.thread_core.specs.Threads.{rows_of_parents, rows_of_containers};
 
-use crate::family::{Family, Taken};
-use crate::forest::find_tops;
+use crate::family::{ContainerTree, MergeLinks};
+use crate::forest::find_roots;
 use crate::order::order_trees;
 use crate::row::Row;
 use crate::rows::tree_rows;
-use crate::subjects::gather;
+use crate::subjects::merge_by_subject;
 use crate::threader::Threader;
 use mail_core::Memory;
 use std::alloc::Global;
@@ -28,14 +28,14 @@ pub fn table_rows(
     state: Option<RandomState>,
 ) -> Result<Vec<Row>, Memory>
     ensures { IfOk result (λ rows. rows.items
-        ≡ rows_of_containers entries.now merge (containers_of parents.items (length entries.now))) }
+        ≡ rows_of_containers entries.now merge (containers_of_parents parents.items (length entries.now))) }
 {
-    let all = Family::new(alloc, parents, entries.len())?;
-    let tops = find_tops(alloc, &all)?;
+    let all = ContainerTree::new(alloc, parents, entries.len())?;
+    let tops = find_roots(alloc, &all)?;
     let ordered = order_trees(alloc, entries, tops)?;
-    let merged = gather(alloc, merge, state, entries, ordered)?;
+    let merged = merge_by_subject(alloc, merge, state, entries, ordered)?;
     let trees = order_trees(alloc, entries, merged.trees)?;
-    let taken = Taken::new(alloc, merged.links)?;
+    let taken = MergeLinks::new(alloc, merged.links)?;
     tree_rows(alloc, entries, &all, &taken, &trees)
 }
 

@@ -6,13 +6,15 @@ ghost use Rattle.std.specs.Prelude.{◌≡◌, ◌≢◌, ◌&&◌, ◌||◌, �
 ghost use Rattle.std.specs.Prelude.{if◌then◌else◌, flat_map, get_or, is_none, length, map, IfOk, OnOk};
 ghost use Rattle.thread_links.specs.declared.entry.Entry.{Entry};
 ghost use Rattle.thread_core.specs.declared.tree.Tree.{Tree};
-ghost use Rattle.thread_core.specs.Forest.{key};
-ghost use Rattle.thread_core.specs.Merge.{base_of, is_dummy_tree, merged_group, merged_trees, messages_of, subject, top_after};
-ghost use Rattle.thread_core.specs.Subjects.{lead_of, picked, AreLeaders};
+ghost use Rattle.thread_core.specs.Forest.{tree_key_place};
+ghost use Rattle.thread_core.specs.Merge.{base_subject_at, is_dummy_tree, merged_group, merged_trees, messages_of_tree, thread_subject, merged_if_enabled};
+ghost use Rattle.thread_core.specs.Subjects.{leader_of_message, trees_at_numbers, AreSubjectLeaders};
 
-use crate::family::{list_at, list_children};
-use crate::merging::{Group, Merged, is_dummy, keep_without_subject, merge_trees, push_messages};
-use crate::order::find_key;
+use crate::family::{children_at, children_by_parent};
+use crate::merging::{
+    Merged, SubjectGroup, is_dummy, keep_without_subject, merge_trees, push_messages,
+};
+use crate::order::date_key_of;
 use crate::tree::{Places, Tree};
 use mail_core::{Memory, Octets};
 use std::alloc::Global;
@@ -43,17 +45,17 @@ fn add_subject(
     if table.contains_key(base) {
         return Ok(false);
     }
-    table.insert(base.try_copy(alloc)?, place)?;
+    table.insert(base.try_clone(alloc)?, place)?;
     Ok(true)
 }
 
 impl Leaders {
     /// Puts a message behind the others, if it is the first of a subject that is not empty.
     fn add_place(&mut self, alloc: Global, base: &Octets, place: usize) -> Result<(), Memory>
-        ensures { (entries : List Entry) (subjects : List (List ℕ)) → base_of entries place ≡ base.now
-            → length base.now ≢ 0 → AreLeaders entries subjects self.old.places.items
+        ensures { (entries : List Entry) (subjects : List (List ℕ)) → base_subject_at entries place ≡ base.now
+            → length base.now ≢ 0 → AreSubjectLeaders entries subjects self.old.places.items
             (λ other. get_by (bytes_eq other) self.old.table)
-            → OnOk result (AreLeaders entries (subjects ++ base_of entries place ∷ []) self.new.places.items
+            → OnOk result (AreSubjectLeaders entries (subjects ++ base_subject_at entries place ∷ []) self.new.places.items
             (λ other. get_by (bytes_eq other) self.new.table)) }
     {
         let added = add_subject(alloc, &mut self.table, base, place)?;
@@ -66,10 +68,10 @@ impl Leaders {
     /// Puts a message behind the others, if it is the first of its subject and that is not empty.
     fn note(&mut self, alloc: Global, entries: &[Entry], place: usize) -> Result<(), Memory>
         ensures { (subjects : List (List ℕ))
-            → AreLeaders entries.now subjects self.old.places.items
+            → AreSubjectLeaders entries.now subjects self.old.places.items
             (λ other. get_by (bytes_eq other) self.old.table)
-            → OnOk result (AreLeaders entries.now (subjects
-            ++ base_of entries.now place ∷ []) self.new.places.items
+            → OnOk result (AreSubjectLeaders entries.now (subjects
+            ++ base_subject_at entries.now place ∷ []) self.new.places.items
             (λ other. get_by (bytes_eq other) self.new.table)) }
     {
         match entries.get(place) {
@@ -90,8 +92,8 @@ impl Leaders {
         entries: &[Entry],
         trees: &[Tree],
     ) -> Result<Leaders, Memory>
-        ensures { IfOk result (λ all. AreLeaders entries.now
-            (map (subject entries.now) trees.now) all.places.items
+        ensures { IfOk result (λ all. AreSubjectLeaders entries.now
+            (map (thread_subject entries.now) trees.now) all.places.items
             (λ other. get_by (bytes_eq other) all.table)) }
     {
         let mut all = Leaders {
@@ -99,14 +101,14 @@ impl Leaders {
             table: HashMap::with_hasher(alloc, state),
         };
         for tree in trees {
-            all.note(alloc, entries, find_key(entries, tree))?;
+            all.note(alloc, entries, date_key_of(entries, tree))?;
         }
         Ok(all)
     }
 
     /// The first message of a message's subject, if that is not empty.
     fn lead(&self, entries: &[Entry], place: usize) -> Option<usize>
-        ensures { result ≡ lead_of entries.now (λ other. get_by (bytes_eq other) self.now.table) place }
+        ensures { result ≡ leader_of_message entries.now (λ other. get_by (bytes_eq other) self.now.table) place }
     {
         match entries.get(place) {
             None => None,
@@ -122,12 +124,12 @@ impl Leaders {
         trees: &[Tree],
     ) -> Result<Vec<Option<usize>>, Memory>
         ensures { IfOk result (λ v. v.items
-            ≡ map (λ (tree : Tree). lead_of entries.now
-            (λ other. get_by (bytes_eq other) self.now.table) (key entries.now tree)) trees.now) }
+            ≡ map (λ (tree : Tree). leader_of_message entries.now
+            (λ other. get_by (bytes_eq other) self.now.table) (tree_key_place entries.now tree)) trees.now) }
     {
         let mut leads = Vec::new(alloc);
         for tree in trees {
-            leads.push(self.lead(entries, find_key(entries, tree)))?;
+            leads.push(self.lead(entries, date_key_of(entries, tree)))?;
         }
         Ok(leads)
     }
@@ -135,11 +137,11 @@ impl Leaders {
 
 /// Adds the tree of a number to a group, if there is one.
 #[tactic(auto, using(crate::proofs::SubjectLemmas::picked_dummy, crate::proofs::SubjectLemmas::no_dummy, crate::proofs::SubjectLemmas::picked_messages, crate::proofs::SubjectLemmas::no_messages))]
-fn pick_tree(group: &mut Group, trees: &[Tree], number: usize) -> Result<(), Memory>
+fn pick_tree(group: &mut SubjectGroup, trees: &[Tree], number: usize) -> Result<(), Memory>
     ensures dummy { OnOk result (group.new.dummy
-        ≡ (group.old.dummy || list_any is_dummy_tree (picked trees.now (number ∷ [])))) }
+        ≡ (group.old.dummy || list_any is_dummy_tree (trees_at_numbers trees.now (number ∷ [])))) }
     ensures messages { OnOk result (group.new.messages.items ≡ group.old.messages.items
-        ++ flat_map messages_of (picked trees.now (number ∷ []))) }
+        ++ flat_map messages_of_tree (trees_at_numbers trees.now (number ∷ []))) }
 {
     match trees.get(number) {
         None => Ok(()),
@@ -152,12 +154,12 @@ fn pick_tree(group: &mut Group, trees: &[Tree], number: usize) -> Result<(), Mem
 
 /// The trees of some numbers as a group.
 #[tactic(auto, using(crate::proofs::SubjectLemmas::dummies_more, crate::proofs::SubjectLemmas::messages_more))]
-fn pick_group(alloc: Global, trees: &[Tree], numbers: &[usize]) -> Result<Group, Memory>
-    ensures dummy { IfOk result (λ group. group.dummy ≡ list_any is_dummy_tree (picked trees.now numbers.now)) }
+fn pick_group(alloc: Global, trees: &[Tree], numbers: &[usize]) -> Result<SubjectGroup, Memory>
+    ensures dummy { IfOk result (λ group. group.dummy ≡ list_any is_dummy_tree (trees_at_numbers trees.now numbers.now)) }
     ensures messages { IfOk result (λ group. group.messages.items
-        ≡ flat_map messages_of (picked trees.now numbers.now)) }
+        ≡ flat_map messages_of_tree (trees_at_numbers trees.now numbers.now)) }
 {
-    let mut group = Group {
+    let mut group = SubjectGroup {
         dummy: false,
         messages: Vec::new(alloc),
     };
@@ -178,17 +180,17 @@ fn merge_listed(
 ) -> Result<Merged, Memory>
     ensures trees { IfOk result (λ merged. merged.trees.items
         ≡ flat_map (λ (leader : ℕ). (merged_group entries.now
-        (picked trees.now (get_or lists.now leader []))).trees) leaders.now) }
+        (trees_at_numbers trees.now (get_or lists.now leader []))).trees) leaders.now) }
     ensures links { IfOk result (λ merged. merged.links.items
         ≡ flat_map (λ (leader : ℕ). (merged_group entries.now
-        (picked trees.now (get_or lists.now leader []))).links) leaders.now) }
+        (trees_at_numbers trees.now (get_or lists.now leader []))).links) leaders.now) }
 {
     let mut merged = Merged::new(alloc);
     for leader in leaders {
         merged.add(
             alloc,
             entries,
-            pick_group(alloc, trees, list_at(lists, *leader))?,
+            pick_group(alloc, trees, children_at(lists, *leader))?,
         )?;
     }
     Ok(merged)
@@ -206,7 +208,7 @@ fn merge_by_table(
 {
     let leaders = Leaders::new(alloc, state, entries, &trees)?;
     let leads = leaders.leads(alloc, entries, &trees)?;
-    let lists = list_children(alloc, &leads)?;
+    let lists = children_by_parent(alloc, &leads)?;
     let merged = merge_listed(alloc, entries, &trees, &leaders.places, &lists)?;
     Ok(Merged {
         trees: keep_without_subject(entries, trees, merged.trees)?,
@@ -216,18 +218,18 @@ fn merge_by_table(
 
 /// The trees below the root, given those before step 5 in order: after it, by a table where a state
 /// for it is given and else by comparisons; or as they were, where it is left out.
-pub fn gather(
+pub fn merge_by_subject(
     alloc: Global,
     merge: bool,
     state: Option<RandomState>,
     entries: &[Entry],
     trees: Vec<Tree>,
 ) -> Result<Merged, Memory>
-    ensures trees { IfOk result (λ merged. merged.trees.items ≡ (top_after entries.now merge trees.items).trees) }
-    ensures links { IfOk result (λ merged. merged.links.items ≡ (top_after entries.now merge trees.items).links) }
+    ensures trees { IfOk result (λ merged. merged.trees.items ≡ (merged_if_enabled entries.now merge trees.items).trees) }
+    ensures links { IfOk result (λ merged. merged.links.items ≡ (merged_if_enabled entries.now merge trees.items).links) }
 {
     if !merge {
-        return Ok(Merged::unmerged(alloc, trees));
+        return Ok(Merged::without_links(alloc, trees));
     }
     match state {
         Some(state) => merge_by_table(alloc, state, entries, trees),

@@ -1,9 +1,9 @@
 //! What a threader is, and `threads`, which asks one and makes the rows.
 
 ghost use Rattle.std.specs.Prelude.{◌≡◌, ◌≤◌, ◌<◌, IfOk, length};
-ghost use Rattle.thread_links.specs.Containers.{count_of};
-ghost use Rattle.thread_links.specs.Links.{Linked, IsLinkedAs, links_of, parent_of};
-ghost use Rattle.thread_core.specs.Threads.{rows_of, threads_of};
+ghost use Rattle.thread_links.specs.Containers.{container_count};
+ghost use Rattle.thread_links.specs.Links.{LinkedContainers, IsForestOfLinks, links_of, parent_of};
+ghost use Rattle.thread_core.specs.Threads.{rows_of_parents, threads_of};
 
 use crate::row::Row;
 use mail_core::Memory;
@@ -18,7 +18,7 @@ pub trait Threader {
     type Links;
 
     /// How many containers there are, and the links by number, however they are kept.
-    ghost linked: { Self.Links → Linked };
+    ghost linked: { Self.Links → LinkedContainers };
 
     /// Step 1: the links that the references make.
     fn join<L: Ledger>(
@@ -27,7 +27,7 @@ pub trait Threader {
         entries: &[Entry],
         steps: &mut Steps<L>,
     ) -> Result<Self::Links, Memory>
-        ensures step_one { IfOk result (λ links. IsLinkedAs (count_of entries.now) (links_of entries.now)
+        ensures step_one { IfOk result (λ links. IsForestOfLinks (container_count entries.now) (links_of entries.now)
             (linked links)) };
 
     /// Steps 2 to 6 over any links, in preorder, step 5 only where `merge` is true: the first
@@ -42,7 +42,7 @@ pub trait Threader {
     ) -> Result<Vec<Row>, Memory>
         requires { length entries.now ≤ (linked links).count }
         ensures steps_two_to_six { IfOk result
-            (λ rows. rows.items ≡ rows_of entries.now merge (linked links).count
+            (λ rows. rows.items ≡ rows_of_parents entries.now merge (linked links).count
             (parent_of (linked links).links)) };
 }
 

@@ -1,15 +1,15 @@
 -- What the clauses of private functions speak of.
 use Rattle.std.specs.Prelude.{◌<◌, not, List, [], ◌∷◌, filter}
-use Rattle.mail_core.specs.MsgIds.{Id}
-use Rattle.thread_links.specs.Containers.{same_id, number_of_id, count_of}
+use Rattle.mail_core.specs.MsgIds.{MessageId}
+use Rattle.thread_links.specs.Containers.{same_id, container_number_of_id, container_count}
 use Rattle.thread_links.specs.declared.entry.Entry.{Entry}
 
 -- ids put before others, each once
-abbrev pub distinct_onto : List Id → List Id → List Id
-distinct_onto [] others = others
-distinct_onto (id ∷ ids) others = id ∷ filter (λ other. not (same_id id other)) (distinct_onto ids others)
+abbrev pub distinct_ids_before : List MessageId → List MessageId → List MessageId
+distinct_ids_before [] others = others
+distinct_ids_before (id ∷ ids) others = id ∷ filter (λ other. not (same_id id other)) (distinct_ids_before ids others)
 
 -- each id has a number below the count
-abbrev pub AreNumbered : List Entry → List Id → Type 0
-AreNumbered entries [] = Unit {0}
-AreNumbered entries (id ∷ ids) = (number_of_id entries id < count_of entries) × AreNumbered entries ids
+abbrev pub HaveContainerNumbers : List Entry → List MessageId → Type 0
+HaveContainerNumbers entries [] = Unit {0}
+HaveContainerNumbers entries (id ∷ ids) = (container_number_of_id entries id < container_count entries) × HaveContainerNumbers entries ids

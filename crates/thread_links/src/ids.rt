@@ -2,11 +2,11 @@
 
 ghost use Rattle.std.specs.HashMap.{get_by};
 ghost use Rattle.std.specs.Prelude.{◌≡◌, ◌&&◌, ◌<◌, ◌∷◌, ◌++◌, [], List, Some, if◌then◌else◌, is_none, length, map, IfOk, OnOk};
-ghost use Rattle.mail_core.specs.MsgIds.{Id};
+ghost use Rattle.mail_core.specs.MsgIds.{MessageId};
 ghost use Rattle.thread_links.specs.declared.entry.Entry.{Entry};
-ghost use Rattle.thread_links.specs.Containers.{same_id, owner, mentioned, count_of, number_of_id};
-ghost use Rattle.thread_links.specs.Ids.{place_of, AreNoted};
-ghost use Rattle.thread_links.specs.Parts.{AreNumbered};
+ghost use Rattle.thread_links.specs.Containers.{same_id, owner, referenced_ids, container_count, container_number_of_id};
+ghost use Rattle.thread_links.specs.Ids.{place_of_container, NumbersContainers};
+ghost use Rattle.thread_links.specs.Parts.{HaveContainerNumbers};
 
 use crate::entry::Entry;
 use mail_core::{Memory, MsgIdRef, References};
@@ -28,7 +28,7 @@ fn add<'a>(
     number: usize,
 ) -> Result<bool, Memory>
     ensures added { IfOk result (λ added. added ≡ is_none (get_by (same_id id.entry) numbers.old)) }
-    ensures numbers { OnOk result ((other : Id)
+    ensures numbers { OnOk result ((other : MessageId)
         → get_by (same_id other) numbers.new
         ≡ (if is_none (get_by (same_id id.entry) numbers.old) && same_id id.entry other
         then Some number else get_by (same_id other) numbers.old)) }
@@ -47,9 +47,9 @@ fn add_message<'a>(
     place: usize,
 ) -> Result<(), Memory>
     ensures { (before : List Entry) → length before ≡ place
-        → ((id : Id) → get_by (same_id id) numbers.old ≡ place_of (owner before id))
-        → OnOk result ((id : Id) → get_by (same_id id) numbers.new
-        ≡ place_of (owner (before ++ entry.now ∷ []) id)) }
+        → ((id : MessageId) → get_by (same_id id) numbers.old ≡ place_of_container (owner before id))
+        → OnOk result ((id : MessageId) → get_by (same_id id) numbers.new
+        ≡ place_of_container (owner (before ++ entry.now ∷ []) id)) }
 {
     match &entry.id {
         None => Ok(()),
@@ -66,7 +66,7 @@ fn number_messages<'a>(
     state: RandomState,
     entries: &'a [Entry],
 ) -> Result<HashMap<MsgIdRef<'a>, usize, RandomState>, Memory>
-    ensures { IfOk result (λ numbers. (id : Id) → get_by (same_id id) numbers ≡ place_of (owner entries.entry.now id)) }
+    ensures { IfOk result (λ numbers. (id : MessageId) → get_by (same_id id) numbers ≡ place_of_container (owner entries.entry.now id)) }
 {
     let mut numbers = HashMap::with_hasher(alloc, state);
     for place in 0..entries.len() {
@@ -79,9 +79,9 @@ impl<'a> Ids<'a> {
     /// Gives an id the next number unless it has one. More numbers than there are take more memory
     /// than there is.
     fn note(&mut self, id: MsgIdRef<'a>) -> Result<(), Memory>
-        ensures { (entries : List Entry) (refs : List Id)
-            → AreNoted entries refs self.old.count (λ other. get_by (same_id other) self.old.numbers)
-            → OnOk result (AreNoted entries (refs ++ id.entry ∷ []) self.new.count
+        ensures { (entries : List Entry) (refs : List MessageId)
+            → NumbersContainers entries refs self.old.count (λ other. get_by (same_id other) self.old.numbers)
+            → OnOk result (NumbersContainers entries (refs ++ id.entry ∷ []) self.new.count
             (λ other. get_by (same_id other) self.new.numbers)) }
     {
         let next = self.count.checked_add(1).ok_or(Memory)?;
@@ -94,9 +94,9 @@ impl<'a> Ids<'a> {
 
     /// The same for each of some ids in turn.
     fn note_all(&mut self, ids: &'a References) -> Result<(), Memory>
-        ensures { (entries : List Entry) (refs : List Id)
-            → AreNoted entries refs self.old.count (λ other. get_by (same_id other) self.old.numbers)
-            → OnOk result (AreNoted entries (refs ++ ids.entry.now) self.new.count
+        ensures { (entries : List Entry) (refs : List MessageId)
+            → NumbersContainers entries refs self.old.count (λ other. get_by (same_id other) self.old.numbers)
+            → OnOk result (NumbersContainers entries (refs ++ ids.entry.now) self.new.count
             (λ other. get_by (same_id other) self.new.numbers)) }
     {
         for at in 0..ids.len() {
@@ -107,7 +107,7 @@ impl<'a> Ids<'a> {
 
     /// The numbers of the ids of messages and of their references.
     pub fn new(alloc: Global, state: RandomState, entries: &'a [Entry]) -> Result<Ids<'a>, Memory>
-        ensures { IfOk result (λ ids. AreNoted entries.entry.now (mentioned entries.entry.now) ids.count
+        ensures { IfOk result (λ ids. NumbersContainers entries.entry.now (referenced_ids entries.entry.now) ids.count
             (λ other. get_by (same_id other) ids.numbers)) }
     {
         let mut ids = Ids {
@@ -129,9 +129,9 @@ impl<'a> Ids<'a> {
 
     /// The number of an id that has one, else 0.
     fn number(&self, id: &MsgIdRef<'a>) -> usize
-        ensures { (entries : List Entry) → AreNoted entries (mentioned entries) self.now.count
+        ensures { (entries : List Entry) → NumbersContainers entries (referenced_ids entries) self.now.count
             (λ other. get_by (same_id other) self.now.numbers)
-            → number_of_id entries id.now < count_of entries → result ≡ number_of_id entries id.now }
+            → container_number_of_id entries id.now < container_count entries → result ≡ container_number_of_id entries id.now }
     {
         match self.numbers.get(id) {
             Some(number) => *number,
@@ -141,9 +141,9 @@ impl<'a> Ids<'a> {
 
     /// The numbers of references.
     pub fn numbers(&self, alloc: Global, refs: &'a References) -> Result<Vec<usize>, Memory>
-        ensures { (entries : List Entry) → AreNoted entries (mentioned entries) self.now.count
-            (λ other. get_by (same_id other) self.now.numbers) → AreNumbered entries refs.entry.now
-            → IfOk result (λ v. v.items ≡ map (number_of_id entries) refs.entry.now) }
+        ensures { (entries : List Entry) → NumbersContainers entries (referenced_ids entries) self.now.count
+            (λ other. get_by (same_id other) self.now.numbers) → HaveContainerNumbers entries refs.entry.now
+            → IfOk result (λ v. v.items ≡ map (container_number_of_id entries) refs.entry.now) }
     {
         let mut numbers = Vec::new(alloc);
         for at in 0..refs.len() {

@@ -2,8 +2,8 @@
 
 ghost use Rattle.std.specs.Prelude.{◌≡◌, ◌≤◌, ◌<◌, ◌∷◌, ◌++◌, not, length, filter, OnOk, IfOk, IfSome, false};
 ghost use Rattle.std.specs.Option.{option_map_or};
-ghost use Rattle.thread_links.specs.Containers.{same_id, has_id, owner, real, dummy, is_dummy, dummies, index_of, number_of_id};
-ghost use Rattle.thread_links.specs.Parts.{distinct_onto};
+ghost use Rattle.thread_links.specs.Containers.{same_id, has_id, owner, real, dummy, is_dummy, dummy_ids, index_of, container_number_of_id};
+ghost use Rattle.thread_links.specs.Parts.{distinct_ids_before};
 
 use crate::entry::Entry;
 use mail_core::{Memory, MsgId, MsgIdRef, References};
@@ -75,8 +75,8 @@ fn find_index(ids: &[MsgId], id: &MsgIdRef<'_>) -> usize
 
 /// The number of the container of an id.
 pub fn find_number(entries: &[Entry], unowned: &[MsgId], id: &MsgIdRef<'_>) -> usize
-    requires { unowned.now ≡ dummies entries.now }
-    ensures { result ≡ number_of_id entries.now id.now }
+    requires { unowned.now ≡ dummy_ids entries.now }
+    ensures { result ≡ container_number_of_id entries.now id.now }
 {
     match find_owner(entries, id) {
         Some(place) => place,
@@ -87,7 +87,7 @@ pub fn find_number(entries: &[Entry], unowned: &[MsgId], id: &MsgIdRef<'_>) -> u
 /// Puts ids before others, each once.
 #[tactic(auto, using(crate::proofs::NumberLemmas::onto_more))]
 fn put_all_first(alloc: Global, ids: &mut Vec<MsgId>, refs: &References) -> Result<(), Memory>
-    ensures { OnOk result (ids.new.items ≡ distinct_onto refs.now ids.old.items) }
+    ensures { OnOk result (ids.new.items ≡ distinct_ids_before refs.now ids.old.items) }
 {
     let mut left = refs.len();
     while left > 0 {
@@ -100,7 +100,7 @@ fn put_all_first(alloc: Global, ids: &mut Vec<MsgId>, refs: &References) -> Resu
 /// The mentioned ids that no message has, in the order of first mention.
 #[tactic(auto, using(crate::proofs::NumberLemmas::mentioned_more))]
 pub fn find_dummies(alloc: Global, entries: &[Entry]) -> Result<Vec<MsgId>, Memory>
-    ensures { IfOk result (λ ids. ids.items ≡ dummies entries.now) }
+    ensures { IfOk result (λ ids. ids.items ≡ dummy_ids entries.now) }
 {
     let mut ids = Vec::new(alloc);
     let mut left = entries.len();

@@ -1,5 +1,5 @@
 use Rattle.std.proofs.Common.{◌∙◌, ap, inl, map, refl}
-use Rattle.sift_run.specs.Streams.{sent}
+use Rattle.sift_run.specs.Streams.{output_stream_state}
 use Rattle.archive.proofs.ProgramLemmas.{flushed, of_lent}
 use Rattle.archive.proofs.run_words.Goals as goal
 
@@ -11,7 +11,7 @@ returns g c =
       stopped = ran;
       ends = of_lent (ap (map (λ w. w.now)) c.as_slice.ensures.value ∙ c.in-Ok.ensures)
           (record { done = it.done; holds = it.holds; refused = it.refused; bad = it.bad; stopped = it.stopped });
-      passed = flushed (sent g.Y.Output.Sink g.Y.Output.Outgoing ran.output) (sent g.Y.Output.Sink g.Y.Output.Outgoing c.flush.new.self) c.flush.result
+      passed = flushed (output_stream_state g.Y.Output.Sink g.Y.Output.BufferedSink ran.output) (output_stream_state g.Y.Output.Sink g.Y.Output.BufferedSink c.flush.new.self) c.flush.result
           c.flush.ensures.told c.flush.ensures.sent c.flush.ensures.quiet c.flush.ensures.cause;
       rest = refl;
     })

@@ -4,11 +4,11 @@ ghost use Rattle.std.specs.Prelude.{⊤, ◌≡◌, ◌++◌, ◌∷◌, [], map
 ghost use Rattle.std.specs.List.{list_any};
 ghost use Rattle.std.specs.Option.{IsSomeAnd};
 ghost use Rattle.sqlite.specs.Held.{state};
-ghost use Rattle.archive_machine.specs.Questions.{is_address_of};
-ghost use Rattle.archive_machine.specs.Machine.{readdressed};
+ghost use Rattle.archive_model.specs.Questions.{is_address_of};
+ghost use Rattle.archive_model.specs.Machine.{with_replaced_address};
 ghost use Rattle.archive_tables.specs.Tables.{archive_of};
-ghost use Rattle.archive_tables.specs.Statements.{adding_address, changing_address};
-ghost use Rattle.archive_tables.specs.Calls.{Asks, Writes};
+ghost use Rattle.archive_tables.specs.Statements.{insert_address_statement, update_address_statement};
+ghost use Rattle.archive_tables.specs.Calls.{AnswersFromDatabase, WritesByStatement};
 
 use crate::rows::read_name;
 use sqlite::{Alter, Connection, Error, params};
@@ -19,11 +19,11 @@ pub fn add_address<S: Alter>(
     person: &str,
     address: &str,
 ) -> Result<usize, Error>
-    ensures { Writes S.Store conn.old conn.new result (λ _. ⊤)
+    ensures { WritesByStatement S.Store conn.old conn.new result (λ _. ⊤)
         (λ a. record a {
           addresses = a.addresses ++ record { person = person.now; address = address.now } ∷ [];
         })
-        (adding_address (record { person = person.now; address = address.now })) }
+        (insert_address_statement (record { person = person.now; address = address.now })) }
 {
     conn.execute(
         "INSERT INTO address (person, address) VALUES (?1, ?2)",
@@ -33,7 +33,7 @@ pub fn add_address<S: Alter>(
 
 /// Whether the person has an address.
 pub fn has_address<S: Alter>(conn: &mut Connection<S>, person: &str) -> Result<bool, Error>
-    ensures { Asks S.Store conn.old conn.new result
+    ensures { AnswersFromDatabase S.Store conn.old conn.new result
         (λ a found. found ≡ list_any (is_address_of person.now) a.addresses) ⊥ }
 {
     let rows = conn.query_all(
@@ -49,12 +49,12 @@ pub fn change_address<S: Alter>(
     person: &str,
     address: &str,
 ) -> Result<usize, Error>
-    ensures { Writes S.Store conn.old conn.new result (λ _. ⊤)
+    ensures { WritesByStatement S.Store conn.old conn.new result (λ _. ⊤)
         (λ a. record a {
           addresses = map
-              (readdressed (record { person = person.now; address = address.now })) a.addresses;
+              (with_replaced_address (record { person = person.now; address = address.now })) a.addresses;
         })
-        (changing_address (record { person = person.now; address = address.now })) }
+        (update_address_statement (record { person = person.now; address = address.now })) }
 {
     conn.execute(
         "UPDATE address SET address = ?2 WHERE person = ?1",
@@ -67,7 +67,7 @@ pub fn find_address<S: Alter>(
     conn: &mut Connection<S>,
     person: &str,
 ) -> Result<Option<String>, Error>
-    ensures { Asks S.Store conn.old conn.new result
+    ensures { AnswersFromDatabase S.Store conn.old conn.new result
         (λ a found. option_map string_bytes found
         ≡ option_map (λ x. x.address) (find (is_address_of person.now) a.addresses))
         (IsSomeAnd (find (is_address_of person.now) (archive_of (state S.Store conn.old)).addresses)

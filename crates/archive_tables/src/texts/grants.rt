@@ -2,10 +2,10 @@
 
 ghost use Rattle.std.specs.Prelude.{⊤, ◌≡◌, ◌++◌, ◌∷◌, [], ◌&&◌, not, false, bytes_eq, filter, map, if◌then◌else◌};
 ghost use Rattle.std.specs.List.{list_any};
-ghost use Rattle.archive_machine.specs.Questions.{is_grant};
-ghost use Rattle.archive_tables.specs.Rows.{grant_shown};
-ghost use Rattle.archive_tables.specs.Statements.{adding_grant, changing_grant, removing_grant};
-ghost use Rattle.archive_tables.specs.Calls.{Asks, Writes};
+ghost use Rattle.archive_model.specs.Questions.{is_grant_of_rank};
+ghost use Rattle.archive_tables.specs.Rows.{grant_result_row};
+ghost use Rattle.archive_tables.specs.Statements.{insert_grant_statement, update_grant_statement, delete_grant_statement};
+ghost use Rattle.archive_tables.specs.Calls.{AnswersFromDatabase, WritesByStatement};
 
 use sqlite::{Alter, Connection, Error, Row, params};
 
@@ -18,8 +18,8 @@ pub fn add_grant<S: Alter>(
     from_day: i64,
     until_day: i64,
 ) -> Result<usize, Error>
-    ensures { Writes S.Store conn.old conn.new result
-        (λ a. list_any (is_grant person.now list.now rank) a.grants ≡ false)
+    ensures { WritesByStatement S.Store conn.old conn.new result
+        (λ a. list_any (is_grant_of_rank person.now list.now rank) a.grants ≡ false)
         (λ a. record a {
           grants = a.grants ++ record {
             person = person.now;
@@ -29,7 +29,7 @@ pub fn add_grant<S: Alter>(
             until_day = until_day;
           } ∷ [];
         })
-        (adding_grant (record { person = person.now; list = list.now; rank = rank; from_day = from_day; until_day = until_day })) }
+        (insert_grant_statement (record { person = person.now; list = list.now; rank = rank; from_day = from_day; until_day = until_day })) }
 {
     conn.execute(
         "INSERT INTO grant_row (person, list, kind, from_day, until_day) VALUES (?1, ?2, ?3, ?4, ?5)",
@@ -44,8 +44,8 @@ pub fn has_grant<S: Alter>(
     list: &str,
     rank: i64,
 ) -> Result<bool, Error>
-    ensures { Asks S.Store conn.old conn.new result
-        (λ a found. found ≡ list_any (is_grant person.now list.now rank) a.grants) ⊥ }
+    ensures { AnswersFromDatabase S.Store conn.old conn.new result
+        (λ a found. found ≡ list_any (is_grant_of_rank person.now list.now rank) a.grants) ⊥ }
 {
     let rows = conn.query_all(
         "SELECT kind FROM grant_row WHERE person = ?1 AND list = ?2 AND kind = ?3",
@@ -63,12 +63,12 @@ pub fn change_grant<S: Alter>(
     from_day: i64,
     until_day: i64,
 ) -> Result<usize, Error>
-    ensures { Writes S.Store conn.old conn.new result (λ _. ⊤)
+    ensures { WritesByStatement S.Store conn.old conn.new result (λ _. ⊤)
         (λ a. record a {
-          grants = map (λ g. if is_grant person.now list.now rank g
+          grants = map (λ g. if is_grant_of_rank person.now list.now rank g
               then record g { from_day = from_day; until_day = until_day } else g) a.grants;
         })
-        (changing_grant (record { person = person.now; list = list.now; rank = rank; from_day = from_day; until_day = until_day })) }
+        (update_grant_statement (record { person = person.now; list = list.now; rank = rank; from_day = from_day; until_day = until_day })) }
 {
     conn.execute(
         "UPDATE grant_row SET from_day = ?4, until_day = ?5 WHERE person = ?1 AND list = ?2 AND kind = ?3",
@@ -83,11 +83,11 @@ pub fn remove_grant<S: Alter>(
     list: &str,
     rank: i64,
 ) -> Result<usize, Error>
-    ensures { Writes S.Store conn.old conn.new result (λ _. ⊤)
+    ensures { WritesByStatement S.Store conn.old conn.new result (λ _. ⊤)
         (λ a. record a {
-          grants = filter (λ g. not (is_grant person.now list.now rank g)) a.grants;
+          grants = filter (λ g. not (is_grant_of_rank person.now list.now rank g)) a.grants;
         })
-        (removing_grant person.now list.now rank) }
+        (delete_grant_statement person.now list.now rank) }
 {
     conn.execute(
         "DELETE FROM grant_row WHERE person = ?1 AND list = ?2 AND kind = ?3",
@@ -101,9 +101,9 @@ pub fn grants_of<S: Alter>(
     person: &str,
     list: &str,
 ) -> Result<Vec<Row>, Error>
-    ensures { Asks S.Store conn.old conn.new result
+    ensures { AnswersFromDatabase S.Store conn.old conn.new result
         (λ a rows. rows.items
-        ≡ map grant_shown
+        ≡ map grant_result_row
         (filter (λ g. bytes_eq g.person person.now && bytes_eq g.list list.now) a.grants))
         ⊥ }
 {

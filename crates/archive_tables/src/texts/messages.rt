@@ -3,13 +3,14 @@
 ghost use Rattle.std.specs.Prelude.{⊤, ◌≡◌, ◌<◌, ◌++◌, ◌∷◌, [], false, Some, None, bytes_eq, filter, find, length, map, option_map, if◌then◌else◌, IfOk, MatchOption, IsUtf8};
 ghost use Rattle.std.specs.List.{list_any};
 ghost use Rattle.std.specs.Option.{IsSomeAnd};
-ghost use Rattle.archive_machine.specs.Questions.{is_message};
+ghost use Rattle.archive_model.specs.Questions.{is_message_at_key};
 ghost use Rattle.sqlite.specs.Held.{state};
 ghost use Rattle.sqlite.specs.State.{HasCleanDisk};
-ghost use Rattle.archive_tables.specs.Tables.{IsKept, reaches_number};
-ghost use Rattle.archive_tables.specs.Rows.{new_message, message_in, marks_of, dated_marks_of, places_in, month_places, author_places, message_at, place_shown};
-ghost use Rattle.archive_tables.specs.Statements.{adding_message, withdrawing, holding_back, freeing};
-ghost use Rattle.archive_tables.specs.Calls.{Asks, AsksAnywhere, AsksRows, Writes};
+ghost use Rattle.archive_tables.specs.Tables.{IsArchiveAtRest, has_rowid_at_least};
+ghost use Rattle.archive_tables.specs.Rows.{unmarked_message, message_from_result_row, decoded_marks, decoded_dated_marks};
+ghost use Rattle.archive_tables.specs.Rows.{message_rowids_in, month_places, author_places, message_at, rowid_result_row};
+ghost use Rattle.archive_tables.specs.Statements.{insert_message_statement, set_withdrawn_statement, set_embargo_statement, clear_embargo_statement};
+ghost use Rattle.archive_tables.specs.Calls.{AnswersFromDatabase, AnswersOrFailsByFault, AnswersFromRows, WritesByStatement};
 
 use crate::rows::{
     DatedMarksRow, MarksRow, MessageRow, read_dated_marks, read_marks, read_message,
@@ -29,13 +30,13 @@ pub fn add_message<S: Alter>(
     month: i64,
     author: &[u8],
 ) -> Result<usize, Error>
-    ensures { Writes S.Store conn.old conn.new result
-        (λ a. list_any (is_message list.now key.now) a.messages ≡ false)
+    ensures { WritesByStatement S.Store conn.old conn.new result
+        (λ a. list_any (is_message_at_key list.now key.now) a.messages ≡ false)
         (λ a. record a {
-          messages = a.messages ++ new_message list.now key.now sender.now arrival text.now ∷ [];
-          filings = a.filings ++ record { sent = sent; month = month; author = author.now } ∷ [];
+          messages = a.messages ++ unmarked_message list.now key.now sender.now arrival text.now ∷ [];
+          index_columns = a.index_columns ++ record { sent = sent; month = month; author = author.now } ∷ [];
         })
-        (adding_message (new_message list.now key.now sender.now arrival text.now)
+        (insert_message_statement (unmarked_message list.now key.now sender.now arrival text.now)
         (record { sent = sent; month = month; author = author.now })) }
 {
     conn.execute(
@@ -46,8 +47,8 @@ pub fn add_message<S: Alter>(
 
 /// Whether the list has a message of the key.
 pub fn has_message<S: Alter>(conn: &mut Connection<S>, list: &str, key: &str) -> Result<bool, Error>
-    ensures { AsksAnywhere S.Store conn.old conn.new result
-        (λ a found. found ≡ list_any (is_message list.now key.now) a.messages) }
+    ensures { AnswersOrFailsByFault S.Store conn.old conn.new result
+        (λ a found. found ≡ list_any (is_message_at_key list.now key.now) a.messages) }
 {
     let rows = conn.query_all(
         "SELECT pos FROM message WHERE list = ?1 AND key = ?2",
@@ -62,9 +63,9 @@ pub fn message<S: Alter>(
     list: &str,
     key: &str,
 ) -> Result<Option<MessageRow>, Error>
-    ensures { Asks S.Store conn.old conn.new result
-        (λ a found. option_map (message_in list.now) found
-        ≡ find (is_message list.now key.now) a.messages) ⊥ }
+    ensures { AnswersFromDatabase S.Store conn.old conn.new result
+        (λ a found. option_map (message_from_result_row list.now) found
+        ≡ find (is_message_at_key list.now key.now) a.messages) ⊥ }
 {
     let rows = conn.query_all(
         "SELECT key, sender, arrival, text, withdrawn, embargo FROM message WHERE list = ?1 AND key = ?2 ORDER BY pos",
@@ -82,8 +83,8 @@ pub fn marks<S: Alter>(
     list: &str,
     key: &str,
 ) -> Result<Option<MarksRow>, Error>
-    ensures { Asks S.Store conn.old conn.new result
-        (λ a found. found ≡ option_map marks_of (find (is_message list.now key.now) a.messages)) ⊥ }
+    ensures { AnswersFromDatabase S.Store conn.old conn.new result
+        (λ a found. found ≡ option_map decoded_marks (find (is_message_at_key list.now key.now) a.messages)) ⊥ }
 {
     let rows = conn.query_all(
         "SELECT withdrawn, embargo FROM message WHERE list = ?1 AND key = ?2 ORDER BY pos",
@@ -97,8 +98,8 @@ pub fn marks<S: Alter>(
 
 /// The numbers of the list's messages, in mailbox order. `read_place` reads a row.
 pub fn places<S: Alter>(conn: &mut Connection<S>, list: &str) -> Result<Vec<Row>, Error>
-    ensures { AsksRows S.Store conn.old conn.new result
-        (λ trees rows. rows.items ≡ map place_shown (places_in trees list.now)) ⊥ }
+    ensures { AnswersFromRows S.Store conn.old conn.new result
+        (λ trees rows. rows.items ≡ map rowid_result_row (message_rowids_in trees list.now)) ⊥ }
 {
     conn.query_all(
         "SELECT pos FROM message WHERE list = ?1 ORDER BY pos",
@@ -113,8 +114,8 @@ pub fn month_places<S: Alter>(
     list: &str,
     month: i64,
 ) -> Result<Vec<Row>, Error>
-    ensures { AsksRows S.Store conn.old conn.new result
-        (λ trees rows. rows.items ≡ map place_shown (month_places trees list.now month)) ⊥ }
+    ensures { AnswersFromRows S.Store conn.old conn.new result
+        (λ trees rows. rows.items ≡ map rowid_result_row (month_places trees list.now month)) ⊥ }
 {
     conn.query_all(
         "SELECT pos FROM message WHERE list = ?1 AND month = ?2 ORDER BY sent, pos",
@@ -128,8 +129,8 @@ pub fn author_places<S: Alter>(
     list: &str,
     key: &[u8],
 ) -> Result<Vec<Row>, Error>
-    ensures { AsksRows S.Store conn.old conn.new result
-        (λ trees rows. rows.items ≡ map place_shown (author_places trees list.now key.now)) ⊥ }
+    ensures { AnswersFromRows S.Store conn.old conn.new result
+        (λ trees rows. rows.items ≡ map rowid_result_row (author_places trees list.now key.now)) ⊥ }
 {
     conn.query_all(
         "SELECT pos FROM message WHERE list = ?1 AND author = ?2 ORDER BY sent, pos",
@@ -142,9 +143,9 @@ pub fn message_at<S: Alter>(
     conn: &mut Connection<S>,
     place: i64,
 ) -> Result<Option<MessageRow>, Error>
-    ensures { AsksRows S.Store conn.old conn.new result
+    ensures { AnswersFromRows S.Store conn.old conn.new result
         (λ trees found. MatchOption found (message_at trees place ≡ None)
-        (λ row. (m : _) × (message_at trees place ≡ Some m) × (message_in m.list row ≡ m)))
+        (λ row. (m : _) × (message_at trees place ≡ Some m) × (message_from_result_row m.list row ≡ m)))
         (IsSomeAnd (message_at (state S.Store conn.old).now.trees place) (λ m. ¬ IsUtf8 m.key)) }
 {
     let rows = conn.query_all(
@@ -162,8 +163,8 @@ pub fn marks_at<S: Alter>(
     conn: &mut Connection<S>,
     place: i64,
 ) -> Result<Option<DatedMarksRow>, Error>
-    ensures { AsksRows S.Store conn.old conn.new result
-        (λ trees found. found ≡ option_map dated_marks_of (message_at trees place)) ⊥ }
+    ensures { AnswersFromRows S.Store conn.old conn.new result
+        (λ trees found. found ≡ option_map decoded_dated_marks (message_at trees place)) ⊥ }
 {
     let rows = conn.query_all(
         "SELECT arrival, withdrawn, embargo FROM message WHERE pos = ?1 ORDER BY pos",
@@ -177,7 +178,7 @@ pub fn marks_at<S: Alter>(
 
 /// How many messages the list has. It reads the number of each.
 pub fn count_messages<S: Alter>(conn: &mut Connection<S>, list: &str) -> Result<usize, Error>
-    ensures { Asks S.Store conn.old conn.new result
+    ensures { AnswersFromDatabase S.Store conn.old conn.new result
         (λ a count. count ≡ length (filter (λ m. bytes_eq m.list list.now) a.messages)) ⊥ }
 {
     let rows = conn.query_all("SELECT pos FROM message WHERE list = ?1", params![list])?;
@@ -187,10 +188,10 @@ pub fn count_messages<S: Alter>(conn: &mut Connection<S>, list: &str) -> Result<
 /// Whether some message has a number of at least the limit. Where none has, there are fewer messages than the limit. It takes
 /// the same time however many messages there are.
 pub fn reaches<S: Alter>(conn: &mut Connection<S>, limit: u32) -> Result<bool, Error>
-    ensures asks { Asks S.Store conn.old conn.new result
+    ensures asks { AnswersFromDatabase S.Store conn.old conn.new result
         (λ a found. 0 < limit → found ≡ false → length a.messages < limit) ⊥ }
-    ensures number { HasCleanDisk (state S.Store conn.new) → IsKept (state S.Store conn.old) →
-        IfOk result (λ found. found ≡ reaches_number (state S.Store conn.old).now.trees limit) }
+    ensures number { HasCleanDisk (state S.Store conn.new) → IsArchiveAtRest (state S.Store conn.old) →
+        IfOk result (λ found. found ≡ has_rowid_at_least (state S.Store conn.old).now.trees limit) }
 {
     let rows = conn.query_all(
         "SELECT pos FROM message WHERE pos >= ?1 LIMIT 1",
@@ -206,13 +207,13 @@ pub fn set_withdrawn<S: Alter>(
     key: &str,
     by: i64,
 ) -> Result<usize, Error>
-    ensures { Writes S.Store conn.old conn.new result (λ _. ⊤)
+    ensures { WritesByStatement S.Store conn.old conn.new result (λ _. ⊤)
         (λ a. record a {
           messages = map
-              (λ m. if is_message list.now key.now m then record m
+              (λ m. if is_message_at_key list.now key.now m then record m
               { withdrawn = by } else m) a.messages;
         })
-        (withdrawing list.now key.now by) }
+        (set_withdrawn_statement list.now key.now by) }
 {
     conn.execute(
         "UPDATE message SET withdrawn = ?3 WHERE list = ?1 AND key = ?2",
@@ -227,13 +228,13 @@ pub fn set_embargo<S: Alter>(
     key: &str,
     until: i64,
 ) -> Result<usize, Error>
-    ensures { Writes S.Store conn.old conn.new result (λ _. ⊤)
+    ensures { WritesByStatement S.Store conn.old conn.new result (λ _. ⊤)
         (λ a. record a {
           messages = map
-              (λ m. if is_message list.now key.now m then record m
+              (λ m. if is_message_at_key list.now key.now m then record m
               { embargo = Some until } else m) a.messages;
         })
-        (holding_back list.now key.now until) }
+        (set_embargo_statement list.now key.now until) }
 {
     conn.execute(
         "UPDATE message SET embargo = ?3 WHERE list = ?1 AND key = ?2",
@@ -247,13 +248,13 @@ pub fn clear_embargo<S: Alter>(
     list: &str,
     key: &str,
 ) -> Result<usize, Error>
-    ensures { Writes S.Store conn.old conn.new result (λ _. ⊤)
+    ensures { WritesByStatement S.Store conn.old conn.new result (λ _. ⊤)
         (λ a. record a {
           messages = map
-              (λ m. if is_message list.now key.now m then record m
+              (λ m. if is_message_at_key list.now key.now m then record m
               { embargo = None } else m) a.messages;
         })
-        (freeing list.now key.now) }
+        (clear_embargo_statement list.now key.now) }
 {
     conn.execute(
         "UPDATE message SET embargo = NULL WHERE list = ?1 AND key = ?2",

@@ -3,14 +3,14 @@
 ghost use Rattle.std.specs.Prelude.{◌≡◌, ◌++◌, ◌∷◌, [], ⊤, map, find, option_map, OnOk};
 ghost use Rattle.sqlite.specs.Held.{state};
 ghost use Rattle.sqlite.specs.State.{HasCleanDisk};
-ghost use Rattle.archive_machine.specs.Records.{Archive};
-ghost use Rattle.archive_machine.specs.Questions.{is_option_of};
-ghost use Rattle.archive_machine.specs.Machine.{with_merge};
+ghost use Rattle.archive_model.specs.Records.{Archive};
+ghost use Rattle.archive_model.specs.Questions.{is_option_of};
+ghost use Rattle.archive_model.specs.Machine.{with_merge_setting};
 ghost use Rattle.archive_tables.specs.Schema.{schema_2};
-ghost use Rattle.archive_tables.specs.Tables.{merge_number};
-ghost use Rattle.archive_tables.specs.Making.{IsMoving, MovesWithin, QuietWithin, EndsStep};
-ghost use Rattle.archive_tables.specs.Statements.{adding_option, changing_option, copying_options};
-ghost use Rattle.archive_tables.specs.Calls.{Asks, Writes};
+ghost use Rattle.archive_tables.specs.Tables.{merge_flag};
+ghost use Rattle.archive_tables.specs.Making.{IsMigratingTables, MigratesSchema, CrashAddsNothingInTransaction, EndsStep};
+ghost use Rattle.archive_tables.specs.Statements.{insert_option_statement, update_option_statement, backfill_options_statement};
+ghost use Rattle.archive_tables.specs.Calls.{AnswersFromDatabase, WritesByStatement};
 
 use crate::rows::read_merge;
 use sqlite::{Alter, Connection, Error, params};
@@ -21,9 +21,9 @@ pub fn add_option<S: Alter>(
     list: &str,
     merge: bool,
 ) -> Result<usize, Error>
-    ensures { Writes S.Store conn.old conn.new result (λ _. ⊤)
+    ensures { WritesByStatement S.Store conn.old conn.new result (λ _. ⊤)
         (λ a. record a { options = a.options ++ record { list = list.now; merge = merge } ∷ [] })
-        (adding_option (record { list = list.now; merge = merge })) }
+        (insert_option_statement (record { list = list.now; merge = merge })) }
 {
     let number = merge_number(merge);
     conn.execute(
@@ -38,9 +38,9 @@ pub fn set_option<S: Alter>(
     list: &str,
     merge: bool,
 ) -> Result<usize, Error>
-    ensures { Writes S.Store conn.old conn.new result (λ _. ⊤)
-        (λ a. record a { options = map (with_merge list.now merge) a.options })
-        (changing_option (record { list = list.now; merge = merge })) }
+    ensures { WritesByStatement S.Store conn.old conn.new result (λ _. ⊤)
+        (λ a. record a { options = map (with_merge_setting list.now merge) a.options })
+        (update_option_statement (record { list = list.now; merge = merge })) }
 {
     let number = merge_number(merge);
     conn.execute(
@@ -51,7 +51,7 @@ pub fn set_option<S: Alter>(
 
 /// Whether the threads of a list are gathered by subject, where that is said.
 pub fn find_option<S: Alter>(conn: &mut Connection<S>, list: &str) -> Result<Option<bool>, Error>
-    ensures { Asks S.Store conn.old conn.new result
+    ensures { AnswersFromDatabase S.Store conn.old conn.new result
         (λ a found. found ≡ option_map (λ o. o.merge) (find (is_option_of list.now) a.options)) ⊥ }
 {
     let rows = conn.query_all(
@@ -68,12 +68,12 @@ pub fn find_option<S: Alter>(conn: &mut Connection<S>, list: &str) -> Result<Opt
 pub fn copy_options<S: Alter>(conn: &mut Connection<S>) -> Result<usize, Error>
     ensures moved { HasCleanDisk (state S.Store conn.new)
         → (before : _) (said : _) (archive : Archive)
-        → IsMoving (state S.Store conn.old) before schema_2 said 1 archive
+        → IsMigratingTables (state S.Store conn.old) before schema_2 said 1 archive
         → (state S.Store conn.old).now.trees 13 ≡ []
-        → OnOk result (IsMoving (state S.Store conn.new) before schema_2 said 2 archive) }
-    ensures within { MovesWithin S.Store conn.old conn.new result schema_2 schema_2 }
-    ensures quiet { QuietWithin S.Store conn.old conn.new schema_2 }
-    ensures ends { EndsStep S.Store conn.old conn.new result schema_2 copying_options }
+        → OnOk result (IsMigratingTables (state S.Store conn.new) before schema_2 said 2 archive) }
+    ensures within { MigratesSchema S.Store conn.old conn.new result schema_2 schema_2 }
+    ensures quiet { CrashAddsNothingInTransaction S.Store conn.old conn.new schema_2 }
+    ensures ends { EndsStep S.Store conn.old conn.new result schema_2 backfill_options_statement }
 {
     conn.execute(
         "INSERT INTO list_option (list, merge) SELECT name, 1 FROM list ORDER BY rowid",
@@ -83,7 +83,7 @@ pub fn copy_options<S: Alter>(conn: &mut Connection<S>) -> Result<usize, Error>
 
 /// What stands for it in the table.
 fn merge_number(merge: bool) -> i64
-    ensures { result ≡ merge_number merge }
+    ensures { result ≡ merge_flag merge }
 {
     if merge { 1 } else { 0 }
 }

@@ -5,8 +5,8 @@ ghost use Rattle.std.specs.List.{list_any};
 ghost use Rattle.std.specs.Option.{IsSomeAnd};
 ghost use Rattle.sqlite.specs.Held.{state};
 ghost use Rattle.archive_tables.specs.Tables.{archive_of};
-ghost use Rattle.archive_tables.specs.Statements.{adding_person};
-ghost use Rattle.archive_tables.specs.Calls.{Writes, Asks};
+ghost use Rattle.archive_tables.specs.Statements.{insert_person_statement};
+ghost use Rattle.archive_tables.specs.Calls.{WritesByStatement, AnswersFromDatabase};
 
 use crate::rows::read_name;
 use sqlite::{Alter, Connection, Error, params};
@@ -17,11 +17,11 @@ pub fn add_person<S: Alter>(
     name: &str,
     token: &str,
 ) -> Result<usize, Error>
-    ensures { Writes S.Store conn.old conn.new result (λ _. ⊤)
+    ensures { WritesByStatement S.Store conn.old conn.new result (λ _. ⊤)
         (λ a. record a {
           persons = a.persons ++ record { name = name.now; token = token.now } ∷ [];
         })
-        (adding_person (record { name = name.now; token = token.now })) }
+        (insert_person_statement (record { name = name.now; token = token.now })) }
 {
     conn.execute(
         "INSERT INTO person (name, token) VALUES (?1, ?2)",
@@ -31,7 +31,7 @@ pub fn add_person<S: Alter>(
 
 /// Whether there is a person of the name.
 pub fn has_person<S: Alter>(conn: &mut Connection<S>, name: &str) -> Result<bool, Error>
-    ensures { Asks S.Store conn.old conn.new result
+    ensures { AnswersFromDatabase S.Store conn.old conn.new result
         (λ a found. found ≡ list_any (λ p. bytes_eq p.name name.now) a.persons) ⊥ }
 {
     let rows = conn.query_all("SELECT name FROM person WHERE name = ?1", params![name])?;
@@ -40,7 +40,7 @@ pub fn has_person<S: Alter>(conn: &mut Connection<S>, name: &str) -> Result<bool
 
 /// Whether some person has the token.
 pub fn has_token<S: Alter>(conn: &mut Connection<S>, token: &str) -> Result<bool, Error>
-    ensures { Asks S.Store conn.old conn.new result
+    ensures { AnswersFromDatabase S.Store conn.old conn.new result
         (λ a found. found ≡ list_any (λ p. bytes_eq p.token token.now) a.persons) ⊥ }
 {
     let rows = conn.query_all("SELECT token FROM person WHERE token = ?1", params![token])?;
@@ -52,7 +52,7 @@ pub fn person_of_token<S: Alter>(
     conn: &mut Connection<S>,
     token: &str,
 ) -> Result<Option<String>, Error>
-    ensures { Asks S.Store conn.old conn.new result
+    ensures { AnswersFromDatabase S.Store conn.old conn.new result
         (λ a found. option_map string_bytes found
         ≡ option_map (λ p. p.name) (find (λ p. bytes_eq p.token token.now) a.persons))
         (IsSomeAnd (find (λ p. bytes_eq p.token token.now)

@@ -4,14 +4,19 @@ ghost use Rattle.std.specs.Prelude.{◌≡◌, pos, ◌∷◌, [], false, Some, 
 ghost use Rattle.sqlite.specs.declared.types.Value.TheVariants.{Int};
 ghost use Rattle.sqlite.specs.State.{HasCleanDisk};
 ghost use Rattle.sqlite.specs.Held.{state};
-ghost use Rattle.archive_tables.specs.Statements.{making_version, making_lists, making_persons, making_grants, making_messages, indexing_months};
-ghost use Rattle.archive_tables.specs.Statements.{indexing_authors, making_options, making_addresses, adding_version, changing_version};
-ghost use Rattle.archive_tables.specs.Schema.{no_schema, with_version, with_list, with_person, with_grant, with_message, with_month_index, schema_1, schema_2, archive_schema, schema_of};
-ghost use Rattle.archive_tables.specs.Tables.{IsHeld, IsHeldAs, IsKept, IsKnown, HasForm, form_of, newest_number, archive_by, archive_of};
-ghost use Rattle.archive_machine.specs.Records.{Archive};
-ghost use Rattle.archive_tables.specs.Rows.{versions_shown};
-ghost use Rattle.archive_tables.specs.Making.{IsMaking, IsWithin, IsMoving, IsMade, Makes, MovesWithin, EndsStep, EndsBegin, EndsCommit, EndsRollback, QuietWithin, IsBackTo, IsStopped, empty_archive};
-ghost use Rattle.archive_tables.specs.Calls.{StaysOver, RestsOver, Rests, IsBackAt, IsHeldOrBack, Lasts, Asks, IsCaused};
+ghost use Rattle.archive_tables.specs.Statements.{create_version_statement, create_list_statement, create_person_statement};
+ghost use Rattle.archive_tables.specs.Statements.{create_grant_statement, create_message_statement, create_month_index_statement};
+ghost use Rattle.archive_tables.specs.Statements.{create_author_index_statement, create_option_statement, create_address_statement, insert_version_statement, update_version_statement};
+ghost use Rattle.archive_tables.specs.Schema.{empty_schema, schema_with_version, schema_with_lists, schema_with_persons, schema_with_grants};
+ghost use Rattle.archive_tables.specs.Schema.{schema_with_messages, schema_with_month_index, schema_1, schema_2, archive_schema, schema_of_version};
+ghost use Rattle.archive_tables.specs.Tables.{IsOpenArchive, IsOpenArchiveInFormat, IsArchiveAtRest, IsKnownVersion};
+ghost use Rattle.archive_tables.specs.Tables.{HasSchemaOfFormat, format_of_version, newest_version, archive_of_version, archive_of};
+ghost use Rattle.archive_model.specs.Records.{Archive};
+ghost use Rattle.archive_tables.specs.Rows.{version_result_rows};
+ghost use Rattle.archive_tables.specs.Making.{IsCreatingTables, IsInTransactionWithSchema, IsMigratingTables, IsReadyToCommit, CreatesTables, MigratesSchema, EndsStep};
+ghost use Rattle.archive_tables.specs.Making.{EndsBegin, EndsCommit, EndsRollback, CrashAddsNothingInTransaction, IsRolledBackIfOpen, IsRollbackPendingOrDone, empty_archive};
+ghost use Rattle.archive_tables.specs.Calls.{LeavesRowsUnchanged, FaultKeepsRowsOrRollsBack, FaultKeepsRows, IsRolledBackTo};
+ghost use Rattle.archive_tables.specs.Calls.{IsOpenArchiveOrRolledBack, KeepsConnectionUnlessDiskFails, AnswersFromDatabase, IsMemoryOrDiskError};
 
 use sqlite::{Alter, Connection, Error, Row, params};
 
@@ -21,20 +26,20 @@ pub const VERSION: i64 = 3;
 /// Begins the transaction.
 pub fn begin<S: Alter>(conn: &mut Connection<S>) -> Result<usize, Error>
     ensures begun { HasCleanDisk (state S.Store conn.new)
-        → (state S.Store conn.old).now.schema ≡ no_schema
-        → OnOk result (IsMaking (state S.Store conn.new) no_schema
+        → (state S.Store conn.old).now.schema ≡ empty_schema
+        → OnOk result (IsCreatingTables (state S.Store conn.new) empty_schema
         (state S.Store conn.old).committed) }
-    ensures held { HasCleanDisk (state S.Store conn.new) → IsKept (state S.Store conn.old)
+    ensures held { HasCleanDisk (state S.Store conn.new) → IsArchiveAtRest (state S.Store conn.old)
         → MatchResult result
-        (λ _. StaysOver (Some (state S.Store conn.old).now) (state S.Store conn.old)
+        (λ _. LeavesRowsUnchanged (Some (state S.Store conn.old).now) (state S.Store conn.old)
         (state S.Store conn.new))
-        (λ _. Rests (state S.Store conn.old) (state S.Store conn.new)) }
+        (λ _. FaultKeepsRows (state S.Store conn.old) (state S.Store conn.new)) }
     ensures moving { HasCleanDisk (state S.Store conn.new) → (number : _)
-        → IsHeldAs (form_of number) None (state S.Store conn.old) → OnOk result
-        (IsMoving (state S.Store conn.new) (state S.Store conn.old).now (schema_of number)
-        (pos number) number (archive_by number (state S.Store conn.old).now.trees)) }
+        → IsOpenArchiveInFormat (format_of_version number) None (state S.Store conn.old) → OnOk result
+        (IsMigratingTables (state S.Store conn.new) (state S.Store conn.old).now (schema_of_version number)
+        (pos number) number (archive_of_version number (state S.Store conn.old).now.trees)) }
     ensures within { HasCleanDisk (state S.Store conn.new) → OnOk result
-        (IsWithin (state S.Store conn.new) (state S.Store conn.old).committed
+        (IsInTransactionWithSchema (state S.Store conn.new) (state S.Store conn.old).committed
         (state S.Store conn.old).now.schema) }
     ensures ends { EndsBegin S.Store conn.old conn.new result }
 {
@@ -43,18 +48,18 @@ pub fn begin<S: Alter>(conn: &mut Connection<S>) -> Result<usize, Error>
 
 /// Makes the table `version`.
 pub fn create_version<S: Alter>(conn: &mut Connection<S>) -> Result<usize, Error>
-    ensures made { Makes S.Store conn.old conn.new result no_schema with_version }
-    ensures quiet { QuietWithin S.Store conn.old conn.new no_schema }
-    ensures ends { EndsStep S.Store conn.old conn.new result no_schema making_version }
+    ensures made { CreatesTables S.Store conn.old conn.new result empty_schema schema_with_version }
+    ensures quiet { CrashAddsNothingInTransaction S.Store conn.old conn.new empty_schema }
+    ensures ends { EndsStep S.Store conn.old conn.new result empty_schema create_version_statement }
 {
     conn.execute("CREATE TABLE version (number INTEGER NOT NULL) STRICT", &[])
 }
 
 /// Makes the table `list`.
 pub fn create_list<S: Alter>(conn: &mut Connection<S>) -> Result<usize, Error>
-    ensures made { Makes S.Store conn.old conn.new result with_version with_list }
-    ensures quiet { QuietWithin S.Store conn.old conn.new with_version }
-    ensures ends { EndsStep S.Store conn.old conn.new result with_version making_lists }
+    ensures made { CreatesTables S.Store conn.old conn.new result schema_with_version schema_with_lists }
+    ensures quiet { CrashAddsNothingInTransaction S.Store conn.old conn.new schema_with_version }
+    ensures ends { EndsStep S.Store conn.old conn.new result schema_with_version create_list_statement }
 {
     conn.execute(
         "CREATE TABLE list (name TEXT NOT NULL PRIMARY KEY) STRICT",
@@ -64,9 +69,9 @@ pub fn create_list<S: Alter>(conn: &mut Connection<S>) -> Result<usize, Error>
 
 /// Makes the table `person`.
 pub fn create_person<S: Alter>(conn: &mut Connection<S>) -> Result<usize, Error>
-    ensures made { Makes S.Store conn.old conn.new result with_list with_person }
-    ensures quiet { QuietWithin S.Store conn.old conn.new with_list }
-    ensures ends { EndsStep S.Store conn.old conn.new result with_list making_persons }
+    ensures made { CreatesTables S.Store conn.old conn.new result schema_with_lists schema_with_persons }
+    ensures quiet { CrashAddsNothingInTransaction S.Store conn.old conn.new schema_with_lists }
+    ensures ends { EndsStep S.Store conn.old conn.new result schema_with_lists create_person_statement }
 {
     conn.execute(
         "CREATE TABLE person (name TEXT NOT NULL PRIMARY KEY, token TEXT NOT NULL UNIQUE) STRICT",
@@ -76,9 +81,9 @@ pub fn create_person<S: Alter>(conn: &mut Connection<S>) -> Result<usize, Error>
 
 /// Makes the table `grant_row`.
 pub fn create_grant<S: Alter>(conn: &mut Connection<S>) -> Result<usize, Error>
-    ensures made { Makes S.Store conn.old conn.new result with_person with_grant }
-    ensures quiet { QuietWithin S.Store conn.old conn.new with_person }
-    ensures ends { EndsStep S.Store conn.old conn.new result with_person making_grants }
+    ensures made { CreatesTables S.Store conn.old conn.new result schema_with_persons schema_with_grants }
+    ensures quiet { CrashAddsNothingInTransaction S.Store conn.old conn.new schema_with_persons }
+    ensures ends { EndsStep S.Store conn.old conn.new result schema_with_persons create_grant_statement }
 {
     conn.execute(
         "CREATE TABLE grant_row (person TEXT NOT NULL REFERENCES person (name), list TEXT NOT NULL REFERENCES list (name), kind INTEGER NOT NULL CHECK (kind BETWEEN 1 AND 3), from_day INTEGER NOT NULL CHECK (from_day BETWEEN -25567 AND 2932531), until_day INTEGER NOT NULL CHECK (until_day BETWEEN -25567 AND 2932531), PRIMARY KEY (person, list, kind), CHECK (from_day <= until_day)) STRICT",
@@ -88,9 +93,9 @@ pub fn create_grant<S: Alter>(conn: &mut Connection<S>) -> Result<usize, Error>
 
 /// Makes the table `message`, and with it the one in which AUTOINCREMENT counts.
 pub fn create_message<S: Alter>(conn: &mut Connection<S>) -> Result<usize, Error>
-    ensures made { Makes S.Store conn.old conn.new result with_grant with_message }
-    ensures quiet { QuietWithin S.Store conn.old conn.new with_grant }
-    ensures ends { EndsStep S.Store conn.old conn.new result with_grant making_messages }
+    ensures made { CreatesTables S.Store conn.old conn.new result schema_with_grants schema_with_messages }
+    ensures quiet { CrashAddsNothingInTransaction S.Store conn.old conn.new schema_with_grants }
+    ensures ends { EndsStep S.Store conn.old conn.new result schema_with_grants create_message_statement }
 {
     conn.execute(
         "CREATE TABLE message (pos INTEGER PRIMARY KEY AUTOINCREMENT, list TEXT NOT NULL REFERENCES list (name), key TEXT NOT NULL, sender BLOB NOT NULL, arrival INTEGER NOT NULL, text BLOB NOT NULL, withdrawn INTEGER NOT NULL CHECK (withdrawn BETWEEN 0 AND 2), embargo INTEGER CHECK (embargo BETWEEN -25567 AND 2932531), sent INTEGER NOT NULL, month INTEGER NOT NULL, author BLOB NOT NULL, UNIQUE (list, key)) STRICT",
@@ -100,9 +105,9 @@ pub fn create_message<S: Alter>(conn: &mut Connection<S>) -> Result<usize, Error
 
 /// Makes the index of `message` by month.
 pub fn create_month_index<S: Alter>(conn: &mut Connection<S>) -> Result<usize, Error>
-    ensures made { Makes S.Store conn.old conn.new result with_message with_month_index }
-    ensures quiet { QuietWithin S.Store conn.old conn.new with_message }
-    ensures ends { EndsStep S.Store conn.old conn.new result with_message indexing_months }
+    ensures made { CreatesTables S.Store conn.old conn.new result schema_with_messages schema_with_month_index }
+    ensures quiet { CrashAddsNothingInTransaction S.Store conn.old conn.new schema_with_messages }
+    ensures ends { EndsStep S.Store conn.old conn.new result schema_with_messages create_month_index_statement }
 {
     conn.execute(
         "CREATE INDEX message_by_month ON message (list, month, sent, pos)",
@@ -112,9 +117,9 @@ pub fn create_month_index<S: Alter>(conn: &mut Connection<S>) -> Result<usize, E
 
 /// Makes the index of `message` by author key.
 pub fn create_author_index<S: Alter>(conn: &mut Connection<S>) -> Result<usize, Error>
-    ensures made { Makes S.Store conn.old conn.new result with_month_index schema_1 }
-    ensures quiet { QuietWithin S.Store conn.old conn.new with_month_index }
-    ensures ends { EndsStep S.Store conn.old conn.new result with_month_index indexing_authors }
+    ensures made { CreatesTables S.Store conn.old conn.new result schema_with_month_index schema_1 }
+    ensures quiet { CrashAddsNothingInTransaction S.Store conn.old conn.new schema_with_month_index }
+    ensures ends { EndsStep S.Store conn.old conn.new result schema_with_month_index create_author_index_statement }
 {
     conn.execute(
         "CREATE INDEX message_by_author ON message (list, author, sent, pos)",
@@ -124,15 +129,15 @@ pub fn create_author_index<S: Alter>(conn: &mut Connection<S>) -> Result<usize, 
 
 /// Makes the table `list_option`: the first of version 2.
 pub fn create_option<S: Alter>(conn: &mut Connection<S>) -> Result<usize, Error>
-    ensures made { Makes S.Store conn.old conn.new result schema_1 schema_2 }
+    ensures made { CreatesTables S.Store conn.old conn.new result schema_1 schema_2 }
     ensures moved { HasCleanDisk (state S.Store conn.new)
         → (before : _) (said : _) (archive : Archive)
-        → IsMoving (state S.Store conn.old) before schema_1 said 1 archive
-        → OnOk result (IsMoving (state S.Store conn.new) before schema_2 said 1 archive
+        → IsMigratingTables (state S.Store conn.old) before schema_1 said 1 archive
+        → OnOk result (IsMigratingTables (state S.Store conn.new) before schema_2 said 1 archive
         × ((state S.Store conn.new).now.trees 13 ≡ [])) }
-    ensures within { MovesWithin S.Store conn.old conn.new result schema_1 schema_2 }
-    ensures quiet { QuietWithin S.Store conn.old conn.new schema_1 }
-    ensures ends { EndsStep S.Store conn.old conn.new result schema_1 making_options }
+    ensures within { MigratesSchema S.Store conn.old conn.new result schema_1 schema_2 }
+    ensures quiet { CrashAddsNothingInTransaction S.Store conn.old conn.new schema_1 }
+    ensures ends { EndsStep S.Store conn.old conn.new result schema_1 create_option_statement }
 {
     conn.execute(
         "CREATE TABLE list_option (list TEXT NOT NULL PRIMARY KEY REFERENCES list (name), merge INTEGER NOT NULL CHECK (merge BETWEEN 0 AND 1)) STRICT",
@@ -142,15 +147,15 @@ pub fn create_option<S: Alter>(conn: &mut Connection<S>) -> Result<usize, Error>
 
 /// Makes the table `address`: the first of version 3.
 pub fn create_address<S: Alter>(conn: &mut Connection<S>) -> Result<usize, Error>
-    ensures made { Makes S.Store conn.old conn.new result schema_2 archive_schema }
+    ensures made { CreatesTables S.Store conn.old conn.new result schema_2 archive_schema }
     ensures moved { HasCleanDisk (state S.Store conn.new)
         → (before : _) (said : _) (archive : Archive)
-        → IsMoving (state S.Store conn.old) before schema_2 said 2 archive
+        → IsMigratingTables (state S.Store conn.old) before schema_2 said 2 archive
         → OnOk result
-        (IsMoving (state S.Store conn.new) before archive_schema said newest_number archive) }
-    ensures within { MovesWithin S.Store conn.old conn.new result schema_2 archive_schema }
-    ensures quiet { QuietWithin S.Store conn.old conn.new schema_2 }
-    ensures ends { EndsStep S.Store conn.old conn.new result schema_2 making_addresses }
+        (IsMigratingTables (state S.Store conn.new) before archive_schema said newest_version archive) }
+    ensures within { MigratesSchema S.Store conn.old conn.new result schema_2 archive_schema }
+    ensures quiet { CrashAddsNothingInTransaction S.Store conn.old conn.new schema_2 }
+    ensures ends { EndsStep S.Store conn.old conn.new result schema_2 create_address_statement }
 {
     conn.execute(
         "CREATE TABLE address (person TEXT NOT NULL PRIMARY KEY REFERENCES person (name), address TEXT NOT NULL) STRICT",
@@ -161,10 +166,10 @@ pub fn create_address<S: Alter>(conn: &mut Connection<S>) -> Result<usize, Error
 /// Writes the version down.
 pub fn add_version<S: Alter>(conn: &mut Connection<S>) -> Result<usize, Error>
     ensures made { HasCleanDisk (state S.Store conn.new) → (before : _)
-        → IsMaking (state S.Store conn.old) archive_schema before
-        → OnOk result (IsMade (state S.Store conn.new) before empty_archive) }
-    ensures quiet { QuietWithin S.Store conn.old conn.new archive_schema }
-    ensures ends { EndsStep S.Store conn.old conn.new result archive_schema adding_version }
+        → IsCreatingTables (state S.Store conn.old) archive_schema before
+        → OnOk result (IsReadyToCommit (state S.Store conn.new) before empty_archive) }
+    ensures quiet { CrashAddsNothingInTransaction S.Store conn.old conn.new archive_schema }
+    ensures ends { EndsStep S.Store conn.old conn.new result archive_schema insert_version_statement }
 {
     conn.execute("INSERT INTO version (number) VALUES (?1)", params![VERSION])
 }
@@ -173,11 +178,11 @@ pub fn add_version<S: Alter>(conn: &mut Connection<S>) -> Result<usize, Error>
 pub fn set_version<S: Alter>(conn: &mut Connection<S>) -> Result<usize, Error>
     ensures moved { HasCleanDisk (state S.Store conn.new)
         → (before : _) (said : _) (archive : Archive)
-        → IsMoving (state S.Store conn.old) before archive_schema said newest_number archive
-        → OnOk result (IsMade (state S.Store conn.new) before archive) }
-    ensures within { MovesWithin S.Store conn.old conn.new result archive_schema archive_schema }
-    ensures quiet { QuietWithin S.Store conn.old conn.new archive_schema }
-    ensures ends { EndsStep S.Store conn.old conn.new result archive_schema changing_version }
+        → IsMigratingTables (state S.Store conn.old) before archive_schema said newest_version archive
+        → OnOk result (IsReadyToCommit (state S.Store conn.new) before archive) }
+    ensures within { MigratesSchema S.Store conn.old conn.new result archive_schema archive_schema }
+    ensures quiet { CrashAddsNothingInTransaction S.Store conn.old conn.new archive_schema }
+    ensures ends { EndsStep S.Store conn.old conn.new result archive_schema update_version_statement }
 {
     conn.execute("UPDATE version SET number = ?1", params![VERSION])
 }
@@ -185,13 +190,13 @@ pub fn set_version<S: Alter>(conn: &mut Connection<S>) -> Result<usize, Error>
 /// Commits the transaction.
 pub fn commit<S: Alter>(conn: &mut Connection<S>) -> Result<usize, Error>
     ensures kept { HasCleanDisk (state S.Store conn.new) → (before : _) (archive : Archive)
-        → IsMade (state S.Store conn.old) before archive
-        → OnOk result (IsKept (state S.Store conn.new)
+        → IsReadyToCommit (state S.Store conn.old) before archive
+        → OnOk result (IsArchiveAtRest (state S.Store conn.new)
         × (archive_of (state S.Store conn.new) ≡ archive)) }
     ensures held { HasCleanDisk (state S.Store conn.new) → (db : _)
-        → IsHeld (Some db) (state S.Store conn.old) → MatchResult result
-        (λ _. StaysOver None (state S.Store conn.old) (state S.Store conn.new))
-        (λ _. RestsOver (Some db) (state S.Store conn.old) (state S.Store conn.new)) }
+        → IsOpenArchive (Some db) (state S.Store conn.old) → MatchResult result
+        (λ _. LeavesRowsUnchanged None (state S.Store conn.old) (state S.Store conn.new))
+        (λ _. FaultKeepsRowsOrRollsBack (Some db) (state S.Store conn.old) (state S.Store conn.new)) }
     ensures ends { EndsCommit S.Store conn.old conn.new result }
 {
     // It says that an open connection shows a database.
@@ -208,32 +213,32 @@ pub fn rollback<S: Alter>(conn: &mut Connection<S>) -> Result<usize, Error>
         × ((state S.Store conn.new).committed ≡ (state S.Store conn.old).committed)
         × ((state S.Store conn.new).in_transaction ≡ false)) }
     ensures left { HasCleanDisk (state S.Store conn.new) → (db : _)
-        → IsHeldOrBack db (state S.Store conn.old)
-        → IsTrue (state S.Store conn.new).is_open → IsBackAt db (state S.Store conn.new) }
+        → IsOpenArchiveOrRolledBack db (state S.Store conn.old)
+        → IsTrue (state S.Store conn.new).is_open → IsRolledBackTo db (state S.Store conn.new) }
     ensures back { HasCleanDisk (state S.Store conn.new) → (before : _)
-        → IsStopped (state S.Store conn.old) before → IsBackTo (state S.Store conn.new) before }
+        → IsRollbackPendingOrDone (state S.Store conn.old) before → IsRolledBackIfOpen (state S.Store conn.new) before }
     ensures ends { EndsRollback S.Store conn.old conn.new result }
-    ensures lasts { Lasts (state S.Store conn.old) (state S.Store conn.new) }
+    ensures lasts { KeepsConnectionUnlessDiskFails (state S.Store conn.old) (state S.Store conn.new) }
 {
     conn.execute("ROLLBACK", &[])
 }
 
 /// The rows of `version`: in an archive that is kept one, of the number of these tables. It reads the tables of each version.
 pub fn versions<S: Alter>(conn: &mut Connection<S>) -> Result<Vec<Row>, Error>
-    ensures asks { Asks S.Store conn.old conn.new result
+    ensures asks { AnswersFromDatabase S.Store conn.old conn.new result
         (λ _ rows. rows.items ≡ (Int VERSION ∷ []) ∷ []) ⊥ }
-    ensures numbers { HasCleanDisk (state S.Store conn.new) → (number : _) → IsKnown number
-        → HasForm (form_of number) (state S.Store conn.old)
-        → IfOk result (λ rows. IsPermutation (versions_shown
+    ensures numbers { HasCleanDisk (state S.Store conn.new) → (number : _) → IsKnownVersion number
+        → HasSchemaOfFormat (format_of_version number) (state S.Store conn.old)
+        → IfOk result (λ rows. IsPermutation (version_result_rows
         (state S.Store conn.old).now.trees) rows.items) }
-    ensures caused { HasCleanDisk (state S.Store conn.new) → (number : _) → IsKnown number
-        → HasForm (form_of number) (state S.Store conn.old) → (state S.Store conn.old).step_limit ≡ None
-        → IfErr result (IsCaused (state S.Store conn.old) (state S.Store conn.new)) }
-    ensures left { HasCleanDisk (state S.Store conn.new) → (number : _) → IsKnown number
-        → HasForm (form_of number) (state S.Store conn.old)
-        → IsBackTo (state S.Store conn.new) (state S.Store conn.old).now }
-    ensures stays_open { HasCleanDisk (state S.Store conn.new) → (number : _) → IsKnown number
-        → HasForm (form_of number) (state S.Store conn.old)
+    ensures caused { HasCleanDisk (state S.Store conn.new) → (number : _) → IsKnownVersion number
+        → HasSchemaOfFormat (format_of_version number) (state S.Store conn.old) → (state S.Store conn.old).step_limit ≡ None
+        → IfErr result (IsMemoryOrDiskError (state S.Store conn.old) (state S.Store conn.new)) }
+    ensures left { HasCleanDisk (state S.Store conn.new) → (number : _) → IsKnownVersion number
+        → HasSchemaOfFormat (format_of_version number) (state S.Store conn.old)
+        → IsRolledBackIfOpen (state S.Store conn.new) (state S.Store conn.old).now }
+    ensures stays_open { HasCleanDisk (state S.Store conn.new) → (number : _) → IsKnownVersion number
+        → HasSchemaOfFormat (format_of_version number) (state S.Store conn.old)
         → OnOk result (IsTrue (state S.Store conn.new).is_open) }
 {
     conn.query_all("SELECT number FROM version ORDER BY rowid", &[])

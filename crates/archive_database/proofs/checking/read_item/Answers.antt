@@ -1,7 +1,7 @@
 use Rattle.std.proofs.Common.{rules, ◌≡◌, inl, inr, sym, ap₂, subst, ◌∙◌, Option, Some, None, true, List, ℕ, ℤ}
 use Rattle.std.specs.Prelude.{IfSome}
 use Rattle.std.proofs.lemmas.Bool.{cases_Bool}
-use Rattle.civil_time.specs.Calendar.{is_instant, instant_at}
+use Rattle.civil_time.specs.Calendar.{is_instant, checked_instant}
 use Rattle.mail_core.specs.Lines.{lines}
 use Rattle.mbox_items.specs.Division.{Item, NoneSeparates, whole}
 use Rattle.mbox_items.specs.Separator.{Envelope, IsSenderText}
@@ -19,7 +19,7 @@ some_item (Some item) e it is same none sender arrival = (
   record { envelope = record { sender = sender; arrival = arrival }; none = subst (λ t. NoneSeparates (lines (whole t))) same.1 none },
 )
 
-instant_is : (s a : ℤ) → Some a ≡ instant_at s → (a ≡ s) × (is_instant s ≡ true)
+instant_is : (s a : ℤ) → Some a ≡ checked_instant s → (a ≡ s) × (is_instant s ≡ true)
 instant_is s a e = elim (cases_Bool (is_instant s)) [
   | inl within ↦ (let some = rw within at e in cc, within)
   | inr past ↦ absurd (let none = rw past at e in cc)
@@ -28,7 +28,7 @@ instant_is s a e = elim (cases_Bool (is_instant s)) [
 pub returns-clause-some : goal.returns-clause-some
 returns-clause-some c =
     let sent = c.in_ok-sender.ensures.some in
-    let read : Some c.in_ok-arrival.arrival ≡ instant_at c.args.row.now.arrival = search rules in
+    let read : Some c.in_ok-arrival.arrival ≡ checked_instant c.args.row.now.arrival = search rules in
     let at = instant_is c.args.row.now.arrival c.in_ok-arrival.arrival read in
     some_item c.new-2.result _ (row_item c.args.row.now) (ap₂ (λ (s : List ℕ) (a : ℤ). record { sender = s; arrival = a }) sent.1 at.0)
     c.new-2.ensures.some c.new-2.ensures.holds (written_is c.in_ok-sender.sender c.args.row.now.sender.now sent.0 (sym sent.1)) at.1

@@ -1,11 +1,11 @@
 use Rattle.std.proofs.Common.{inl, inr, ap, subst, ◌∙◌}
 use Rattle.sqlite.specs.Held.{state}
-use Rattle.archive_machine.specs.Records.{Archive}
+use Rattle.archive_model.specs.Records.{Archive}
 use Rattle.sqlite.specs.Effect.{Database}
 use Rattle.archive_tables.specs.Tables.{archive_of}
 use Rattle.archive_tables.proofs.CrashLemmas.{adds_as}
 use Rattle.archive_tables.proofs.EndLemmas.{archive_stays}
-use Rattle.archive_database.specs.Lists.{with_list, IsListRefused}
+use Rattle.archive_database.specs.Lists.{archive_with_list, IsListRefused}
 use Rattle.archive_database.proofs.CauseLemmas.{caused_between, by_cause, fails_by}
 use Rattle.archive_database.proofs.lists.add_list.Goals as goal
 
@@ -21,7 +21,7 @@ returns-clause-added g c = λ clean kept.
     let first = state g.S.Store c.args.conn.now in
     let begun = c.in_ok-begin.ensures.held (c.in_default.ensures.lasts.returned clean) kept in
     let it = c.in_default.ensures.written clean first.now begun.0 in
-    (it.0, it.1 ∙ ap (λ (a : Archive). with_list a c.args.name.now) (archive_stays begun.1))
+    (it.0, it.1 ∙ ap (λ (a : Archive). archive_with_list a c.args.name.now) (archive_stays begun.1))
 
 -- ---- why it fails
 
@@ -59,8 +59,8 @@ returns-in-Err-clause-crash g c = λ kept clean x may.
     let clean_2 = c.rollback-undone.ensures.lasts.returned clean in
     let clean_1 = c.write_list.ensures.lasts.returned clean_2 in
     let held = c.in_ok-begin.ensures.held clean_1 kept in
-    let is = ap (λ (a : Archive). with_list a c.args.name.now) (archive_stays held.1) in
-    elim (adds_as g.S.Store c.begin.new.conn c.write_list.new.conn _ (with_list (archive_of first) c.args.name.now) is (c.write_list.ensures.crash first.now held.0)
+    let is = ap (λ (a : Archive). archive_with_list a c.args.name.now) (archive_stays held.1) in
+    elim (adds_as g.S.Store c.begin.new.conn c.write_list.new.conn _ (archive_with_list (archive_of first) c.args.name.now) is (c.write_list.ensures.crash first.now held.0)
     clean_2 x (c.rollback-undone.ensures.ends.quiet clean x may)) [
       | inl before ↦ inl (c.begin.ensures.ends.quiet clean_1 x before)
       | inr stored ↦ inr stored
@@ -71,8 +71,8 @@ returns-clause-crash g c = λ kept clean x may.
     let first = state g.S.Store c.args.conn.now in
     let clean_1 = c.write_list.ensures.lasts.returned clean in
     let held = c.in_ok-begin.ensures.held clean_1 kept in
-    let is = ap (λ (a : Archive). with_list a c.args.name.now) (archive_stays held.1) in
-    elim (adds_as g.S.Store c.begin.new.conn c.write_list.new.conn _ (with_list (archive_of first) c.args.name.now) is (c.write_list.ensures.crash first.now held.0)
+    let is = ap (λ (a : Archive). archive_with_list a c.args.name.now) (archive_stays held.1) in
+    elim (adds_as g.S.Store c.begin.new.conn c.write_list.new.conn _ (archive_with_list (archive_of first) c.args.name.now) is (c.write_list.ensures.crash first.now held.0)
     clean x may) [
       | inl before ↦ inl (c.begin.ensures.ends.quiet clean_1 x before)
       | inr stored ↦ inr stored

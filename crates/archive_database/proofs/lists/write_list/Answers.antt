@@ -1,15 +1,15 @@
 use Rattle.std.proofs.Common.{◌⊎◌, Some, inl, inr, ap, ◌∙◌, ◌++◌, ◌∷◌, []}
 use Rattle.sqlite.specs.Held.{state}
-use Rattle.archive_machine.specs.Records.{Archive}
-use Rattle.archive_machine.specs.Machine.{merging}
+use Rattle.archive_model.specs.Records.{Archive}
+use Rattle.archive_model.specs.Machine.{default_list_option}
 use Rattle.archive_tables.specs.Tables.{archive_of}
-use Rattle.archive_tables.specs.Calls.{IsCaused}
+use Rattle.archive_tables.specs.Calls.{IsMemoryOrDiskError}
 use Rattle.archive_tables.proofs.CauseLemmas.{carried}
 use Rattle.archive_tables.proofs.CrashLemmas.{commit_over, adds_as}
 use Rattle.archive_tables.proofs.EndLemmas.{archive_stays}
 use Rattle.archive_tables.proofs.LastLemmas.{lasts_then}
 use Rattle.archive_tables.proofs.RunLemmas.{on_fault}
-use Rattle.archive_database.specs.Lists.{with_list, IsListRefused}
+use Rattle.archive_database.specs.Lists.{archive_with_list, IsListRefused}
 use Rattle.archive_database.proofs.CauseLemmas.{caused_since, never_new}
 use Rattle.archive_database.proofs.HeldLemmas.{held_or_back}
 use Rattle.archive_database.proofs.lists.write_list.Goals as goal
@@ -21,7 +21,7 @@ returns-clause-written g c = λ clean db held.
     let listed = c.in_ok-add_list.ensures.over clean_1 (Some db) held tt in
     let said = c.in_ok-add_option.ensures.over clean_2 (Some db) listed.0 tt in
     let kept = c.in_ok-commit.ensures.held clean db said.0 in
-    (kept.0, archive_stays kept.1 ∙ said.1 ∙ ap (λ (a : Archive). record a { options = a.options ++ merging c.args.name.now ∷ [] }) listed.1)
+    (kept.0, archive_stays kept.1 ∙ said.1 ∙ ap (λ (a : Archive). record a { options = a.options ++ default_list_option c.args.name.now ∷ [] }) listed.1)
 
 pub returns-in_err-add_list-clause-written : goal.returns-in_err-add_list-clause-written
 returns-in_err-add_list-clause-written g c = λ clean db held.
@@ -49,7 +49,7 @@ returns-in_err-add_list-clause-caused g c = λ clean db held free.
     let old = state g.S.Store c.args.conn.now in
     let new = state g.S.Store c.add_list.new.conn in
     let error = c.in_err-add_list.field-0.0 in
-    carried c.from_residual.result error (λ e. IsCaused old new e ⊎ IsListRefused c.args.name.now old.now) c.from_residual.ensures.1
+    carried c.from_residual.result error (λ e. IsMemoryOrDiskError old new e ⊎ IsListRefused c.args.name.now old.now) c.from_residual.ensures.1
     (elim (c.in_err-add_list.ensures.caused clean (Some db) held free) [ inl why ↦ inl why | inr refused ↦ inr (inl refused) ])
 
 pub returns-in_err-add_option-clause-caused : goal.returns-in_err-add_option-clause-caused
@@ -63,7 +63,7 @@ returns-in_err-add_option-clause-caused g c = λ clean db held free.
     let listed = c.in_ok-add_list.ensures.over clean_1 (Some db) held tt in
     let made = c.in_ok-add_list.ensures.made clean_1 (Some db) held free in
     let why = c.in_err-add_option.ensures.caused clean (Some db) listed.0 (first.limit ∙ free) in
-    carried c.from_residual-in_err-add_option.result error (λ e. IsCaused old new e ⊎ IsListRefused c.args.name.now old.now) c.from_residual-in_err-add_option.ensures.1
+    carried c.from_residual-in_err-add_option.result error (λ e. IsMemoryOrDiskError old new e ⊎ IsListRefused c.args.name.now old.now) c.from_residual-in_err-add_option.ensures.1
     (elim why [ inl cause ↦ inl (caused_since old mid new error first cause) | inr refused ↦ inr (inr (mid.now, made, refused)) ])
 
 pub returns-in_err-commit-clause-caused : goal.returns-in_err-commit-clause-caused
@@ -76,7 +76,7 @@ returns-in_err-commit-clause-caused g c = λ clean db held free.
     let listed = c.in_ok-add_list.ensures.over (c.in_ok-add_option.ensures.ends.lasts.returned clean_2) (Some db) held tt in
     let said = c.in_ok-add_option.ensures.over clean_2 (Some db) listed.0 tt in
     let first = lasts_then _ _ _ c.add_list.ensures.ends.lasts c.add_option.ensures.ends.lasts in
-    carried c.from_residual-in_err-commit.result error (λ e. IsCaused old new e ⊎ IsListRefused c.args.name.now old.now) c.from_residual-in_err-commit.ensures.1
+    carried c.from_residual-in_err-commit.result error (λ e. IsMemoryOrDiskError old new e ⊎ IsListRefused c.args.name.now old.now) c.from_residual-in_err-commit.ensures.1
     (inl (caused_since old mid new error first (c.in_err-commit.ensures.ends.caused clean said.0.is_open said.0.autocommit)))
 
 -- ---- what a stop of the machine leaves
@@ -97,8 +97,8 @@ returns-in_err-commit-clause-crash g c = λ db held clean x may.
     let clean_1 = c.add_option.ensures.ends.lasts.returned clean_2 in
     let listed = c.in_ok-add_list.ensures.over clean_1 (Some db) held tt in
     let said = c.in_ok-add_option.ensures.over clean_2 (Some db) listed.0 tt in
-    let is = said.1 ∙ ap (λ (a : Archive). record a { options = a.options ++ merging c.args.name.now ∷ [] }) listed.1 in
-    elim (adds_as g.S.Store c.add_option.new.conn c.commit.new.conn _ (with_list (archive_of (state g.S.Store c.args.conn.now)) c.args.name.now) is
+    let is = said.1 ∙ ap (λ (a : Archive). record a { options = a.options ++ default_list_option c.args.name.now ∷ [] }) listed.1 in
+    elim (adds_as g.S.Store c.add_option.new.conn c.commit.new.conn _ (archive_with_list (archive_of (state g.S.Store c.args.conn.now)) c.args.name.now) is
     (commit_over g.S.Store c.add_option.new.conn c.commit.new.conn db said.0 c.commit.ensures.ends.crash) clean x may) [
       | inl before ↦ inl (never_new db _ (c.add_list.ensures.crash (Some db) held tt clean_1 x (never_new db _ (c.add_option.ensures.crash (Some db) listed.0 tt clean_2 x before))))
       | inr stored ↦ inr stored
@@ -110,8 +110,8 @@ returns-clause-crash g c = λ db held clean x may.
     let clean_1 = c.add_option.ensures.ends.lasts.returned clean_2 in
     let listed = c.in_ok-add_list.ensures.over clean_1 (Some db) held tt in
     let said = c.in_ok-add_option.ensures.over clean_2 (Some db) listed.0 tt in
-    let is = said.1 ∙ ap (λ (a : Archive). record a { options = a.options ++ merging c.args.name.now ∷ [] }) listed.1 in
-    elim (adds_as g.S.Store c.add_option.new.conn c.commit.new.conn _ (with_list (archive_of (state g.S.Store c.args.conn.now)) c.args.name.now) is
+    let is = said.1 ∙ ap (λ (a : Archive). record a { options = a.options ++ default_list_option c.args.name.now ∷ [] }) listed.1 in
+    elim (adds_as g.S.Store c.add_option.new.conn c.commit.new.conn _ (archive_with_list (archive_of (state g.S.Store c.args.conn.now)) c.args.name.now) is
     (commit_over g.S.Store c.add_option.new.conn c.commit.new.conn db said.0 c.commit.ensures.ends.crash) clean x may) [
       | inl before ↦ inl (never_new db _ (c.add_list.ensures.crash (Some db) held tt clean_1 x (never_new db _ (c.add_option.ensures.crash (Some db) listed.0 tt clean_2 x before))))
       | inr stored ↦ inr stored

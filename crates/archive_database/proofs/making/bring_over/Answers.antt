@@ -1,11 +1,11 @@
 use Rattle.std.proofs.Common.{subst, ◌∙◌, inl, inr, rules}
-use Rattle.archive_tables.specs.Statements.{IsRefusedInTurn, moving_statements}
+use Rattle.archive_tables.specs.Statements.{IsAnyStatementRefused, migration_statements}
 use Rattle.archive_tables.proofs.LastLemmas.{lasts_then, lasts_same}
 use Rattle.archive_database.proofs.StepsLemmas.{blames, blames_it}
 use Rattle.sqlite.specs.Held.{state}
 use Rattle.sqlite.specs.Schema.{Schema}
-use Rattle.archive_tables.specs.Tables.{archive_by}
-use Rattle.archive_tables.specs.Making.{IsWithin}
+use Rattle.archive_tables.specs.Tables.{archive_of_version}
+use Rattle.archive_tables.specs.Making.{IsInTransactionWithSchema}
 use Rattle.archive_database.proofs.making.bring_over.Goals as goal
 
 pub returns-in-Err-clause-back : goal.returns-in-Err-clause-back
@@ -13,14 +13,15 @@ returns-in-Err-clause-back g c = λ clean older idle schema up.
     let first = state g.S.Store c.args.conn.now in
     let clean_2 = c.rollback-back.ensures.lasts.returned clean in
     let within = c.in_ok-begin.ensures.within (c.in-Err.ensures.ends.lasts.returned clean_2) in
-    let stopped = c.in-Err.ensures.stopped clean_2 older first.committed (subst (λ (s : Schema). IsWithin (state g.S.Store c.begin.new.conn) first.committed s) schema within) in
+    let stopped = c.in-Err.ensures.stopped clean_2 older first.committed (subst (λ (s : Schema). IsInTransactionWithSchema (state g.S.Store c.begin.new.conn) first.committed s) schema within) in
     let back = c.rollback-back.ensures.back clean first.committed stopped up in
     (back.0 ∙ idle.settled, back.1 ∙ idle.settled, back.2)
 
 pub returns-clause-moved : goal.returns-clause-moved
 returns-clause-moved g c = λ clean older kept.
     let first = state g.S.Store c.args.conn.now in
-    c.in_default.ensures.moved clean older first.now (archive_by c.args.number first.now.trees) (c.in_ok-begin.ensures.moving (c.in_default.ensures.ends.lasts.returned clean) c.args.number kept)
+    c.in_default.ensures.moved clean older first.now (archive_of_version c.args.number first.now.trees)
+    (c.in_ok-begin.ensures.moving (c.in_default.ensures.ends.lasts.returned clean) c.args.number kept)
 
 -- ---- what a stop of the machine leaves
 
@@ -33,7 +34,7 @@ returns-in-Err-clause-crash g c = λ older kept clean db may.
     let clean_2 = c.rollback-back.ensures.lasts.returned clean in
     let clean_1 = c.move_tables.ensures.ends.lasts.returned clean_2 in
     let moving = c.in_ok-begin.ensures.moving clean_1 c.args.number kept in
-    elim (c.move_tables.ensures.crash older first.now (archive_by c.args.number first.now.trees) moving clean_2 db (c.rollback-back.ensures.ends.quiet clean db may)) [
+    elim (c.move_tables.ensures.crash older first.now (archive_of_version c.args.number first.now.trees) moving clean_2 db (c.rollback-back.ensures.ends.quiet clean db may)) [
       | inl before ↦ inl (c.begin.ensures.ends.quiet clean_1 db before)
       | inr stored ↦ inr stored
     ]
@@ -43,7 +44,7 @@ returns-clause-crash g c = λ older kept clean db may.
     let first = state g.S.Store c.args.conn.now in
     let clean_1 = c.move_tables.ensures.ends.lasts.returned clean in
     let moving = c.in_ok-begin.ensures.moving clean_1 c.args.number kept in
-    elim (c.move_tables.ensures.crash older first.now (archive_by c.args.number first.now.trees) moving clean db may) [
+    elim (c.move_tables.ensures.crash older first.now (archive_of_version c.args.number first.now.trees) moving clean db may) [
       | inl before ↦ inl (c.begin.ensures.ends.quiet clean_1 db before)
       | inr stored ↦ inr stored
     ]
@@ -57,7 +58,7 @@ returns-in_err-begin-clause-ends g c =
     record {
       lasts = c.begin.ensures.ends.lasts;
       was_open = λ clean. search rules;
-      caused = λ clean it free. blames old old new new c.from_residual.result c.in_err-begin.field-0.0 _ (IsRefusedInTurn (moving_statements c.args.number) old.now) c.from_residual.ensures.1
+      caused = λ clean it free. blames old old new new c.from_residual.result c.in_err-begin.field-0.0 _ (IsAnyStatementRefused (migration_statements c.args.number) old.now) c.from_residual.ensures.1
           (lasts_same old) (lasts_same new) (λ no. absurd no) (inl (c.in_err-begin.ensures.ends.caused clean it.1.is_open it.1.autocommit));
     }
 
@@ -74,9 +75,10 @@ returns-in-Err-clause-ends g c =
       caused = λ clean it free.
           let clean_2 = c.rollback-back.ensures.lasts.returned clean in
           let clean_1 = c.in-Err.ensures.ends.lasts.returned clean_2 in
-          let within = subst (λ (s : Schema). IsWithin mid old.committed s) it.2 (c.in_ok-begin.ensures.within clean_1) in
-          blames_it old mid stop new c.in-Err.error (IsRefusedInTurn (moving_statements number) mid.now) (IsRefusedInTurn (moving_statements number) old.now) c.begin.ensures.ends.lasts
-          c.rollback-back.ensures.lasts (λ refused. subst (IsRefusedInTurn (moving_statements number)) (c.in_ok-begin.ensures.ends.same clean_1) refused)
+          let within = subst (λ (s : Schema). IsInTransactionWithSchema mid old.committed s) it.2 (c.in_ok-begin.ensures.within clean_1) in
+          blames_it old mid stop new c.in-Err.error (IsAnyStatementRefused (migration_statements number) mid.now) (IsAnyStatementRefused (migration_statements number) old.now)
+          c.begin.ensures.ends.lasts
+          c.rollback-back.ensures.lasts (λ refused. subst (IsAnyStatementRefused (migration_statements number)) (c.in_ok-begin.ensures.ends.same clean_1) refused)
           (c.in-Err.ensures.ends.caused clean_2 old.committed (it.0, within) (c.begin.ensures.ends.lasts.limit ∙ free)) _ (search rules);
     }
 

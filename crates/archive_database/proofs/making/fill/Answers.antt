@@ -1,7 +1,7 @@
 use Rattle.std.proofs.Common.{[], ◌++◌}
-use Rattle.archive_tables.specs.Schema.{no_schema, with_person, with_message, schema_1}
-use Rattle.archive_tables.specs.Making.{IsMaking, IsMade}
-use Rattle.archive_tables.specs.Statements.{first_statements, second_statements, index_statements, later_statements}
+use Rattle.archive_tables.specs.Schema.{empty_schema, schema_with_persons, schema_with_messages, schema_1}
+use Rattle.archive_tables.specs.Making.{IsCreatingTables, IsReadyToCommit}
+use Rattle.archive_tables.specs.Statements.{first_create_statements, second_create_statements, create_index_statements, last_create_statements}
 use Rattle.archive_database.proofs.StepsLemmas.{commit_ends, fails_first, fails_then, done_then}
 use Rattle.archive_database.proofs.MakingLemmas.{on_err, stopped_by}
 use Rattle.sqlite.specs.Held.{state}
@@ -117,28 +117,34 @@ returns-clause-crash g c = λ before making clean db may.
 
 pub returns-in_err-make_first-clause-ends : goal.returns-in_err-make_first-clause-ends
 returns-in_err-make_first-clause-ends g c =
-    fails_first c.from_residual.result c.in_err-make_first.field-0.0 c.from_residual.ensures.1 (λ s before. IsMaking s no_schema before) first_statements
-    (second_statements ++ index_statements ++ later_statements) c.in_err-make_first.ensures.ends
+    fails_first c.from_residual.result c.in_err-make_first.field-0.0 c.from_residual.ensures.1 (λ s before. IsCreatingTables s empty_schema before) first_create_statements
+    (second_create_statements ++ create_index_statements ++ last_create_statements) c.in_err-make_first.ensures.ends
 
 pub returns-in_err-make_second-clause-ends : goal.returns-in_err-make_second-clause-ends
 returns-in_err-make_second-clause-ends g c =
-    fails_then (λ s before. IsMaking s no_schema before) (λ s before. IsMaking s with_person before) (first_statements) second_statements c.in_ok-make_first.ensures.ends
+    fails_then (λ s before. IsCreatingTables s empty_schema before) (λ s before. IsCreatingTables s schema_with_persons before) (first_create_statements) second_create_statements
+    c.in_ok-make_first.ensures.ends
     (λ clean before k. (c.in_ok-make_first.ensures.made clean before k))
-    c.from_residual-in_err-make_second.result c.in_err-make_second.field-0.0 c.from_residual-in_err-make_second.ensures.1 (index_statements ++ later_statements) c.in_err-make_second.ensures.ends
+    c.from_residual-in_err-make_second.result c.in_err-make_second.field-0.0 c.from_residual-in_err-make_second.ensures.1 (create_index_statements ++ last_create_statements)
+    c.in_err-make_second.ensures.ends
 
 pub returns-in_err-make_indexes-clause-ends : goal.returns-in_err-make_indexes-clause-ends
 returns-in_err-make_indexes-clause-ends g c =
-    fails_then (λ s before. IsMaking s no_schema before) (λ s before. IsMaking s with_message before) (first_statements ++ second_statements) index_statements
-    (done_then (λ s before. IsMaking s no_schema before) (λ s before. IsMaking s with_person before) (first_statements) second_statements c.in_ok-make_first.ensures.ends
+    fails_then (λ s before. IsCreatingTables s empty_schema before) (λ s before. IsCreatingTables s schema_with_messages before) (first_create_statements ++ second_create_statements)
+    create_index_statements
+    (done_then (λ s before. IsCreatingTables s empty_schema before) (λ s before. IsCreatingTables s schema_with_persons before) (first_create_statements) second_create_statements
+    c.in_ok-make_first.ensures.ends
     (λ clean before k. (c.in_ok-make_first.ensures.made clean before k)) _ (tt {0}) c.in_ok-make_second.ensures.ends)
     (λ clean before k. (c.in_ok-make_second.ensures.made clean before (c.in_ok-make_first.ensures.made (c.in_ok-make_second.ensures.ends.lasts.returned clean) before k)))
-    c.from_residual-in_err-make_indexes.result c.in_err-make_indexes.field-0.0 c.from_residual-in_err-make_indexes.ensures.1 (later_statements) c.in_err-make_indexes.ensures.ends
+    c.from_residual-in_err-make_indexes.result c.in_err-make_indexes.field-0.0 c.from_residual-in_err-make_indexes.ensures.1 (last_create_statements) c.in_err-make_indexes.ensures.ends
 
 pub returns-in_err-make_later-clause-ends : goal.returns-in_err-make_later-clause-ends
 returns-in_err-make_later-clause-ends g c =
-    fails_then (λ s before. IsMaking s no_schema before) (λ s before. IsMaking s schema_1 before) ((first_statements ++ second_statements) ++ index_statements)
-    later_statements (done_then (λ s before. IsMaking s no_schema before) (λ s before. IsMaking s with_message before) (first_statements ++ second_statements)
-    index_statements (done_then (λ s before. IsMaking s no_schema before) (λ s before. IsMaking s with_person before) (first_statements) second_statements
+    fails_then (λ s before. IsCreatingTables s empty_schema before) (λ s before. IsCreatingTables s schema_1 before) ((first_create_statements ++ second_create_statements) ++ create_index_statements)
+    last_create_statements (done_then (λ s before. IsCreatingTables s empty_schema before) (λ s before. IsCreatingTables s schema_with_messages before)
+    (first_create_statements ++ second_create_statements)
+    create_index_statements (done_then (λ s before. IsCreatingTables s empty_schema before) (λ s before. IsCreatingTables s schema_with_persons before) (first_create_statements)
+    second_create_statements
     c.in_ok-make_first.ensures.ends (λ clean before k. (c.in_ok-make_first.ensures.made clean before k)) _ (tt {0}) c.in_ok-make_second.ensures.ends)
     (λ clean before k. (c.in_ok-make_second.ensures.made clean before (c.in_ok-make_first.ensures.made (c.in_ok-make_second.ensures.ends.lasts.returned clean) before k))) _
     (tt {0}) c.in_ok-make_indexes.ensures.ends) (λ clean before k. (c.in_ok-make_indexes.ensures.made clean before
@@ -148,10 +154,14 @@ returns-in_err-make_later-clause-ends g c =
 
 pub returns-in_err-commit-clause-ends : goal.returns-in_err-commit-clause-ends
 returns-in_err-commit-clause-ends g c =
-    fails_then (λ s before. IsMaking s no_schema before) (λ s before. IsMade s before empty_archive) (((first_statements ++ second_statements) ++ index_statements) ++ later_statements)
-    [] (done_then (λ s before. IsMaking s no_schema before) (λ s before. IsMaking s schema_1 before) ((first_statements ++ second_statements) ++ index_statements)
-    later_statements (done_then (λ s before. IsMaking s no_schema before) (λ s before. IsMaking s with_message before) (first_statements ++ second_statements)
-    index_statements (done_then (λ s before. IsMaking s no_schema before) (λ s before. IsMaking s with_person before) (first_statements) second_statements
+    fails_then (λ s before. IsCreatingTables s empty_schema before) (λ s before. IsReadyToCommit s before empty_archive)
+    (((first_create_statements ++ second_create_statements) ++ create_index_statements) ++ last_create_statements)
+    [] (done_then (λ s before. IsCreatingTables s empty_schema before) (λ s before. IsCreatingTables s schema_1 before)
+    ((first_create_statements ++ second_create_statements) ++ create_index_statements)
+    last_create_statements (done_then (λ s before. IsCreatingTables s empty_schema before) (λ s before. IsCreatingTables s schema_with_messages before)
+    (first_create_statements ++ second_create_statements)
+    create_index_statements (done_then (λ s before. IsCreatingTables s empty_schema before) (λ s before. IsCreatingTables s schema_with_persons before) (first_create_statements)
+    second_create_statements
     c.in_ok-make_first.ensures.ends (λ clean before k. (c.in_ok-make_first.ensures.made clean before k)) _ (tt {0}) c.in_ok-make_second.ensures.ends)
     (λ clean before k. (c.in_ok-make_second.ensures.made clean before (c.in_ok-make_first.ensures.made (c.in_ok-make_second.ensures.ends.lasts.returned clean) before k))) _
     (tt {0}) c.in_ok-make_indexes.ensures.ends) (λ clean before k. (c.in_ok-make_indexes.ensures.made clean before
@@ -163,14 +173,18 @@ returns-in_err-commit-clause-ends g c =
     (c.in_ok-make_first.ensures.made (c.in_ok-make_second.ensures.ends.lasts.returned (c.in_ok-make_indexes.ensures.ends.lasts.returned
     (c.in_ok-make_later.ensures.ends.lasts.returned clean))) before k)))))
     c.from_residual-in_err-commit.result c.in_err-commit.field-0.0 c.from_residual-in_err-commit.ensures.1 ([])
-    (commit_ends (λ s before. IsMade s before empty_archive) (λ before k. (k.is_open, k.within)) c.in_err-commit.ensures.ends)
+    (commit_ends (λ s before. IsReadyToCommit s before empty_archive) (λ before k. (k.is_open, k.within)) c.in_err-commit.ensures.ends)
 
 pub returns-clause-ends : goal.returns-clause-ends
 returns-clause-ends g c =
-    done_then (λ s before. IsMaking s no_schema before) (λ s before. IsMade s before empty_archive) (((first_statements ++ second_statements) ++ index_statements) ++ later_statements)
-    [] (done_then (λ s before. IsMaking s no_schema before) (λ s before. IsMaking s schema_1 before) ((first_statements ++ second_statements) ++ index_statements)
-    later_statements (done_then (λ s before. IsMaking s no_schema before) (λ s before. IsMaking s with_message before) (first_statements ++ second_statements)
-    index_statements (done_then (λ s before. IsMaking s no_schema before) (λ s before. IsMaking s with_person before) (first_statements) second_statements
+    done_then (λ s before. IsCreatingTables s empty_schema before) (λ s before. IsReadyToCommit s before empty_archive)
+    (((first_create_statements ++ second_create_statements) ++ create_index_statements) ++ last_create_statements)
+    [] (done_then (λ s before. IsCreatingTables s empty_schema before) (λ s before. IsCreatingTables s schema_1 before)
+    ((first_create_statements ++ second_create_statements) ++ create_index_statements)
+    last_create_statements (done_then (λ s before. IsCreatingTables s empty_schema before) (λ s before. IsCreatingTables s schema_with_messages before)
+    (first_create_statements ++ second_create_statements)
+    create_index_statements (done_then (λ s before. IsCreatingTables s empty_schema before) (λ s before. IsCreatingTables s schema_with_persons before) (first_create_statements)
+    second_create_statements
     c.in_ok-make_first.ensures.ends (λ clean before k. (c.in_ok-make_first.ensures.made clean before k)) _ (tt {0}) c.in_ok-make_second.ensures.ends)
     (λ clean before k. (c.in_ok-make_second.ensures.made clean before (c.in_ok-make_first.ensures.made (c.in_ok-make_second.ensures.ends.lasts.returned clean) before k))) _
     (tt {0}) c.in_ok-make_indexes.ensures.ends) (λ clean before k. (c.in_ok-make_indexes.ensures.made clean before
@@ -180,5 +194,5 @@ returns-clause-ends g c =
     (c.in_ok-make_indexes.ensures.made (c.in_ok-make_later.ensures.ends.lasts.returned clean) before
     (c.in_ok-make_second.ensures.made (c.in_ok-make_indexes.ensures.ends.lasts.returned (c.in_ok-make_later.ensures.ends.lasts.returned clean)) before
     (c.in_ok-make_first.ensures.made (c.in_ok-make_second.ensures.ends.lasts.returned (c.in_ok-make_indexes.ensures.ends.lasts.returned
-    (c.in_ok-make_later.ensures.ends.lasts.returned clean))) before k))))) _ _ (commit_ends (λ s before. IsMade s before empty_archive)
+    (c.in_ok-make_later.ensures.ends.lasts.returned clean))) before k))))) _ _ (commit_ends (λ s before. IsReadyToCommit s before empty_archive)
     (λ before k. (k.is_open, k.within)) c.in_ok-commit.ensures.ends)

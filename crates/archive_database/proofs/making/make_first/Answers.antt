@@ -1,10 +1,10 @@
 use Rattle.std.proofs.Common.{[], ◌∷◌}
-use Rattle.archive_tables.specs.Making.{IsMaking}
-use Rattle.archive_tables.specs.Statements.{making_version, making_lists, making_persons}
+use Rattle.archive_tables.specs.Making.{IsCreatingTables}
+use Rattle.archive_tables.specs.Statements.{create_version_statement, create_list_statement, create_person_statement}
 use Rattle.archive_database.proofs.StepsLemmas.{one_ends, fails_first, fails_then, done_then}
 use Rattle.sqlite.specs.Held.{state}
 use Rattle.archive_database.proofs.MakingLemmas.{stopped_by, on_err}
-use Rattle.archive_tables.specs.Schema.{no_schema, with_version, with_list}
+use Rattle.archive_tables.specs.Schema.{empty_schema, schema_with_version, schema_with_lists}
 use Rattle.archive_tables.proofs.CrashLemmas.{making_within}
 use Rattle.archive_database.proofs.making.make_first.Goals as goal
 
@@ -32,14 +32,14 @@ returns-in_err-create_person-clause-stopped g c = λ clean before making.
 
 pub returns-in_err-create_version-clause-quiet : goal.returns-in_err-create_version-clause-quiet
 returns-in_err-create_version-clause-quiet g c = λ before making clean db may.
-    c.create_version.ensures.quiet before (making_within (state g.S.Store c.args.conn.now) before no_schema making) clean db may
+    c.create_version.ensures.quiet before (making_within (state g.S.Store c.args.conn.now) before empty_schema making) clean db may
 
 pub returns-in_err-create_list-clause-quiet : goal.returns-in_err-create_list-clause-quiet
 returns-in_err-create_list-clause-quiet g c = λ before making clean db may.
     let clean_1 = c.create_list.ensures.ends.lasts.returned clean in
     let made_1 = c.in_ok-create_version.ensures.made clean_1 before making in
-    c.create_version.ensures.quiet before (making_within (state g.S.Store c.args.conn.now) before no_schema making) clean_1 db
-    (c.create_list.ensures.quiet before (making_within (state g.S.Store c.create_version.new.conn) before with_version made_1) clean db may)
+    c.create_version.ensures.quiet before (making_within (state g.S.Store c.args.conn.now) before empty_schema making) clean_1 db
+    (c.create_list.ensures.quiet before (making_within (state g.S.Store c.create_version.new.conn) before schema_with_version made_1) clean db may)
 
 pub returns-in_err-create_person-clause-quiet : goal.returns-in_err-create_person-clause-quiet
 returns-in_err-create_person-clause-quiet g c = λ before making clean db may.
@@ -47,9 +47,9 @@ returns-in_err-create_person-clause-quiet g c = λ before making clean db may.
     let clean_1 = c.create_list.ensures.ends.lasts.returned clean_2 in
     let made_1 = c.in_ok-create_version.ensures.made clean_1 before making in
     let made_2 = c.in_ok-create_list.ensures.made clean_2 before made_1 in
-    c.create_version.ensures.quiet before (making_within (state g.S.Store c.args.conn.now) before no_schema making) clean_1 db
-    (c.create_list.ensures.quiet before (making_within (state g.S.Store c.create_version.new.conn) before with_version made_1) clean_2 db
-    (c.create_person.ensures.quiet before (making_within (state g.S.Store c.create_list.new.conn) before with_list made_2) clean db may))
+    c.create_version.ensures.quiet before (making_within (state g.S.Store c.args.conn.now) before empty_schema making) clean_1 db
+    (c.create_list.ensures.quiet before (making_within (state g.S.Store c.create_version.new.conn) before schema_with_version made_1) clean_2 db
+    (c.create_person.ensures.quiet before (making_within (state g.S.Store c.create_list.new.conn) before schema_with_lists made_2) clean db may))
 
 pub returns-clause-quiet : goal.returns-clause-quiet
 returns-clause-quiet g c = λ before making clean db may.
@@ -57,39 +57,41 @@ returns-clause-quiet g c = λ before making clean db may.
     let clean_1 = c.create_list.ensures.ends.lasts.returned clean_2 in
     let made_1 = c.in_ok-create_version.ensures.made clean_1 before making in
     let made_2 = c.in_ok-create_list.ensures.made clean_2 before made_1 in
-    c.create_version.ensures.quiet before (making_within (state g.S.Store c.args.conn.now) before no_schema making) clean_1 db
-    (c.create_list.ensures.quiet before (making_within (state g.S.Store c.create_version.new.conn) before with_version made_1) clean_2 db
-    (c.create_person.ensures.quiet before (making_within (state g.S.Store c.create_list.new.conn) before with_list made_2) clean db may))
+    c.create_version.ensures.quiet before (making_within (state g.S.Store c.args.conn.now) before empty_schema making) clean_1 db
+    (c.create_list.ensures.quiet before (making_within (state g.S.Store c.create_version.new.conn) before schema_with_version made_1) clean_2 db
+    (c.create_person.ensures.quiet before (making_within (state g.S.Store c.create_list.new.conn) before schema_with_lists made_2) clean db may))
 
 -- ---- how it ends
 
 pub returns-in_err-create_version-clause-ends : goal.returns-in_err-create_version-clause-ends
 returns-in_err-create_version-clause-ends g c =
-    fails_first c.from_residual.result c.in_err-create_version.field-0.0 c.from_residual.ensures.1 (λ s before. IsMaking s no_schema before) (making_version ∷ [])
-    (making_lists ∷ making_persons ∷ []) (one_ends (λ s before. IsMaking s no_schema before) (λ before k. (k.is_open, k.schema_is)) c.in_err-create_version.ensures.ends)
+    fails_first c.from_residual.result c.in_err-create_version.field-0.0 c.from_residual.ensures.1 (λ s before. IsCreatingTables s empty_schema before) (create_version_statement ∷ [])
+    (create_list_statement ∷ create_person_statement ∷ []) (one_ends (λ s before. IsCreatingTables s empty_schema before) (λ before k. (k.is_open, k.schema_is)) c.in_err-create_version.ensures.ends)
 
 pub returns-in_err-create_list-clause-ends : goal.returns-in_err-create_list-clause-ends
 returns-in_err-create_list-clause-ends g c =
-    fails_then (λ s before. IsMaking s no_schema before) (λ s before. IsMaking s with_version before) (making_version ∷ []) (making_lists ∷ [])
-    (one_ends (λ s before. IsMaking s no_schema before) (λ before k. (k.is_open, k.schema_is)) c.in_ok-create_version.ensures.ends) c.in_ok-create_version.ensures.made
-    c.from_residual-in_err-create_list.result c.in_err-create_list.field-0.0 c.from_residual-in_err-create_list.ensures.1 (making_persons ∷ [])
-    (one_ends (λ s before. IsMaking s with_version before) (λ before k. (k.is_open, k.schema_is)) c.in_err-create_list.ensures.ends)
+    fails_then (λ s before. IsCreatingTables s empty_schema before) (λ s before. IsCreatingTables s schema_with_version before) (create_version_statement ∷ []) (create_list_statement ∷ [])
+    (one_ends (λ s before. IsCreatingTables s empty_schema before) (λ before k. (k.is_open, k.schema_is)) c.in_ok-create_version.ensures.ends) c.in_ok-create_version.ensures.made
+    c.from_residual-in_err-create_list.result c.in_err-create_list.field-0.0 c.from_residual-in_err-create_list.ensures.1 (create_person_statement ∷ [])
+    (one_ends (λ s before. IsCreatingTables s schema_with_version before) (λ before k. (k.is_open, k.schema_is)) c.in_err-create_list.ensures.ends)
 
 pub returns-in_err-create_person-clause-ends : goal.returns-in_err-create_person-clause-ends
 returns-in_err-create_person-clause-ends g c =
-    fails_then (λ s before. IsMaking s no_schema before) (λ s before. IsMaking s with_list before) (making_version ∷ making_lists ∷ []) (making_persons ∷ [])
-    (done_then (λ s before. IsMaking s no_schema before) (λ s before. IsMaking s with_version before) (making_version ∷ []) (making_lists ∷ [])
-    (one_ends (λ s before. IsMaking s no_schema before) (λ before k. (k.is_open, k.schema_is)) c.in_ok-create_version.ensures.ends) c.in_ok-create_version.ensures.made _
-    (tt {0}) (one_ends (λ s before. IsMaking s with_version before) (λ before k. (k.is_open, k.schema_is)) c.in_ok-create_list.ensures.ends))
+    fails_then (λ s before. IsCreatingTables s empty_schema before) (λ s before. IsCreatingTables s schema_with_lists before) (create_version_statement ∷ create_list_statement ∷ [])
+    (create_person_statement ∷ [])
+    (done_then (λ s before. IsCreatingTables s empty_schema before) (λ s before. IsCreatingTables s schema_with_version before) (create_version_statement ∷ []) (create_list_statement ∷ [])
+    (one_ends (λ s before. IsCreatingTables s empty_schema before) (λ before k. (k.is_open, k.schema_is)) c.in_ok-create_version.ensures.ends) c.in_ok-create_version.ensures.made _
+    (tt {0}) (one_ends (λ s before. IsCreatingTables s schema_with_version before) (λ before k. (k.is_open, k.schema_is)) c.in_ok-create_list.ensures.ends))
     (λ clean before k. c.in_ok-create_list.ensures.made clean before (c.in_ok-create_version.ensures.made (c.in_ok-create_list.ensures.ends.lasts.returned clean) before k))
     c.from_residual-in_err-create_person.result c.in_err-create_person.field-0.0 c.from_residual-in_err-create_person.ensures.1 []
-    (one_ends (λ s before. IsMaking s with_list before) (λ before k. (k.is_open, k.schema_is)) c.in_err-create_person.ensures.ends)
+    (one_ends (λ s before. IsCreatingTables s schema_with_lists before) (λ before k. (k.is_open, k.schema_is)) c.in_err-create_person.ensures.ends)
 
 pub returns-clause-ends : goal.returns-clause-ends
 returns-clause-ends g c =
-    done_then (λ s before. IsMaking s no_schema before) (λ s before. IsMaking s with_list before) (making_version ∷ making_lists ∷ []) (making_persons ∷ [])
-    (done_then (λ s before. IsMaking s no_schema before) (λ s before. IsMaking s with_version before) (making_version ∷ []) (making_lists ∷ [])
-    (one_ends (λ s before. IsMaking s no_schema before) (λ before k. (k.is_open, k.schema_is)) c.in_ok-create_version.ensures.ends) c.in_ok-create_version.ensures.made _
-    (tt {0}) (one_ends (λ s before. IsMaking s with_version before) (λ before k. (k.is_open, k.schema_is)) c.in_ok-create_list.ensures.ends))
+    done_then (λ s before. IsCreatingTables s empty_schema before) (λ s before. IsCreatingTables s schema_with_lists before) (create_version_statement ∷ create_list_statement ∷ [])
+    (create_person_statement ∷ [])
+    (done_then (λ s before. IsCreatingTables s empty_schema before) (λ s before. IsCreatingTables s schema_with_version before) (create_version_statement ∷ []) (create_list_statement ∷ [])
+    (one_ends (λ s before. IsCreatingTables s empty_schema before) (λ before k. (k.is_open, k.schema_is)) c.in_ok-create_version.ensures.ends) c.in_ok-create_version.ensures.made _
+    (tt {0}) (one_ends (λ s before. IsCreatingTables s schema_with_version before) (λ before k. (k.is_open, k.schema_is)) c.in_ok-create_list.ensures.ends))
     (λ clean before k. c.in_ok-create_list.ensures.made clean before (c.in_ok-create_version.ensures.made (c.in_ok-create_list.ensures.ends.lasts.returned clean) before k)) _ _
-    (one_ends (λ s before. IsMaking s with_list before) (λ before k. (k.is_open, k.schema_is)) c.in_ok-create_person.ensures.ends)
+    (one_ends (λ s before. IsCreatingTables s schema_with_lists before) (λ before k. (k.is_open, k.schema_is)) c.in_ok-create_person.ensures.ends)

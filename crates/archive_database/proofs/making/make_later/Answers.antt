@@ -1,6 +1,6 @@
 use Rattle.std.proofs.Common.{[], ◌∷◌}
-use Rattle.archive_tables.specs.Making.{IsMaking}
-use Rattle.archive_tables.specs.Statements.{making_options, making_addresses, adding_version}
+use Rattle.archive_tables.specs.Making.{IsCreatingTables}
+use Rattle.archive_tables.specs.Statements.{create_option_statement, create_address_statement, insert_version_statement}
 use Rattle.archive_database.proofs.StepsLemmas.{one_ends, fails_first, fails_then, done_then}
 use Rattle.sqlite.specs.Held.{state}
 use Rattle.archive_database.proofs.MakingLemmas.{stopped_by, on_err}
@@ -66,31 +66,33 @@ returns-clause-quiet g c = λ before making clean db may.
 
 pub returns-in_err-create_option-clause-ends : goal.returns-in_err-create_option-clause-ends
 returns-in_err-create_option-clause-ends g c =
-    fails_first c.from_residual.result c.in_err-create_option.field-0.0 c.from_residual.ensures.1 (λ s before. IsMaking s schema_1 before) (making_options ∷ [])
-    (making_addresses ∷ adding_version ∷ []) (one_ends (λ s before. IsMaking s schema_1 before) (λ before k. (k.is_open, k.schema_is)) c.in_err-create_option.ensures.ends)
+    fails_first c.from_residual.result c.in_err-create_option.field-0.0 c.from_residual.ensures.1 (λ s before. IsCreatingTables s schema_1 before) (create_option_statement ∷ [])
+    (create_address_statement ∷ insert_version_statement ∷ []) (one_ends (λ s before. IsCreatingTables s schema_1 before) (λ before k. (k.is_open, k.schema_is)) c.in_err-create_option.ensures.ends)
 
 pub returns-in_err-create_address-clause-ends : goal.returns-in_err-create_address-clause-ends
 returns-in_err-create_address-clause-ends g c =
-    fails_then (λ s before. IsMaking s schema_1 before) (λ s before. IsMaking s schema_2 before) (making_options ∷ []) (making_addresses ∷ [])
-    (one_ends (λ s before. IsMaking s schema_1 before) (λ before k. (k.is_open, k.schema_is)) c.in_ok-create_option.ensures.ends) c.in_ok-create_option.ensures.made
-    c.from_residual-in_err-create_address.result c.in_err-create_address.field-0.0 c.from_residual-in_err-create_address.ensures.1 (adding_version ∷ [])
-    (one_ends (λ s before. IsMaking s schema_2 before) (λ before k. (k.is_open, k.schema_is)) c.in_err-create_address.ensures.ends)
+    fails_then (λ s before. IsCreatingTables s schema_1 before) (λ s before. IsCreatingTables s schema_2 before) (create_option_statement ∷ []) (create_address_statement ∷ [])
+    (one_ends (λ s before. IsCreatingTables s schema_1 before) (λ before k. (k.is_open, k.schema_is)) c.in_ok-create_option.ensures.ends) c.in_ok-create_option.ensures.made
+    c.from_residual-in_err-create_address.result c.in_err-create_address.field-0.0 c.from_residual-in_err-create_address.ensures.1 (insert_version_statement ∷ [])
+    (one_ends (λ s before. IsCreatingTables s schema_2 before) (λ before k. (k.is_open, k.schema_is)) c.in_err-create_address.ensures.ends)
 
 pub returns-in_err-add_version-clause-ends : goal.returns-in_err-add_version-clause-ends
 returns-in_err-add_version-clause-ends g c =
-    fails_then (λ s before. IsMaking s schema_1 before) (λ s before. IsMaking s archive_schema before) (making_options ∷ making_addresses ∷ []) (adding_version ∷ [])
-    (done_then (λ s before. IsMaking s schema_1 before) (λ s before. IsMaking s schema_2 before) (making_options ∷ []) (making_addresses ∷ [])
-    (one_ends (λ s before. IsMaking s schema_1 before) (λ before k. (k.is_open, k.schema_is)) c.in_ok-create_option.ensures.ends) c.in_ok-create_option.ensures.made _
-    (tt {0}) (one_ends (λ s before. IsMaking s schema_2 before) (λ before k. (k.is_open, k.schema_is)) c.in_ok-create_address.ensures.ends))
+    fails_then (λ s before. IsCreatingTables s schema_1 before) (λ s before. IsCreatingTables s archive_schema before) (create_option_statement ∷ create_address_statement ∷ [])
+    (insert_version_statement ∷ [])
+    (done_then (λ s before. IsCreatingTables s schema_1 before) (λ s before. IsCreatingTables s schema_2 before) (create_option_statement ∷ []) (create_address_statement ∷ [])
+    (one_ends (λ s before. IsCreatingTables s schema_1 before) (λ before k. (k.is_open, k.schema_is)) c.in_ok-create_option.ensures.ends) c.in_ok-create_option.ensures.made _
+    (tt {0}) (one_ends (λ s before. IsCreatingTables s schema_2 before) (λ before k. (k.is_open, k.schema_is)) c.in_ok-create_address.ensures.ends))
     (λ clean before k. c.in_ok-create_address.ensures.made clean before (c.in_ok-create_option.ensures.made (c.in_ok-create_address.ensures.ends.lasts.returned clean) before k))
     c.from_residual-in_err-add_version.result c.in_err-add_version.field-0.0 c.from_residual-in_err-add_version.ensures.1 []
-    (one_ends (λ s before. IsMaking s archive_schema before) (λ before k. (k.is_open, k.schema_is)) c.in_err-add_version.ensures.ends)
+    (one_ends (λ s before. IsCreatingTables s archive_schema before) (λ before k. (k.is_open, k.schema_is)) c.in_err-add_version.ensures.ends)
 
 pub returns-clause-ends : goal.returns-clause-ends
 returns-clause-ends g c =
-    done_then (λ s before. IsMaking s schema_1 before) (λ s before. IsMaking s archive_schema before) (making_options ∷ making_addresses ∷ []) (adding_version ∷ [])
-    (done_then (λ s before. IsMaking s schema_1 before) (λ s before. IsMaking s schema_2 before) (making_options ∷ []) (making_addresses ∷ [])
-    (one_ends (λ s before. IsMaking s schema_1 before) (λ before k. (k.is_open, k.schema_is)) c.in_ok-create_option.ensures.ends) c.in_ok-create_option.ensures.made _
-    (tt {0}) (one_ends (λ s before. IsMaking s schema_2 before) (λ before k. (k.is_open, k.schema_is)) c.in_ok-create_address.ensures.ends))
+    done_then (λ s before. IsCreatingTables s schema_1 before) (λ s before. IsCreatingTables s archive_schema before) (create_option_statement ∷ create_address_statement ∷ [])
+    (insert_version_statement ∷ [])
+    (done_then (λ s before. IsCreatingTables s schema_1 before) (λ s before. IsCreatingTables s schema_2 before) (create_option_statement ∷ []) (create_address_statement ∷ [])
+    (one_ends (λ s before. IsCreatingTables s schema_1 before) (λ before k. (k.is_open, k.schema_is)) c.in_ok-create_option.ensures.ends) c.in_ok-create_option.ensures.made _
+    (tt {0}) (one_ends (λ s before. IsCreatingTables s schema_2 before) (λ before k. (k.is_open, k.schema_is)) c.in_ok-create_address.ensures.ends))
     (λ clean before k. c.in_ok-create_address.ensures.made clean before (c.in_ok-create_option.ensures.made (c.in_ok-create_address.ensures.ends.lasts.returned clean) before k)) _ _
-    (one_ends (λ s before. IsMaking s archive_schema before) (λ before k. (k.is_open, k.schema_is)) c.in_ok-add_version.ensures.ends)
+    (one_ends (λ s before. IsCreatingTables s archive_schema before) (λ before k. (k.is_open, k.schema_is)) c.in_ok-add_version.ensures.ends)

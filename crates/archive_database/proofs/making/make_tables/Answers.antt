@@ -1,5 +1,5 @@
 use Rattle.std.proofs.Common.{inl, inr, subst, ◌∙◌, rules}
-use Rattle.archive_tables.specs.Statements.{IsRefusedInTurn, making_statements}
+use Rattle.archive_tables.specs.Statements.{IsAnyStatementRefused, all_create_statements}
 use Rattle.archive_tables.proofs.RefusedLemmas.{never_unmade}
 use Rattle.archive_database.proofs.StepsLemmas.{blames, blames_it}
 use Rattle.sqlite.specs.Held.{state}
@@ -45,7 +45,7 @@ returns-in-Err-clause-ends g c =
           let clean_2 = c.rollback-undone.ensures.lasts.returned clean in
           let clean_1 = c.in-Err.ensures.ends.lasts.returned clean_2 in
           let making = c.in_ok-begin.ensures.begun clean_1 it.1 in
-          blames_it old mid stop new c.in-Err.error (IsRefusedInTurn making_statements mid.now) ⊥ c.begin.ensures.ends.lasts
+          blames_it old mid stop new c.in-Err.error (IsAnyStatementRefused all_create_statements mid.now) ⊥ c.begin.ensures.ends.lasts
           c.rollback-undone.ensures.lasts (never_unmade mid.now making.schema_is)
           (c.in-Err.ensures.ends.caused clean_2 old.committed making (c.begin.ensures.ends.lasts.limit ∙ free)) _ (search rules);
     }

@@ -1,10 +1,10 @@
 use Rattle.std.proofs.Common.{◌≡◌, ℕ, pos, sym, subst, Ok, [], ◌∷◌}
 use Rattle.sqlite.specs.Held.{state}
-use Rattle.archive_tables.specs.Schema.{schema_1, schema_2, schema_of}
-use Rattle.archive_tables.specs.Statements.{making_options, copying_options, option_statements}
-use Rattle.archive_database.specs.Adopting.{IsOlder}
+use Rattle.archive_tables.specs.Schema.{schema_1, schema_2, schema_of_version}
+use Rattle.archive_tables.specs.Statements.{create_option_statement, backfill_options_statement, option_migration_statements}
+use Rattle.archive_database.specs.Adopting.{IsOlderVersion}
 use Rattle.archive_database.proofs.StepsLemmas.{one_ends, same_ends, no_option, fails_first, fails_then, done_then}
-use Rattle.archive_tables.specs.Making.{IsMoving, IsWithin, EndsSteps}
+use Rattle.archive_tables.specs.Making.{IsMigratingTables, IsInTransactionWithSchema, EndsSteps}
 use Rattle.archive_database.proofs.MakingLemmas.{stopped_by, on_err}
 use Rattle.archive_database.proofs.making.move_options.Goals as goal
 
@@ -12,14 +12,14 @@ pub returns-clause-moved : goal.returns-clause-moved
 returns-clause-moved g c = λ clean older before archive moving.
     let said = pos c.args.number in
     let first : c.args.number ≡ 1 = c.if-number-ne1.false in
-    let start = subst (λ (n : ℕ). IsMoving (state g.S.Store c.args.conn.now) before (schema_of n) said n archive) first moving in
+    let start = subst (λ (n : ℕ). IsMigratingTables (state g.S.Store c.args.conn.now) before (schema_of_version n) said n archive) first moving in
     let made = c.in_ok-create_option.ensures.moved (c.in_ok-copy_options.ensures.ends.lasts.returned clean) before said archive start in
     c.in_ok-copy_options.ensures.moved clean before said archive made.0 made.1
 
 pub returns-clause-within : goal.returns-clause-within
 returns-clause-within g c = λ clean older before within.
     let first : c.args.number ≡ 1 = c.if-number-ne1.false in
-    let start = subst (λ (n : ℕ). IsWithin (state g.S.Store c.args.conn.now) before (schema_of n)) first within in
+    let start = subst (λ (n : ℕ). IsInTransactionWithSchema (state g.S.Store c.args.conn.now) before (schema_of_version n)) first within in
     c.in_ok-copy_options.ensures.within clean before (c.in_ok-create_option.ensures.within (c.in_ok-copy_options.ensures.ends.lasts.returned clean) before start)
 
 -- ---- what a stop of the machine leaves
@@ -30,13 +30,13 @@ returns-then-number-ne1-clause-quiet g c = λ older before within clean db may. 
 pub returns-in_err-create_option-clause-quiet : goal.returns-in_err-create_option-clause-quiet
 returns-in_err-create_option-clause-quiet g c = λ older before within clean db may.
     let first : c.args.number ≡ 1 = c.if-number-ne1.false in
-    let start = subst (λ (n : ℕ). IsWithin (state g.S.Store c.args.conn.now) before (schema_of n)) first within in
+    let start = subst (λ (n : ℕ). IsInTransactionWithSchema (state g.S.Store c.args.conn.now) before (schema_of_version n)) first within in
     c.create_option.ensures.quiet before start clean db may
 
 pub returns-in_err-copy_options-clause-quiet : goal.returns-in_err-copy_options-clause-quiet
 returns-in_err-copy_options-clause-quiet g c = λ older before within clean db may.
     let first : c.args.number ≡ 1 = c.if-number-ne1.false in
-    let start = subst (λ (n : ℕ). IsWithin (state g.S.Store c.args.conn.now) before (schema_of n)) first within in
+    let start = subst (λ (n : ℕ). IsInTransactionWithSchema (state g.S.Store c.args.conn.now) before (schema_of_version n)) first within in
     let clean_1 = c.copy_options.ensures.ends.lasts.returned clean in
     c.create_option.ensures.quiet before start clean_1 db
     (c.copy_options.ensures.quiet before (c.in_ok-create_option.ensures.within clean_1 before start) clean db may)
@@ -44,7 +44,7 @@ returns-in_err-copy_options-clause-quiet g c = λ older before within clean db m
 pub returns-clause-quiet : goal.returns-clause-quiet
 returns-clause-quiet g c = λ older before within clean db may.
     let first : c.args.number ≡ 1 = c.if-number-ne1.false in
-    let start = subst (λ (n : ℕ). IsWithin (state g.S.Store c.args.conn.now) before (schema_of n)) first within in
+    let start = subst (λ (n : ℕ). IsInTransactionWithSchema (state g.S.Store c.args.conn.now) before (schema_of_version n)) first within in
     let clean_1 = c.copy_options.ensures.ends.lasts.returned clean in
     c.create_option.ensures.quiet before start clean_1 db
     (c.copy_options.ensures.quiet before (c.in_ok-create_option.ensures.within clean_1 before start) clean db may)
@@ -54,14 +54,14 @@ returns-clause-quiet g c = λ older before within clean db may.
 pub returns-in_err-create_option-clause-stopped : goal.returns-in_err-create_option-clause-stopped
 returns-in_err-create_option-clause-stopped g c = λ clean older before within.
     let first : c.args.number ≡ 1 = c.if-number-ne1.false in
-    let start = subst (λ (n : ℕ). IsWithin (state g.S.Store c.args.conn.now) before (schema_of n)) first within in
+    let start = subst (λ (n : ℕ). IsInTransactionWithSchema (state g.S.Store c.args.conn.now) before (schema_of_version n)) first within in
     on_err c.from_residual.result _
     (stopped_by (state g.S.Store c.args.conn.now) (state g.S.Store c.create_option.new.conn) before start.behind start.within (c.in_err-create_option.ensures.ends.stopped clean))
 
 pub returns-in_err-copy_options-clause-stopped : goal.returns-in_err-copy_options-clause-stopped
 returns-in_err-copy_options-clause-stopped g c = λ clean older before within.
     let first : c.args.number ≡ 1 = c.if-number-ne1.false in
-    let start = subst (λ (n : ℕ). IsWithin (state g.S.Store c.args.conn.now) before (schema_of n)) first within in
+    let start = subst (λ (n : ℕ). IsInTransactionWithSchema (state g.S.Store c.args.conn.now) before (schema_of_version n)) first within in
     let made = c.in_ok-create_option.ensures.within (c.in_err-copy_options.ensures.ends.lasts.returned clean) before start in
     on_err c.from_residual-in_err-copy_options.result _
     (stopped_by (state g.S.Store c.create_option.new.conn) (state g.S.Store c.copy_options.new.conn) before made.behind made.within (c.in_err-copy_options.ensures.ends.stopped clean))
@@ -70,31 +70,37 @@ returns-in_err-copy_options-clause-stopped g c = λ clean older before within.
 
 pub returns-then-number-ne1-clause-ends : goal.returns-then-number-ne1-clause-ends
 returns-then-number-ne1-clause-ends g c =
-    same_ends g.S.Store c.args.conn.now _ _ (option_statements c.args.number) (no_option c.args.number c.if-number-ne1.true)
+    same_ends g.S.Store c.args.conn.now _ _ (option_migration_statements c.args.number) (no_option c.args.number c.if-number-ne1.true)
 
 pub returns-in_err-create_option-clause-ends : goal.returns-in_err-create_option-clause-ends
 returns-in_err-create_option-clause-ends g c =
     let first : c.args.number ≡ 1 = c.if-number-ne1.false in
-    subst (λ (n : ℕ). EndsSteps g.S.Store c.args.conn.now c.create_option.new.conn c.from_residual.result (λ s before. IsOlder n × IsWithin s before (schema_of n)) (option_statements n)) (sym first)
-    (fails_first c.from_residual.result c.in_err-create_option.field-0.0 c.from_residual.ensures.1 (λ s before. IsOlder 1 × IsWithin s before schema_1)
-    (making_options ∷ []) (copying_options ∷ []) (one_ends (λ s before. IsOlder 1 × IsWithin s before schema_1) (λ before k. (k.1.is_open, k.1.schema_is)) c.in_err-create_option.ensures.ends))
+    subst (λ (n : ℕ). EndsSteps g.S.Store c.args.conn.now c.create_option.new.conn c.from_residual.result
+    (λ s before. IsOlderVersion n × IsInTransactionWithSchema s before (schema_of_version n)) (option_migration_statements n)) (sym first)
+    (fails_first c.from_residual.result c.in_err-create_option.field-0.0 c.from_residual.ensures.1 (λ s before. IsOlderVersion 1 × IsInTransactionWithSchema s before schema_1)
+    (create_option_statement ∷ []) (backfill_options_statement ∷ []) (one_ends (λ s before. IsOlderVersion 1 × IsInTransactionWithSchema s before schema_1)
+    (λ before k. (k.1.is_open, k.1.schema_is)) c.in_err-create_option.ensures.ends))
 
 pub returns-in_err-copy_options-clause-ends : goal.returns-in_err-copy_options-clause-ends
 returns-in_err-copy_options-clause-ends g c =
     let first : c.args.number ≡ 1 = c.if-number-ne1.false in
-    subst (λ (n : ℕ). EndsSteps g.S.Store c.args.conn.now c.copy_options.new.conn c.from_residual-in_err-copy_options.result (λ s before. IsOlder n × IsWithin s before (schema_of n))
-    (option_statements n)) (sym first)
-    (fails_then (λ s before. IsOlder 1 × IsWithin s before schema_1) (λ s before. IsWithin s before schema_2) (making_options ∷ []) (copying_options ∷ [])
-    (one_ends (λ s before. IsOlder 1 × IsWithin s before schema_1) (λ before k. (k.1.is_open, k.1.schema_is)) c.in_ok-create_option.ensures.ends)
+    subst (λ (n : ℕ). EndsSteps g.S.Store c.args.conn.now c.copy_options.new.conn c.from_residual-in_err-copy_options.result
+    (λ s before. IsOlderVersion n × IsInTransactionWithSchema s before (schema_of_version n))
+    (option_migration_statements n)) (sym first)
+    (fails_then (λ s before. IsOlderVersion 1 × IsInTransactionWithSchema s before schema_1) (λ s before. IsInTransactionWithSchema s before schema_2) (create_option_statement ∷ [])
+    (backfill_options_statement ∷ [])
+    (one_ends (λ s before. IsOlderVersion 1 × IsInTransactionWithSchema s before schema_1) (λ before k. (k.1.is_open, k.1.schema_is)) c.in_ok-create_option.ensures.ends)
     (λ clean before k. c.in_ok-create_option.ensures.within clean before k.1)
     c.from_residual-in_err-copy_options.result c.in_err-copy_options.field-0.0 c.from_residual-in_err-copy_options.ensures.1 []
-    (one_ends (λ s before. IsWithin s before schema_2) (λ before k. (k.is_open, k.schema_is)) c.in_err-copy_options.ensures.ends))
+    (one_ends (λ s before. IsInTransactionWithSchema s before schema_2) (λ before k. (k.is_open, k.schema_is)) c.in_err-copy_options.ensures.ends))
 
 pub returns-clause-ends : goal.returns-clause-ends
 returns-clause-ends g c =
     let first : c.args.number ≡ 1 = c.if-number-ne1.false in
-    subst (λ (n : ℕ). EndsSteps g.S.Store c.args.conn.now c.copy_options.new.conn (Ok (tt {0})) (λ s before. IsOlder n × IsWithin s before (schema_of n)) (option_statements n)) (sym first)
-    (done_then (λ s before. IsOlder 1 × IsWithin s before schema_1) (λ s before. IsWithin s before schema_2) (making_options ∷ []) (copying_options ∷ [])
-    (one_ends (λ s before. IsOlder 1 × IsWithin s before schema_1) (λ before k. (k.1.is_open, k.1.schema_is)) c.in_ok-create_option.ensures.ends)
+    subst (λ (n : ℕ). EndsSteps g.S.Store c.args.conn.now c.copy_options.new.conn (Ok (tt {0})) (λ s before. IsOlderVersion n × IsInTransactionWithSchema s before (schema_of_version n))
+    (option_migration_statements n)) (sym first)
+    (done_then (λ s before. IsOlderVersion 1 × IsInTransactionWithSchema s before schema_1) (λ s before. IsInTransactionWithSchema s before schema_2) (create_option_statement ∷ [])
+    (backfill_options_statement ∷ [])
+    (one_ends (λ s before. IsOlderVersion 1 × IsInTransactionWithSchema s before schema_1) (λ before k. (k.1.is_open, k.1.schema_is)) c.in_ok-create_option.ensures.ends)
     (λ clean before k. c.in_ok-create_option.ensures.within clean before k.1) _ (tt {0})
-    (one_ends (λ s before. IsWithin s before schema_2) (λ before k. (k.is_open, k.schema_is)) c.in_ok-copy_options.ensures.ends))
+    (one_ends (λ s before. IsInTransactionWithSchema s before schema_2) (λ before k. (k.is_open, k.schema_is)) c.in_ok-copy_options.ensures.ends))

@@ -2,10 +2,10 @@ use Rattle.std.proofs.Common.{pos, inl, inr, refl, Result, Ok, Err, [], ◌∷�
 use Rattle.sqlite.specs.declared.error.Error.{Error}
 use Rattle.sqlite.specs.Held.{state}
 use Rattle.archive_database.proofs.MakingLemmas.{stopped_by, on_err}
-use Rattle.archive_tables.specs.Schema.{schema_2, archive_schema, schema_of}
-use Rattle.archive_tables.specs.Making.{IsWithin, EndsSteps}
-use Rattle.archive_tables.specs.Statements.{making_addresses, changing_version, option_statements}
-use Rattle.archive_database.specs.Adopting.{IsOlder}
+use Rattle.archive_tables.specs.Schema.{schema_2, archive_schema, schema_of_version}
+use Rattle.archive_tables.specs.Making.{IsInTransactionWithSchema, EndsSteps}
+use Rattle.archive_tables.specs.Statements.{create_address_statement, update_version_statement, option_migration_statements}
+use Rattle.archive_database.specs.Adopting.{IsOlderVersion}
 use Rattle.archive_database.proofs.StepsLemmas.{one_ends, commit_ends, fails_first, fails_then, done_then}
 use Rattle.archive_tables.proofs.CrashLemmas.{is_within, commit_made}
 use Rattle.archive_database.proofs.making.move_tables.Goals as goal
@@ -53,19 +53,19 @@ returns-in_err-commit-clause-stopped g c = λ clean older before within.
 
 pub returns-in_err-move_options-clause-crash : goal.returns-in_err-move_options-clause-crash
 returns-in_err-move_options-clause-crash g c = λ older before archive moving clean db may.
-    let within = is_within (state g.S.Store c.args.conn.now) before (schema_of c.args.number) (pos c.args.number) c.args.number archive moving in
+    let within = is_within (state g.S.Store c.args.conn.now) before (schema_of_version c.args.number) (pos c.args.number) c.args.number archive moving in
     inl (c.move_options.ensures.quiet older before within clean db may)
 
 pub returns-in_err-create_address-clause-crash : goal.returns-in_err-create_address-clause-crash
 returns-in_err-create_address-clause-crash g c = λ older before archive moving clean db may.
-    let within = is_within (state g.S.Store c.args.conn.now) before (schema_of c.args.number) (pos c.args.number) c.args.number archive moving in
+    let within = is_within (state g.S.Store c.args.conn.now) before (schema_of_version c.args.number) (pos c.args.number) c.args.number archive moving in
     let clean_1 = c.create_address.ensures.ends.lasts.returned clean in
     let k = c.in_ok-move_options.ensures.within clean_1 older before within in
     inl (c.move_options.ensures.quiet older before within clean_1 db (c.create_address.ensures.quiet before k clean db may))
 
 pub returns-in_err-set_version-clause-crash : goal.returns-in_err-set_version-clause-crash
 returns-in_err-set_version-clause-crash g c = λ older before archive moving clean db may.
-    let within = is_within (state g.S.Store c.args.conn.now) before (schema_of c.args.number) (pos c.args.number) c.args.number archive moving in
+    let within = is_within (state g.S.Store c.args.conn.now) before (schema_of_version c.args.number) (pos c.args.number) c.args.number archive moving in
     let clean_2 = c.set_version.ensures.ends.lasts.returned clean in
     let clean_1 = c.create_address.ensures.ends.lasts.returned clean_2 in
     let k = c.in_ok-move_options.ensures.within clean_1 older before within in
@@ -75,7 +75,7 @@ returns-in_err-set_version-clause-crash g c = λ older before archive moving cle
 pub returns-in_err-commit-clause-crash : goal.returns-in_err-commit-clause-crash
 returns-in_err-commit-clause-crash g c = λ older before archive moving clean db may.
     let said = pos c.args.number in
-    let within = is_within (state g.S.Store c.args.conn.now) before (schema_of c.args.number) said c.args.number archive moving in
+    let within = is_within (state g.S.Store c.args.conn.now) before (schema_of_version c.args.number) said c.args.number archive moving in
     let clean_3 = c.commit.ensures.ends.lasts.returned clean in
     let clean_2 = c.set_version.ensures.ends.lasts.returned clean_3 in
     let clean_1 = c.create_address.ensures.ends.lasts.returned clean_2 in
@@ -91,7 +91,7 @@ returns-in_err-commit-clause-crash g c = λ older before archive moving clean db
 pub returns-clause-crash : goal.returns-clause-crash
 returns-clause-crash g c = λ older before archive moving clean db may.
     let said = pos c.args.number in
-    let within = is_within (state g.S.Store c.args.conn.now) before (schema_of c.args.number) said c.args.number archive moving in
+    let within = is_within (state g.S.Store c.args.conn.now) before (schema_of_version c.args.number) said c.args.number archive moving in
     let clean_3 = c.commit.ensures.ends.lasts.returned clean in
     let clean_2 = c.set_version.ensures.ends.lasts.returned clean_3 in
     let clean_1 = c.create_address.ensures.ends.lasts.returned clean_2 in
@@ -108,50 +108,57 @@ returns-clause-crash g c = λ older before archive moving clean db may.
 
 pub returns-in_err-move_options-clause-ends : goal.returns-in_err-move_options-clause-ends
 returns-in_err-move_options-clause-ends g c =
-    fails_first c.from_residual.result c.in_err-move_options.field-0.0 c.from_residual.ensures.1 (λ s before. IsOlder c.args.number × IsWithin s before (schema_of c.args.number))
-    (option_statements c.args.number) (making_addresses ∷ changing_version ∷ []) c.in_err-move_options.ensures.ends
+    fails_first c.from_residual.result c.in_err-move_options.field-0.0 c.from_residual.ensures.1
+    (λ s before. IsOlderVersion c.args.number × IsInTransactionWithSchema s before (schema_of_version c.args.number))
+    (option_migration_statements c.args.number) (create_address_statement ∷ update_version_statement ∷ []) c.in_err-move_options.ensures.ends
 
 pub returns-in_err-create_address-clause-ends : goal.returns-in_err-create_address-clause-ends
 returns-in_err-create_address-clause-ends g c =
-    fails_then (λ s before. IsOlder c.args.number × IsWithin s before (schema_of c.args.number)) (λ s before. IsWithin s before schema_2) (option_statements c.args.number)
-    (making_addresses ∷ []) c.in_ok-move_options.ensures.ends (λ clean before k. c.in_ok-move_options.ensures.within clean k.0 before k.1)
-    c.from_residual-in_err-create_address.result c.in_err-create_address.field-0.0 c.from_residual-in_err-create_address.ensures.1 (changing_version ∷ [])
-    (one_ends (λ s before. IsWithin s before schema_2) (λ before k. (k.is_open, k.schema_is)) c.in_err-create_address.ensures.ends)
+    fails_then (λ s before. IsOlderVersion c.args.number × IsInTransactionWithSchema s before (schema_of_version c.args.number)) (λ s before. IsInTransactionWithSchema s before schema_2)
+    (option_migration_statements c.args.number)
+    (create_address_statement ∷ []) c.in_ok-move_options.ensures.ends (λ clean before k. c.in_ok-move_options.ensures.within clean k.0 before k.1)
+    c.from_residual-in_err-create_address.result c.in_err-create_address.field-0.0 c.from_residual-in_err-create_address.ensures.1 (update_version_statement ∷ [])
+    (one_ends (λ s before. IsInTransactionWithSchema s before schema_2) (λ before k. (k.is_open, k.schema_is)) c.in_err-create_address.ensures.ends)
 
 pub returns-in_err-set_version-clause-ends : goal.returns-in_err-set_version-clause-ends
 returns-in_err-set_version-clause-ends g c =
-    let second : EndsSteps g.S.Store c.move_options.new.conn c.set_version.new.conn (failed c.in_err-set_version.field-0.0) (λ s before. IsWithin s before schema_2)
-    (making_addresses ∷ changing_version ∷ []) =
-    fails_then (λ s before. IsWithin s before schema_2) (λ s before. IsWithin s before archive_schema) (making_addresses ∷ []) (changing_version ∷ [])
-    (one_ends (λ s before. IsWithin s before schema_2) (λ before k. (k.is_open, k.schema_is)) c.in_ok-create_address.ensures.ends) c.in_ok-create_address.ensures.within
-    (failed c.in_err-set_version.field-0.0) c.in_err-set_version.field-0.0 refl [] (one_ends (λ s before. IsWithin s before archive_schema)
+    let second : EndsSteps g.S.Store c.move_options.new.conn c.set_version.new.conn (failed c.in_err-set_version.field-0.0) (λ s before. IsInTransactionWithSchema s before schema_2)
+    (create_address_statement ∷ update_version_statement ∷ []) =
+    fails_then (λ s before. IsInTransactionWithSchema s before schema_2) (λ s before. IsInTransactionWithSchema s before archive_schema) (create_address_statement ∷ []) (update_version_statement ∷ [])
+    (one_ends (λ s before. IsInTransactionWithSchema s before schema_2) (λ before k. (k.is_open, k.schema_is)) c.in_ok-create_address.ensures.ends) c.in_ok-create_address.ensures.within
+    (failed c.in_err-set_version.field-0.0) c.in_err-set_version.field-0.0 refl [] (one_ends (λ s before. IsInTransactionWithSchema s before archive_schema)
     (λ before k. (k.is_open, k.schema_is)) c.in_err-set_version.ensures.ends) in
-    fails_then (λ s before. IsOlder c.args.number × IsWithin s before (schema_of c.args.number)) (λ s before. IsWithin s before schema_2) (option_statements c.args.number)
-    (making_addresses ∷ changing_version ∷ []) c.in_ok-move_options.ensures.ends (λ clean before k. c.in_ok-move_options.ensures.within clean k.0 before k.1)
+    fails_then (λ s before. IsOlderVersion c.args.number × IsInTransactionWithSchema s before (schema_of_version c.args.number)) (λ s before. IsInTransactionWithSchema s before schema_2)
+    (option_migration_statements c.args.number)
+    (create_address_statement ∷ update_version_statement ∷ []) c.in_ok-move_options.ensures.ends (λ clean before k. c.in_ok-move_options.ensures.within clean k.0 before k.1)
     c.from_residual-in_err-set_version.result c.in_err-set_version.field-0.0 c.from_residual-in_err-set_version.ensures.1 [] second
 
 pub returns-in_err-commit-clause-ends : goal.returns-in_err-commit-clause-ends
 returns-in_err-commit-clause-ends g c =
-    let second : EndsSteps g.S.Store c.move_options.new.conn c.commit.new.conn (failed c.in_err-commit.field-0.0) (λ s before. IsWithin s before schema_2) (making_addresses ∷ changing_version ∷ []) =
-    fails_then (λ s before. IsWithin s before schema_2) (λ s before. IsWithin s before archive_schema) (making_addresses ∷ changing_version ∷ []) []
-    (done_then (λ s before. IsWithin s before schema_2) (λ s before. IsWithin s before archive_schema) (making_addresses ∷ []) (changing_version ∷ [])
-    (one_ends (λ s before. IsWithin s before schema_2) (λ before k. (k.is_open, k.schema_is)) c.in_ok-create_address.ensures.ends) c.in_ok-create_address.ensures.within _
-    (tt {0}) (one_ends (λ s before. IsWithin s before archive_schema) (λ before k. (k.is_open, k.schema_is)) c.in_ok-set_version.ensures.ends))
+    let second : EndsSteps g.S.Store c.move_options.new.conn c.commit.new.conn (failed c.in_err-commit.field-0.0) (λ s before. IsInTransactionWithSchema s before schema_2)
+    (create_address_statement ∷ update_version_statement ∷ []) =
+    fails_then (λ s before. IsInTransactionWithSchema s before schema_2) (λ s before. IsInTransactionWithSchema s before archive_schema) (create_address_statement ∷ update_version_statement ∷ []) []
+    (done_then (λ s before. IsInTransactionWithSchema s before schema_2) (λ s before. IsInTransactionWithSchema s before archive_schema) (create_address_statement ∷ []) (update_version_statement ∷ [])
+    (one_ends (λ s before. IsInTransactionWithSchema s before schema_2) (λ before k. (k.is_open, k.schema_is)) c.in_ok-create_address.ensures.ends) c.in_ok-create_address.ensures.within _
+    (tt {0}) (one_ends (λ s before. IsInTransactionWithSchema s before archive_schema) (λ before k. (k.is_open, k.schema_is)) c.in_ok-set_version.ensures.ends))
     (λ clean before k. c.in_ok-set_version.ensures.within clean before (c.in_ok-create_address.ensures.within (c.in_ok-set_version.ensures.ends.lasts.returned clean) before k))
-    (failed c.in_err-commit.field-0.0) c.in_err-commit.field-0.0 refl [] (commit_ends (λ s before. IsWithin s before archive_schema)
+    (failed c.in_err-commit.field-0.0) c.in_err-commit.field-0.0 refl [] (commit_ends (λ s before. IsInTransactionWithSchema s before archive_schema)
     (λ before k. (k.is_open, k.within)) c.in_err-commit.ensures.ends) in
-    fails_then (λ s before. IsOlder c.args.number × IsWithin s before (schema_of c.args.number)) (λ s before. IsWithin s before schema_2) (option_statements c.args.number)
-    (making_addresses ∷ changing_version ∷ []) c.in_ok-move_options.ensures.ends (λ clean before k. c.in_ok-move_options.ensures.within clean k.0 before k.1)
+    fails_then (λ s before. IsOlderVersion c.args.number × IsInTransactionWithSchema s before (schema_of_version c.args.number)) (λ s before. IsInTransactionWithSchema s before schema_2)
+    (option_migration_statements c.args.number)
+    (create_address_statement ∷ update_version_statement ∷ []) c.in_ok-move_options.ensures.ends (λ clean before k. c.in_ok-move_options.ensures.within clean k.0 before k.1)
     c.from_residual-in_err-commit.result c.in_err-commit.field-0.0 c.from_residual-in_err-commit.ensures.1 [] second
 
 pub returns-clause-ends : goal.returns-clause-ends
 returns-clause-ends g c =
-    let second : EndsSteps g.S.Store c.move_options.new.conn c.commit.new.conn done (λ s before. IsWithin s before schema_2) (making_addresses ∷ changing_version ∷ []) =
-    done_then (λ s before. IsWithin s before schema_2) (λ s before. IsWithin s before archive_schema) (making_addresses ∷ changing_version ∷ []) []
-    (done_then (λ s before. IsWithin s before schema_2) (λ s before. IsWithin s before archive_schema) (making_addresses ∷ []) (changing_version ∷ [])
-    (one_ends (λ s before. IsWithin s before schema_2) (λ before k. (k.is_open, k.schema_is)) c.in_ok-create_address.ensures.ends) c.in_ok-create_address.ensures.within _
-    (tt {0}) (one_ends (λ s before. IsWithin s before archive_schema) (λ before k. (k.is_open, k.schema_is)) c.in_ok-set_version.ensures.ends))
+    let second : EndsSteps g.S.Store c.move_options.new.conn c.commit.new.conn done (λ s before. IsInTransactionWithSchema s before schema_2)
+    (create_address_statement ∷ update_version_statement ∷ []) =
+    done_then (λ s before. IsInTransactionWithSchema s before schema_2) (λ s before. IsInTransactionWithSchema s before archive_schema) (create_address_statement ∷ update_version_statement ∷ []) []
+    (done_then (λ s before. IsInTransactionWithSchema s before schema_2) (λ s before. IsInTransactionWithSchema s before archive_schema) (create_address_statement ∷ []) (update_version_statement ∷ [])
+    (one_ends (λ s before. IsInTransactionWithSchema s before schema_2) (λ before k. (k.is_open, k.schema_is)) c.in_ok-create_address.ensures.ends) c.in_ok-create_address.ensures.within _
+    (tt {0}) (one_ends (λ s before. IsInTransactionWithSchema s before archive_schema) (λ before k. (k.is_open, k.schema_is)) c.in_ok-set_version.ensures.ends))
     (λ clean before k. c.in_ok-set_version.ensures.within clean before (c.in_ok-create_address.ensures.within (c.in_ok-set_version.ensures.ends.lasts.returned clean) before k)) _
-    (tt {0}) (commit_ends (λ s before. IsWithin s before archive_schema) (λ before k. (k.is_open, k.within)) c.in_ok-commit.ensures.ends) in
-    done_then (λ s before. IsOlder c.args.number × IsWithin s before (schema_of c.args.number)) (λ s before. IsWithin s before schema_2) (option_statements c.args.number)
-    (making_addresses ∷ changing_version ∷ []) c.in_ok-move_options.ensures.ends (λ clean before k. c.in_ok-move_options.ensures.within clean k.0 before k.1) tt tt second
+    (tt {0}) (commit_ends (λ s before. IsInTransactionWithSchema s before archive_schema) (λ before k. (k.is_open, k.within)) c.in_ok-commit.ensures.ends) in
+    done_then (λ s before. IsOlderVersion c.args.number × IsInTransactionWithSchema s before (schema_of_version c.args.number)) (λ s before. IsInTransactionWithSchema s before schema_2)
+    (option_migration_statements c.args.number)
+    (create_address_statement ∷ update_version_statement ∷ []) c.in_ok-move_options.ensures.ends (λ clean before k. c.in_ok-move_options.ensures.within clean k.0 before k.1) tt tt second

@@ -1,9 +1,9 @@
 use Rattle.std.proofs.Common.{◌⊎◌, inl, inr, None, ap, ◌∙◌, length}
 use Rattle.std.specs.Prelude.{nat_le, bytes_eq}
 use Rattle.sqlite.specs.Held.{state}
-use Rattle.archive_machine.specs.Questions.{messages_in}
+use Rattle.archive_model.specs.Questions.{messages_in}
 use Rattle.archive_tables.specs.Tables.{archive_of}
-use Rattle.archive_tables.specs.Calls.{IsCaused}
+use Rattle.archive_tables.specs.Calls.{IsMemoryOrDiskError}
 use Rattle.archive_tables.proofs.RunLemmas.{on_fault}
 use Rattle.archive_tables.proofs.CauseLemmas.{carried, answers_none}
 use Rattle.archive_tables.proofs.LastLemmas.{lasts_then}
@@ -47,7 +47,7 @@ returns-in_err-may_be_full g c =
     let new = state g.S.Store c.may_be_full.new.conn in
     record {
       over = λ clean behind k. on_fault _ _ c.from_residual.result c.from_residual.ensures.1 (c.in_err-may_be_full.ensures.over clean behind k);
-      caused = λ clean k free. carried c.from_residual.result c.in_err-may_be_full.field-0.0 (λ e. IsCaused old new e ⊎ ⊥) c.from_residual.ensures.1
+      caused = λ clean k free. carried c.from_residual.result c.in_err-may_be_full.field-0.0 (λ e. IsMemoryOrDiskError old new e ⊎ ⊥) c.from_residual.ensures.1
           (c.in_err-may_be_full.ensures.caused clean k free);
       same = λ clean. answers_none c.from_residual.result _ _ c.from_residual.ensures.1;
       quiet = λ clean db may. c.may_be_full.ensures.quiet clean db may;
@@ -67,7 +67,7 @@ returns-in_err-count g c =
           on_fault _ _ exit.result exit.ensures.1 (rests_behind behind old mid new first.1.1 (c.in_err-count.ensures.over clean behind first.1.0));
       caused = λ clean k free.
           let first = c.in_ok-may_be_full.ensures.over (c.in_err-count.ensures.ends.lasts.returned clean) None k in
-          carried exit.result error (λ e. IsCaused old new e ⊎ ⊥) exit.ensures.1
+          carried exit.result error (λ e. IsMemoryOrDiskError old new e ⊎ ⊥) exit.ensures.1
           (elim (c.in_err-count.ensures.caused clean first.1.0 (c.may_be_full.ensures.ends.lasts.limit ∙ free)) [
             | inl why ↦ inl (caused_since old mid new error c.may_be_full.ensures.ends.lasts why)
             | inr none ↦ absurd none

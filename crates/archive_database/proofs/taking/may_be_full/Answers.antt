@@ -1,6 +1,6 @@
 use Rattle.std.proofs.Common.{◌⊎◌}
 use Rattle.sqlite.specs.Held.{state}
-use Rattle.archive_tables.specs.Calls.{IsCaused}
+use Rattle.archive_tables.specs.Calls.{IsMemoryOrDiskError}
 use Rattle.archive_tables.proofs.CauseLemmas.{carried, answers_none}
 use Rattle.archive_tables.proofs.RunLemmas.{on_fault}
 use Rattle.archive_database.proofs.TakingLemmas.{above_zero}
@@ -23,7 +23,7 @@ returns-in_err-reached g c =
     let new = state g.S.Store c.reaches.new.conn in
     record {
       over = λ clean behind k. on_fault _ _ c.from_residual.result c.from_residual.ensures.1 (c.in_err-reached.ensures.asks.over clean behind k);
-      caused = λ clean k free. carried c.from_residual.result c.in_err-reached.field-0.0 (λ e. IsCaused old new e ⊎ ⊥) c.from_residual.ensures.1
+      caused = λ clean k free. carried c.from_residual.result c.in_err-reached.field-0.0 (λ e. IsMemoryOrDiskError old new e ⊎ ⊥) c.from_residual.ensures.1
           (c.in_err-reached.ensures.asks.caused clean k free);
       same = λ clean. answers_none c.from_residual.result _ _ c.from_residual.ensures.1;
       quiet = λ clean db may. c.reaches.ensures.asks.quiet clean db may;

@@ -1,14 +1,14 @@
 use Rattle.std.proofs.Common.{◌≡◌, ◌++◌, ℕ, Some, Err, rules, sym, subst, inr, refl}
 use Rattle.std.specs.Prelude.{MatchOption}
-use Rattle.archive_machine.specs.Questions.{list_refusal, messages_in}
-use Rattle.archive_results.specs.Access.{ReaderMarks}
-use Rattle.archive_port.specs.Replies.{refusal}
-use Rattle.archive_store.specs.Told.{HoldsTables, GoesIn, GoesInIfOpen}
-use Rattle.archive_store.specs.Walking.{Begins, over}
-use Rattle.archive_desk.specs.Asking.{IsEnough}
-use Rattle.archive_desk.specs.Causes.{IsReaderUnreadable, IsUnreadable}
-use Rattle.archive_desk.specs.Ending.{EndsExport, TellsWriter}
-use Rattle.archive_desk.specs.Exporting.{Exports, IsExportStop, exported}
+use Rattle.archive_model.specs.Questions.{list_refusal, messages_in}
+use Rattle.archive_results.specs.Access.{ReaderFacts}
+use Rattle.archive_port.specs.Replies.{refusal_of_fault}
+use Rattle.archive_store.specs.Told.{HoldsTables, RelatesArchivesUnder, RelatesArchivesUnderIfOpen}
+use Rattle.archive_store.specs.Walking.{BeginsListWalk, walk_over_store}
+use Rattle.archive_desk.specs.Asking.{DeterminesVerdicts}
+use Rattle.archive_desk.specs.Causes.{IsReaderUnreadable, IsQuestionUnreadable}
+use Rattle.archive_desk.specs.Ending.{EndsExport, ReportsWriterFailure}
+use Rattle.archive_desk.specs.Exporting.{ExportsMbox, IsExportStop, exported_text}
 use Rattle.archive_desk.specs.declared.exporting.ExportStop.{ExportStop}
 use Rattle.archive_desk.proofs.AskLemmas.{is_list_fault}
 use Rattle.archive_desk.proofs.EndLemmas.{export_ends, export_stops, unbegun_ends}
@@ -20,12 +20,12 @@ pub returns-in-Err-clause-exported : goal.returns-in-Err-clause-exported
 returns-in-Err-clause-exported g c =
     let ask = c.args.ask.now in
     let told = g.W.Sink.told c.args.out.now in
-    not_viewed g.S.Store c.args.store.now c.find_reader.new.store ask told told (λ a. c.args.head.now ++ exported a ask) c.in-Err.fault c.in-Err.ensures.found
+    not_viewed g.S.Store c.args.store.now c.resolve_reader.new.store ask told told (λ a. c.args.head.now ++ exported_text a ask) c.in-Err.fault c.in-Err.ensures.found
 
 pub returns-in-Err-clause-stopped : goal.returns-in-Err-clause-stopped
 returns-in-Err-clause-stopped g c =
     let ask = c.args.ask.now in
-    leaves_none g.S.Store c.args.store.now c.find_reader.new.store ask (g.W.Sink.told c.args.out.now) (λ a. c.args.head.now ++ exported a ask) c.in-Err.fault
+    leaves_none g.S.Store c.args.store.now c.resolve_reader.new.store ask (g.W.Sink.told c.args.out.now) (λ a. c.args.head.now ++ exported_text a ask) c.in-Err.fault
 
 pub returns-in-Err-clause-writer : goal.returns-in-Err-clause-writer
 returns-in-Err-clause-writer g c = tells_none (g.W.Sink.told c.args.out.now) (g.W.Sink.failures c.args.out.now) c.in-Err.fault c.in-Err.ensures.ends.fault
@@ -33,34 +33,35 @@ returns-in-Err-clause-writer g c = tells_none (g.W.Sink.told c.args.out.now) (g.
 pub returns-in-Err-clause-ends : goal.returns-in-Err-clause-ends
 returns-in-Err-clause-ends g c =
     let ask = c.args.ask.now in
-    export_stops g.S.Store ask c.args.store.now c.find_reader.new.store c.find_reader.new.store ReaderMarks c.in-Err.fault (λ a. IsReaderUnreadable a ask) (λ a bad. inr bad) c.in-Err.ensures.ends
+    export_stops g.S.Store ask c.args.store.now c.resolve_reader.new.store c.resolve_reader.new.store ReaderFacts c.in-Err.fault (λ a. IsReaderUnreadable a ask) (λ a bad. inr bad)
+    c.in-Err.ensures.ends
 
 pub returns-clause-exported : goal.returns-clause-exported
 returns-clause-exported g c =
     let ask = c.args.ask.now in
     let old = c.args.store.now in
-    let mid = c.find_reader.new.store in
+    let mid = c.resolve_reader.new.store in
     let last = c.each_row.new.self in
     let fault = c.in-Err-each_row.fault in
     let told = g.W.Sink.told c.args.out.now in
     let is : c.ask.inside.list.now ≡ ask.list = search rules in
     let refused =
-    subst (λ l. MatchOption (refusal fault) (GoesInIfOpen g.S.Store (HoldsTables g.S.Store) mid last (λ a b. b ≡ a))
-    (λ why. GoesIn g.S.Store (HoldsTables g.S.Store) mid last (λ a b. (b ≡ a) × (list_refusal a l ≡ Some why)))) is
+    subst (λ l. MatchOption (refusal_of_fault fault) (RelatesArchivesUnderIfOpen g.S.Store (HoldsTables g.S.Store) mid last (λ a b. b ≡ a))
+    (λ why. RelatesArchivesUnder g.S.Store (HoldsTables g.S.Store) mid last (λ a b. (b ≡ a) × (list_refusal a l ≡ Some why)))) is
     c.in-Err-each_row.ensures.refused.0 in
-    subst (λ f. Exports g.S.Store old last (Err (record { written = 0; fault = f })) ask told told (λ a. c.args.head.now ++ exported a ask)) (sym c.from.ensures)
-    (not_begun g.S.Store old mid ask (λ a. IsEnough a ask c.in-Ok.reader) c.in-Ok.ensures.found last told told (λ a. c.args.head.now ++ exported a ask) fault refused)
+    subst (λ f. ExportsMbox g.S.Store old last (Err (record { written = 0; fault = f })) ask told told (λ a. c.args.head.now ++ exported_text a ask)) (sym c.from.ensures)
+    (not_begun g.S.Store old mid ask (λ a. DeterminesVerdicts a ask c.in-Ok.reader) c.in-Ok.ensures.found last told told (λ a. c.args.head.now ++ exported_text a ask) fault refused)
 
 pub returns-clause-stopped : goal.returns-clause-stopped
 returns-clause-stopped g c =
     let ask = c.args.ask.now in
-    leaves_none g.S.Store c.args.store.now c.each_row.new.self ask (g.W.Sink.told c.args.out.now) (λ a. c.args.head.now ++ exported a ask) c.from.result
+    leaves_none g.S.Store c.args.store.now c.each_row.new.self ask (g.W.Sink.told c.args.out.now) (λ a. c.args.head.now ++ exported_text a ask) c.from.result
 
 pub returns-clause-writer : goal.returns-clause-writer
 returns-clause-writer g c =
     let told = g.W.Sink.told c.args.out.now in
     let failures = g.W.Sink.failures c.args.out.now in
-    subst (λ f. TellsWriter failures failures {A = ℕ} {F = ExportStop} (Err (record { written = 0; fault = f }))
+    subst (λ f. ReportsWriterFailure failures failures {A = ℕ} {F = ExportStop} (Err (record { written = 0; fault = f }))
     (λ stop. IsExportStop told told failures failures stop.written stop.fault)) (sym c.from.ensures)
     (tells_none told failures _ (is_list_fault c.in-Err-each_row.fault c.in-Err-each_row.ensures.kind))
 
@@ -68,26 +69,26 @@ pub returns-clause-ends : goal.returns-clause-ends
 returns-clause-ends g c =
     let ask = c.args.ask.now in
     let old = c.args.store.now in
-    let mid = c.find_reader.new.store in
+    let mid = c.resolve_reader.new.store in
     let last = c.each_row.new.self in
     let fault = c.in-Err-each_row.fault in
     let found = c.in-Ok.ensures.found in
-    let Unread : _ = λ a. IsUnreadable a ask (messages_in a ask.list) in
+    let Unread : _ = λ a. IsQuestionUnreadable a ask (messages_in a ask.list) in
     subst (λ f. EndsExport g.S.Store old last ask (Err (record { written = 0; fault = f }))) (sym c.from.ensures)
-    (export_stops g.S.Store ask old mid last ReaderMarks _ Unread (λ a bad. bad)
+    (export_stops g.S.Store ask old mid last ReaderFacts _ Unread (λ a bad. bad)
     (unbegun_ends g.S.Store old mid last (found.0, λ returned held. let there = found.1 returned held in (there.0, there.1.0)) c.in-Ok.ensures.ends.counted.0
-    c.in-Ok.ensures.ends.was_open ReaderMarks c.ask.inside.list.now fault Unread c.in-Err-each_row.ensures.refused c.in-Err-each_row.ensures.kind))
+    c.in-Ok.ensures.ends.was_open ReaderFacts c.ask.inside.list.now fault Unread c.in-Err-each_row.ensures.refused c.in-Err-each_row.ensures.kind))
 
 pub returns-in-Ok-each_row-clause-exported : goal.returns-in-Ok-each_row-clause-exported
 returns-in-Ok-each_row-clause-exported g c =
     let ask = c.args.ask.now in
     let old = c.args.store.now in
-    let mid = c.find_reader.new.store in
+    let mid = c.resolve_reader.new.store in
     let last = c.write_walk.new.store in
-    let walk = over c.each_row.new.self c.in-Ok-each_row.walk in
-    let new = over c.write_walk.new.store c.write_walk.new.walk in
+    let walk = walk_over_store c.each_row.new.self c.in-Ok-each_row.walk in
+    let new = walk_over_store c.write_walk.new.store c.write_walk.new.walk in
     let list : c.ask.inside.list.now ≡ ask.list = search rules in
-    let begun = subst (λ l. Begins g.S.Store mid l walk) list c.in-Ok-each_row.ensures.begun in
+    let begun = subst (λ l. BeginsListWalk g.S.Store mid l walk) list c.in-Ok-each_row.ensures.begun in
     walk_ended g.S.Store old mid last walk new ask c.in-Ok.reader c.args.head.now (g.W.Sink.told c.args.out.now) (g.W.Sink.told c.write_walk.new.out) refl
     c.in-Ok.ensures.found begun c.write_walk.ensures.ends.lasts (g.W.Sink.failures c.args.out.now) (g.W.Sink.failures c.write_walk.new.out) c.write_walk.result
     c.write_walk.ensures.writer.cause c.write_walk.ensures.written
@@ -96,12 +97,12 @@ pub returns-in-Ok-each_row-clause-stopped : goal.returns-in-Ok-each_row-clause-s
 returns-in-Ok-each_row-clause-stopped g c =
     let ask = c.args.ask.now in
     let old = c.args.store.now in
-    let mid = c.find_reader.new.store in
+    let mid = c.resolve_reader.new.store in
     let last = c.write_walk.new.store in
-    let walk = over c.each_row.new.self c.in-Ok-each_row.walk in
-    let new = over c.write_walk.new.store c.write_walk.new.walk in
+    let walk = walk_over_store c.each_row.new.self c.in-Ok-each_row.walk in
+    let new = walk_over_store c.write_walk.new.store c.write_walk.new.walk in
     let list : c.ask.inside.list.now ≡ ask.list = search rules in
-    let begun = subst (λ l. Begins g.S.Store mid l walk) list c.in-Ok-each_row.ensures.begun in
+    let begun = subst (λ l. BeginsListWalk g.S.Store mid l walk) list c.in-Ok-each_row.ensures.begun in
     walk_leaves g.S.Store old mid last walk new ask c.in-Ok.reader c.args.head.now (g.W.Sink.told c.args.out.now) (g.W.Sink.told c.write_walk.new.out) refl
     c.in-Ok.ensures.found begun c.write_walk.ensures.ends.lasts (g.W.Sink.failures c.args.out.now) (g.W.Sink.failures c.write_walk.new.out) c.write_walk.result
     c.in-Ok.ensures.ends.was_open c.write_walk.ensures.written
@@ -110,12 +111,12 @@ pub returns-in-Ok-each_row-clause-writer : goal.returns-in-Ok-each_row-clause-wr
 returns-in-Ok-each_row-clause-writer g c =
     let ask = c.args.ask.now in
     let old = c.args.store.now in
-    let mid = c.find_reader.new.store in
+    let mid = c.resolve_reader.new.store in
     let last = c.write_walk.new.store in
-    let walk = over c.each_row.new.self c.in-Ok-each_row.walk in
-    let new = over c.write_walk.new.store c.write_walk.new.walk in
+    let walk = walk_over_store c.each_row.new.self c.in-Ok-each_row.walk in
+    let new = walk_over_store c.write_walk.new.store c.write_walk.new.walk in
     let list : c.ask.inside.list.now ≡ ask.list = search rules in
-    let begun = subst (λ l. Begins g.S.Store mid l walk) list c.in-Ok-each_row.ensures.begun in
+    let begun = subst (λ l. BeginsListWalk g.S.Store mid l walk) list c.in-Ok-each_row.ensures.begun in
     walk_tells g.S.Store old mid last walk new ask c.in-Ok.reader c.args.head.now (g.W.Sink.told c.args.out.now) (g.W.Sink.told c.write_walk.new.out) refl
     c.in-Ok.ensures.found begun c.write_walk.ensures.ends.lasts (g.W.Sink.failures c.args.out.now) (g.W.Sink.failures c.write_walk.new.out) c.write_walk.result
     c.write_walk.ensures.writer
@@ -124,12 +125,12 @@ pub returns-in-Ok-each_row-clause-ends : goal.returns-in-Ok-each_row-clause-ends
 returns-in-Ok-each_row-clause-ends g c =
     let ask = c.args.ask.now in
     let old = c.args.store.now in
-    let mid = c.find_reader.new.store in
+    let mid = c.resolve_reader.new.store in
     let last = c.write_walk.new.store in
-    let walk = over c.each_row.new.self c.in-Ok-each_row.walk in
-    let new = over c.write_walk.new.store c.write_walk.new.walk in
+    let walk = walk_over_store c.each_row.new.self c.in-Ok-each_row.walk in
+    let new = walk_over_store c.write_walk.new.store c.write_walk.new.walk in
     let list : c.ask.inside.list.now ≡ ask.list = search rules in
-    let begun = subst (λ l. Begins g.S.Store mid l walk) list c.in-Ok-each_row.ensures.begun in
+    let begun = subst (λ l. BeginsListWalk g.S.Store mid l walk) list c.in-Ok-each_row.ensures.begun in
     let found = c.in-Ok.ensures.found in
     export_ends g.S.Store ask old mid last walk new refl (found.0, λ returned held. let there = found.1 returned held in (there.0, there.1.0)) begun
     c.in-Ok.ensures.ends.counted.0 c.in-Ok.ensures.ends.was_open c.write_walk.result c.write_walk.ensures.ends

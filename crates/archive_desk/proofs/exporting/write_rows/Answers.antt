@@ -1,11 +1,11 @@
 use Rattle.std.proofs.Common.{◌≡◌, arith, Err, rules, refl, sym, ap, subst, ◌∙◌}
 use Rattle.std.specs.Prelude.{option_map}
 use Rattle.archive_tables.proofs.LastLemmas.{lasts_then, lasts_same}
-use Rattle.archive_desk.specs.Faults.{desk_fault, reason_by}
+use Rattle.archive_desk.specs.Faults.{desk_error_of, reason_of_refusal}
 use Rattle.archive_desk.specs.Ending.{EndsWalk}
 use Rattle.archive_desk.specs.Walking.{WritesRows}
-use Rattle.archive_desk.specs.declared.faults.DeskFault.TheVariants.{Memory, Write}
-use Rattle.archive_store.specs.Walking.{over}
+use Rattle.archive_desk.specs.declared.faults.DeskError.TheVariants.{Memory, Write}
+use Rattle.archive_store.specs.Walking.{walk_over_store}
 use Rattle.archive_desk.proofs.Counted.{counts_one}
 use Rattle.archive_desk.proofs.AskLemmas.{reasoned}
 use Rattle.archive_desk.proofs.CauseLemmas.{next_cause, pass_cause}
@@ -14,19 +14,23 @@ use Rattle.archive_desk.proofs.WalkLemmas.{rows_all, rows_counted, rows_more, ro
 use Rattle.archive_desk.proofs.exporting.write_rows.Goals as goal
 
 pub loop-walk-init : goal.loop-walk-init
-loop-walk-init g c =
-    (lasts_same _, refl, rows_none g.S.Store c.args.ask.now c.args.reader.now (over c.args.store.now c.args.walk.now) (g.W.Sink.told c.args.out.now) c.args.count.now c.requires, omega arith)
+loop-walk-init g c = (
+  lasts_same _,
+  refl,
+  rows_none g.S.Store c.args.ask.now c.args.reader.now (walk_over_store c.args.store.now c.args.walk.now) (g.W.Sink.told c.args.out.now) c.args.count.now c.requires,
+  omega arith,
+)
 
 pub loop-walk-preserved : goal.loop-walk-preserved
 loop-walk-preserved g c =
     let so_far = c.loop-walk.invariant in
-    let mid = (over c.pass_withheld.new.store c.pass_withheld.new.walk) in
-    let past = rows_past g.S.Store c.args.ask.now c.args.reader.now (over c.args.store.now c.args.walk.now) (over c.loop-walk.store c.loop-walk.walk) mid
+    let mid = (walk_over_store c.pass_withheld.new.store c.pass_withheld.new.walk) in
+    let past = rows_past g.S.Store c.args.ask.now c.args.reader.now (walk_over_store c.args.store.now c.args.walk.now) (walk_over_store c.loop-walk.store c.loop-walk.walk) mid
     (g.W.Sink.told c.args.out.now) (g.W.Sink.told c.loop-walk.out) c.args.count.now c.loop-walk.count c.loop-walk.invariant.2 c.pass_withheld.ensures.lasts.returned
     c.in_ok-pass_withheld.ensures.passed in (
       lasts_then _ _ _ (lasts_then _ _ _ so_far.0 c.pass_withheld.ensures.lasts) c.next.ensures.ends.lasts,
       c.in-Ok.ensures.quiet ∙ so_far.1,
-      rows_more g.S.Store c.args.ask.now c.args.reader.now (over c.args.store.now c.args.walk.now) mid (over c.next.new.store c.next.new.self) (g.W.Sink.told c.args.out.now)
+      rows_more g.S.Store c.args.ask.now c.args.reader.now (walk_over_store c.args.store.now c.args.walk.now) mid (walk_over_store c.next.new.store c.next.new.self) (g.W.Sink.told c.args.out.now)
           (g.W.Sink.told c.loop-walk.out) c.args.count.now c.loop-walk.count past c.next.ensures.ends.lasts.returned c.in-Some.message
           (λ returned all a given w. rw c.in-Some.is at (c.in_ok-message.ensures.given returned c.args.ask.now.list all a given w))
           (g.W.Sink.told c.write_shown.new.out) c.in-Ok.more c.saturating_add.result c.in-Ok.ensures.ok c.in-Ok.ensures.count c.saturating_add.ensures,
@@ -36,46 +40,46 @@ loop-walk-preserved g c =
 pub returns-in_err-message-clause-written : goal.returns-in_err-message-clause-written
 returns-in_err-message-clause-written g c =
     let fault = c.in_err-message.field-0.0 in
-    let is : c.from_residual-in_err-message.result ≡ Err (desk_fault fault) = search rules in
-    let mid = (over c.pass_withheld.new.store c.pass_withheld.new.walk) in
-    let past = rows_past g.S.Store c.args.ask.now c.args.reader.now (over c.args.store.now c.args.walk.now) (over c.loop-walk.store c.loop-walk.walk) mid
+    let is : c.from_residual-in_err-message.result ≡ Err (desk_error_of fault) = search rules in
+    let mid = (walk_over_store c.pass_withheld.new.store c.pass_withheld.new.walk) in
+    let past = rows_past g.S.Store c.args.ask.now c.args.reader.now (walk_over_store c.args.store.now c.args.walk.now) (walk_over_store c.loop-walk.store c.loop-walk.walk) mid
     (g.W.Sink.told c.args.out.now) (g.W.Sink.told c.loop-walk.out) c.args.count.now c.loop-walk.count c.loop-walk.invariant.2 c.pass_withheld.ensures.lasts.returned
     c.in_ok-pass_withheld.ensures.passed in
-    subst (λ r. WritesRows g.S.Store (over c.args.store.now c.args.walk.now) (over c.next.new.store c.next.new.self) c.args.ask.now c.args.reader.now
+    subst (λ r. WritesRows g.S.Store (walk_over_store c.args.store.now c.args.walk.now) (walk_over_store c.next.new.store c.next.new.self) c.args.ask.now c.args.reader.now
     (g.W.Sink.told c.args.out.now) (g.W.Sink.told c.loop-walk.out) c.args.count.now c.loop-walk.count r) (sym is)
-    (rows_unread g.S.Store c.args.ask.now c.args.reader.now (over c.args.store.now c.args.walk.now) mid (over c.next.new.store c.next.new.self) (g.W.Sink.told c.args.out.now)
-    (g.W.Sink.told c.loop-walk.out) c.args.count.now c.loop-walk.count past c.next.ensures.ends.lasts.returned (desk_fault fault)
-    (reasoned fault ∙ ap (option_map reason_by) c.in_err-message.ensures.ends.fault)
+    (rows_unread g.S.Store c.args.ask.now c.args.reader.now (walk_over_store c.args.store.now c.args.walk.now) mid (walk_over_store c.next.new.store c.next.new.self) (g.W.Sink.told c.args.out.now)
+    (g.W.Sink.told c.loop-walk.out) c.args.count.now c.loop-walk.count past c.next.ensures.ends.lasts.returned (desk_error_of fault)
+    (reasoned fault ∙ ap (option_map reason_of_refusal) c.in_err-message.ensures.ends.fault)
     (λ returned all a given w. c.in_err-message.ensures.given returned c.args.ask.now.list all a given w))
 
 pub returns-in_err-pass_withheld-clause-written : goal.returns-in_err-pass_withheld-clause-written
 returns-in_err-pass_withheld-clause-written g c =
     let fault = c.in_err-pass_withheld.field-0.0 in
-    let is : c.from_residual.result ≡ Err (desk_fault fault) = search rules in
-    subst (λ r. WritesRows g.S.Store (over c.args.store.now c.args.walk.now) (over c.pass_withheld.new.store c.pass_withheld.new.walk) c.args.ask.now c.args.reader.now
+    let is : c.from_residual.result ≡ Err (desk_error_of fault) = search rules in
+    subst (λ r. WritesRows g.S.Store (walk_over_store c.args.store.now c.args.walk.now) (walk_over_store c.pass_withheld.new.store c.pass_withheld.new.walk) c.args.ask.now c.args.reader.now
     (g.W.Sink.told c.args.out.now) (g.W.Sink.told c.loop-walk.out) c.args.count.now c.loop-walk.count r) (sym is)
-    (rows_unpassed g.S.Store c.args.ask.now c.args.reader.now (over c.args.store.now c.args.walk.now) (over c.loop-walk.store c.loop-walk.walk)
-    (over c.pass_withheld.new.store c.pass_withheld.new.walk) (g.W.Sink.told c.args.out.now) (g.W.Sink.told c.loop-walk.out) c.args.count.now c.loop-walk.count
-    c.loop-walk.invariant.2 c.pass_withheld.ensures.lasts.returned (desk_fault fault)
-    (reasoned fault ∙ ap (option_map reason_by) c.in_err-pass_withheld.ensures.passed.fault) fault c.in_err-pass_withheld.ensures.passed)
+    (rows_unpassed g.S.Store c.args.ask.now c.args.reader.now (walk_over_store c.args.store.now c.args.walk.now) (walk_over_store c.loop-walk.store c.loop-walk.walk)
+    (walk_over_store c.pass_withheld.new.store c.pass_withheld.new.walk) (g.W.Sink.told c.args.out.now) (g.W.Sink.told c.loop-walk.out) c.args.count.now c.loop-walk.count
+    c.loop-walk.invariant.2 c.pass_withheld.ensures.lasts.returned (desk_error_of fault)
+    (reasoned fault ∙ ap (option_map reason_of_refusal) c.in_err-pass_withheld.ensures.passed.fault) fault c.in_err-pass_withheld.ensures.passed)
 
 pub returns-in_default-clause-written : goal.returns-in_default-clause-written
 returns-in_default-clause-written g c =
-    let mid = (over c.pass_withheld.new.store c.pass_withheld.new.walk) in
-    let past = rows_past g.S.Store c.args.ask.now c.args.reader.now (over c.args.store.now c.args.walk.now) (over c.loop-walk.store c.loop-walk.walk) mid
+    let mid = (walk_over_store c.pass_withheld.new.store c.pass_withheld.new.walk) in
+    let past = rows_past g.S.Store c.args.ask.now c.args.reader.now (walk_over_store c.args.store.now c.args.walk.now) (walk_over_store c.loop-walk.store c.loop-walk.walk) mid
     (g.W.Sink.told c.args.out.now) (g.W.Sink.told c.loop-walk.out) c.args.count.now c.loop-walk.count c.loop-walk.invariant.2 c.pass_withheld.ensures.lasts.returned
     c.in_ok-pass_withheld.ensures.passed in
-    rows_all g.S.Store c.args.ask.now c.args.reader.now (over c.args.store.now c.args.walk.now) mid (over c.next.new.store c.next.new.self) (g.W.Sink.told c.args.out.now)
+    rows_all g.S.Store c.args.ask.now c.args.reader.now (walk_over_store c.args.store.now c.args.walk.now) mid (walk_over_store c.next.new.store c.next.new.self) (g.W.Sink.told c.args.out.now)
     (g.W.Sink.told c.loop-walk.out) c.args.count.now c.loop-walk.count past c.next.ensures.ends.lasts.returned
     (λ returned all a given w. rw c.in_default.is at (c.in_ok-message.ensures.given returned c.args.ask.now.list all a given w))
 
 pub returns-in-Err-Write-clause-written : goal.returns-in-Err-Write-clause-written
 returns-in-Err-Write-clause-written g c =
-    let mid = (over c.pass_withheld.new.store c.pass_withheld.new.walk) in
-    let past = rows_past g.S.Store c.args.ask.now c.args.reader.now (over c.args.store.now c.args.walk.now) (over c.loop-walk.store c.loop-walk.walk) mid
+    let mid = (walk_over_store c.pass_withheld.new.store c.pass_withheld.new.walk) in
+    let past = rows_past g.S.Store c.args.ask.now c.args.reader.now (walk_over_store c.args.store.now c.args.walk.now) (walk_over_store c.loop-walk.store c.loop-walk.walk) mid
     (g.W.Sink.told c.args.out.now) (g.W.Sink.told c.loop-walk.out) c.args.count.now c.loop-walk.count c.loop-walk.invariant.2 c.pass_withheld.ensures.lasts.returned
     c.in_ok-pass_withheld.ensures.passed in
-    rows_unwritten g.S.Store c.args.ask.now c.args.reader.now (over c.args.store.now c.args.walk.now) mid (over c.next.new.store c.next.new.self)
+    rows_unwritten g.S.Store c.args.ask.now c.args.reader.now (walk_over_store c.args.store.now c.args.walk.now) mid (walk_over_store c.next.new.store c.next.new.self)
     (g.W.Sink.told c.args.out.now) (g.W.Sink.told c.loop-walk.out) c.args.count.now c.loop-walk.count past c.next.ensures.ends.lasts.returned c.in-Some.message
     (λ returned all a given w. rw c.in-Some.is at (c.in_ok-message.ensures.given returned c.args.ask.now.list all a given w))
     (g.W.Sink.told c.write_shown.new.out)
@@ -84,14 +88,14 @@ returns-in-Err-Write-clause-written g c =
 
 pub returns-in-Err-Refused-clause-written : goal.returns-in-Err-Refused-clause-written
 returns-in-Err-Refused-clause-written g c =
-    let mid = (over c.pass_withheld.new.store c.pass_withheld.new.walk) in
-    let past = rows_past g.S.Store c.args.ask.now c.args.reader.now (over c.args.store.now c.args.walk.now) (over c.loop-walk.store c.loop-walk.walk) mid
+    let mid = (walk_over_store c.pass_withheld.new.store c.pass_withheld.new.walk) in
+    let past = rows_past g.S.Store c.args.ask.now c.args.reader.now (walk_over_store c.args.store.now c.args.walk.now) (walk_over_store c.loop-walk.store c.loop-walk.walk) mid
     (g.W.Sink.told c.args.out.now) (g.W.Sink.told c.loop-walk.out) c.args.count.now c.loop-walk.count c.loop-walk.invariant.2 c.pass_withheld.ensures.lasts.returned
     c.in_ok-pass_withheld.ensures.passed in
-    rows_counted g.S.Store c.args.ask.now c.args.reader.now (over c.args.store.now c.args.walk.now) (over c.next.new.store c.next.new.self)
-    (over (record c.next.new.store { wants = c.raise.new.self }) c.next.new.self) (g.W.Sink.told c.args.out.now) (g.W.Sink.told c.write_shown.new.out)
-    c.args.count.now c.loop-walk.count Memory (counts_one c.next.new.store c.next.new.self c.raise.new.self c.raise.ensures)
-    (rows_refused g.S.Store c.args.ask.now c.args.reader.now (over c.args.store.now c.args.walk.now) mid (over c.next.new.store c.next.new.self) (g.W.Sink.told c.args.out.now)
+    rows_counted g.S.Store c.args.ask.now c.args.reader.now (walk_over_store c.args.store.now c.args.walk.now) (walk_over_store c.next.new.store c.next.new.self)
+    (walk_over_store (record c.next.new.store { wants = c.increment.new.self }) c.next.new.self) (g.W.Sink.told c.args.out.now) (g.W.Sink.told c.write_shown.new.out)
+    c.args.count.now c.loop-walk.count Memory (counts_one c.next.new.store c.next.new.self c.increment.new.self c.increment.ensures)
+    (rows_refused g.S.Store c.args.ask.now c.args.reader.now (walk_over_store c.args.store.now c.args.walk.now) mid (walk_over_store c.next.new.store c.next.new.self) (g.W.Sink.told c.args.out.now)
     (g.W.Sink.told c.loop-walk.out) c.args.count.now c.loop-walk.count past c.next.ensures.ends.lasts.returned c.in-Some.message
     (λ returned all a given w. rw c.in-Some.is at (c.in_ok-message.ensures.given returned c.args.ask.now.list all a given w))
     (g.W.Sink.told c.write_shown.new.out)
@@ -99,13 +103,13 @@ returns-in-Err-Refused-clause-written g c =
 
 pub returns-in-Err-Refused-clause-writer : goal.returns-in-Err-Refused-clause-writer
 returns-in-Err-Refused-clause-writer g c =
-    let mid = (over c.pass_withheld.new.store c.pass_withheld.new.walk) in
-    let past = rows_past g.S.Store c.args.ask.now c.args.reader.now (over c.args.store.now c.args.walk.now) (over c.loop-walk.store c.loop-walk.walk) mid
+    let mid = (walk_over_store c.pass_withheld.new.store c.pass_withheld.new.walk) in
+    let past = rows_past g.S.Store c.args.ask.now c.args.reader.now (walk_over_store c.args.store.now c.args.walk.now) (walk_over_store c.loop-walk.store c.loop-walk.walk) mid
     (g.W.Sink.told c.args.out.now) (g.W.Sink.told c.loop-walk.out) c.args.count.now c.loop-walk.count c.loop-walk.invariant.2 c.pass_withheld.ensures.lasts.returned
     c.in_ok-pass_withheld.ensures.passed in
     let why = rw c.in-Err-Refused.field-0-is at c.in-Err-Refused.ensures.cause in record {
       quiet = tt;
-      cause = rows_wanting g.S.Store c.args.ask.now c.args.reader.now (over c.args.store.now c.args.walk.now) mid (over c.next.new.store c.next.new.self)
+      cause = rows_wanting g.S.Store c.args.ask.now c.args.reader.now (walk_over_store c.args.store.now c.args.walk.now) mid (walk_over_store c.next.new.store c.next.new.self)
           (g.W.Sink.told c.args.out.now) (g.W.Sink.told c.loop-walk.out) c.args.count.now c.loop-walk.count past
           c.next.ensures.ends.lasts.returned (g.W.Sink.told c.write_shown.new.out) (g.W.Sink.failures c.args.out.now) (g.W.Sink.failures c.write_shown.new.out) why.0
           (why.1 ∙ c.loop-walk.invariant.1);
@@ -114,11 +118,11 @@ returns-in-Err-Refused-clause-writer g c =
 pub returns-in_err-pass_withheld-clause-ends : goal.returns-in_err-pass_withheld-clause-ends
 returns-in_err-pass_withheld-clause-ends g c =
     let so_far = c.loop-walk.invariant in
-    let old = (over c.args.store.now c.args.walk.now) in
-    let mid = (over c.loop-walk.store c.loop-walk.walk) in
-    let new = (over c.pass_withheld.new.store c.pass_withheld.new.walk) in
+    let old = (walk_over_store c.args.store.now c.args.walk.now) in
+    let mid = (walk_over_store c.loop-walk.store c.loop-walk.walk) in
+    let new = (walk_over_store c.pass_withheld.new.store c.pass_withheld.new.walk) in
     let fault = c.in_err-pass_withheld.field-0.0 in
-    let is : c.from_residual.result ≡ Err (desk_fault fault) = search rules in
+    let is : c.from_residual.result ≡ Err (desk_error_of fault) = search rules in
     subst (λ r. EndsWalk g.S.Store old new c.args.ask.now (λ fault. fault) r) (sym is)
     (walk_stops g.S.Store c.args.ask.now (Unit {0}) old mid new so_far.0 c.pass_withheld.ensures.lasts so_far.3 fault
     (pass_cause g.S.Store c.args.ask.now old mid new (λ returned all a w. let so = so_far.2.walked returned all a w in (so.0, so.1)) so_far.0 c.pass_withheld.ensures.lasts fault
@@ -127,13 +131,13 @@ returns-in_err-pass_withheld-clause-ends g c =
 pub returns-in_err-message-clause-ends : goal.returns-in_err-message-clause-ends
 returns-in_err-message-clause-ends g c =
     let so_far = c.loop-walk.invariant in
-    let old = (over c.args.store.now c.args.walk.now) in
-    let mid = (over c.pass_withheld.new.store c.pass_withheld.new.walk) in
-    let new = (over c.next.new.store c.next.new.self) in
+    let old = (walk_over_store c.args.store.now c.args.walk.now) in
+    let mid = (walk_over_store c.pass_withheld.new.store c.pass_withheld.new.walk) in
+    let new = (walk_over_store c.next.new.store c.next.new.self) in
     let fault = c.in_err-message.field-0.0 in
-    let is : c.from_residual-in_err-message.result ≡ Err (desk_fault fault) = search rules in
+    let is : c.from_residual-in_err-message.result ≡ Err (desk_error_of fault) = search rules in
     let before = lasts_then _ _ _ so_far.0 c.pass_withheld.ensures.lasts in
-    let past = rows_past g.S.Store c.args.ask.now c.args.reader.now (over c.args.store.now c.args.walk.now) (over c.loop-walk.store c.loop-walk.walk) mid
+    let past = rows_past g.S.Store c.args.ask.now c.args.reader.now (walk_over_store c.args.store.now c.args.walk.now) (walk_over_store c.loop-walk.store c.loop-walk.walk) mid
     (g.W.Sink.told c.args.out.now) (g.W.Sink.told c.loop-walk.out) c.args.count.now c.loop-walk.count c.loop-walk.invariant.2 c.pass_withheld.ensures.lasts.returned
     c.in_ok-pass_withheld.ensures.passed in
     subst (λ r. EndsWalk g.S.Store old new c.args.ask.now (λ fault. fault) r) (sym is)
@@ -144,6 +148,8 @@ returns-in_err-message-clause-ends g c =
 pub returns-in-Err-Refused-clause-ends : goal.returns-in-Err-Refused-clause-ends
 returns-in-Err-Refused-clause-ends g c =
     let so_far = c.loop-walk.invariant in
-    walk_unheld g.S.Store c.args.ask.now (Unit {0}) (over c.args.store.now c.args.walk.now) (over c.pass_withheld.new.store c.pass_withheld.new.walk) (over c.next.new.store c.next.new.self)
+    walk_unheld g.S.Store c.args.ask.now (Unit {0}) (walk_over_store c.args.store.now c.args.walk.now) (walk_over_store c.pass_withheld.new.store c.pass_withheld.new.walk)
+    (walk_over_store c.next.new.store c.next.new.self)
     (lasts_then _ _ _ so_far.0 c.pass_withheld.ensures.lasts) c.next.ensures.ends.lasts (omega (arith, so_far.3, c.in_ok-pass_withheld.ensures.counted.0))
-    (over (record c.next.new.store { wants = c.raise.new.self }) c.next.new.self) (counts_one c.next.new.store c.next.new.self c.raise.new.self c.raise.ensures) c.in_ok-message.ensures.ends.counted.0
+    (walk_over_store (record c.next.new.store { wants = c.increment.new.self }) c.next.new.self) (counts_one c.next.new.store c.next.new.self c.increment.new.self c.increment.ensures)
+    c.in_ok-message.ensures.ends.counted.0

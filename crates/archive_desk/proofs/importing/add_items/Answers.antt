@@ -1,12 +1,12 @@
 use Rattle.std.proofs.Common.{◌⊎◌, [], ◌∷◌, drop, inl, inr, refl, rules}
 use Rattle.sqlite.specs.Held.{state}
-use Rattle.archive_machine.specs.Commands.{list_full, no_list}
-use Rattle.archive_store.specs.Held.{held_of}
-use Rattle.archive_store.specs.Refusals.{StopsAmong}
-use Rattle.archive_store.specs.Told.{HasFailed, HoldsTables}
+use Rattle.archive_model.specs.Commands.{list_full, no_list}
+use Rattle.archive_store.specs.Held.{store_connection}
+use Rattle.archive_store.specs.Refusals.{RowsRefuseAnItem}
+use Rattle.archive_store.specs.Told.{DiskHasFailed, HoldsTables}
 use Rattle.archive_port.specs.declared.reports.AddReport.{AddReport}
-use Rattle.archive_desk.specs.Importing.{IsImportWant}
-use Rattle.archive_desk.specs.declared.importing.ImportFault.TheVariants.{Store as Stored}
+use Rattle.archive_desk.specs.Importing.{IsImportStoreMemoryRefusal}
+use Rattle.archive_desk.specs.declared.importing.ImportError.TheVariants.{Store as Stored}
 use Rattle.archive_desk.specs.declared.importing.Report.{Report}
 use Rattle.archive_store.proofs.CrashLemmas.{all_safe}
 use Rattle.archive_desk.proofs.CrashLemmas.{stopped_crash}
@@ -18,8 +18,8 @@ pub returns-in-Ok : goal.returns-in-Ok
 returns-in-Ok g c = record {
   added = added_all g.S.Store c.args.store.now c.add_all.new.self c.args.list.now c.args.items.now c.add_all.ensures.ends.lasts c.in-Ok.counts _
       (search rules) c.in-Ok.ensures.step;
-  crash = all_safe g.S.Store (held_of c.args.store.now) (held_of c.add_all.new.self) c.args.list.now c.args.items.now
-      (λ db up may. g.met.S.Store.settled (held_of c.add_all.new.self).store db up may) c.in-Ok.counts c.in-Ok.ensures.step c.in-Ok.ensures.crash;
+  crash = all_safe g.S.Store (store_connection c.args.store.now) (store_connection c.add_all.new.self) c.args.list.now c.args.items.now
+      (λ db up may. g.met.S.Store.settled (store_connection c.add_all.new.self).store db up may) c.in-Ok.counts c.in-Ok.ensures.step c.in-Ok.ensures.crash;
   ends = record { caused = tt; counted = (c.in-Ok.ensures.ends.counted.0, tt) };
 }
 
@@ -32,8 +32,9 @@ returns-in-Err g c =
     record {
       added = added_first g.S.Store old new list items c.add_all.ensures.ends.lasts c.in-Err.stop c.in-Err.ensures.bound c.in-Err.ensures.step;
       crash = stopped_crash g.S.Store old new list items c.in-Err.stop (record { done = c.in-Err.stop.done; fault = Stored c.in-Err.stop.fault }) refl c.in-Err.ensures.crash;
-      ends = import_stopped g.S.Store (HoldsTables g.S.Store) IsImportWant old new AddReport Report (λ a done db. StopsAmong list (drop done items) db) (λ store held. held) wanted_by
-          (HasFailed g.S.Store old new ⊎ StopsAmong list (drop c.in-Err.stop.done items) (state g.S.Store (held_of new)).now) c.in-Err.stop.fault
+      ends = import_stopped g.S.Store (HoldsTables g.S.Store) IsImportStoreMemoryRefusal old new AddReport Report (λ a done db. RowsRefuseAnItem list (drop done items) db)
+          (λ store held. held) wanted_by
+          (DiskHasFailed g.S.Store old new ⊎ RowsRefuseAnItem list (drop c.in-Err.stop.done items) (state g.S.Store (store_connection new)).now) c.in-Err.stop.fault
           (no_list ∷ list_full ∷ []) c.in-Err.stop.done (record { done = c.in-Err.stop.done; fault = Stored c.in-Err.stop.fault })
           refl (λ why. elim why [ inl more ↦ inl more | inr stops ↦ inr (λ a. stops) ]) c.in-Err.ensures.ends;
     }

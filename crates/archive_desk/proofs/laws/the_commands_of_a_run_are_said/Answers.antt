@@ -2,13 +2,13 @@ use Rattle.std.proofs.Common.{subst}
 use Rattle.std.specs.List.{All}
 use Rattle.std.proofs.lemmas.List.{take_all}
 use Rattle.std.proofs.lemmas.List.Elements.{All-map, All-more}
-use Rattle.archive_port.specs.Commands.{command_of}
+use Rattle.archive_port.specs.Commands.{spec_command}
 use Rattle.archive_port.specs.declared.commands.Command.{Command}
-use Rattle.archive_desk.specs.Readable.{IsSaid}
+use Rattle.archive_desk.specs.Readable.{IsWellFormedCommand}
 use Rattle.archive_desk.proofs.laws.the_commands_of_a_run_are_said.Goals as goal
 
 abbrev IsSaidOf : Command → Type 0
-IsSaidOf command = IsSaid (command_of command)
+IsSaidOf command = IsWellFormedCommand (spec_command command)
 
 pub loop-command-preserved : goal.loop-command-preserved
 loop-command-preserved c =
@@ -17,5 +17,5 @@ loop-command-preserved c =
 
 pub returns : goal.returns
 returns c =
-    All-map IsSaid command_of c.args.commands.now
+    All-map IsWellFormedCommand spec_command c.args.commands.now
     (subst (All IsSaidOf) (take_all c.loop-command.command-index c.args.commands.now c.loop-command-test.false) c.loop-command.invariant)

@@ -1,8 +1,8 @@
 use Rattle.std.specs.Prelude.{IsUtf8}
 use Rattle.std.proofs.lemmas.List.Elements.{All-nil}
-use Rattle.archive_machine.specs.Records.{Address, Person}
+use Rattle.archive_model.specs.Records.{Address, Person}
 use Rattle.archive_port.specs.Messages.{IsReadable}
-use Rattle.archive_desk.specs.Readable.{IsRanked}
+use Rattle.archive_desk.specs.Readable.{HasStandingRank}
 use Rattle.archive_desk.proofs.ReadableLemmas.{kept_by_steps, kept_by_runs, kept_by_items}
 use Rattle.archive_desk.proofs.laws.what_commands_write_can_be_read.Goals as goal
 
@@ -20,6 +20,6 @@ returns-clause-empty c = record {
   lists = All-nil IsUtf8;
   persons = All-nil (λ (p : Person). IsUtf8 p.name);
   messages = All-nil IsReadable;
-  grants = All-nil IsRanked;
+  grants = All-nil HasStandingRank;
   addresses = All-nil (λ (a : Address). IsUtf8 a.address);
 }

@@ -1,10 +1,10 @@
 use Rattle.std.proofs.Common.{◌≡◌, Bool, Ok, Err}
-use Rattle.archive_machine.specs.Questions.{merge_of, messages_in}
+use Rattle.archive_model.specs.Questions.{merge_of, messages_in}
 use Rattle.archive_store.specs.Told.{HoldsTables}
-use Rattle.archive_desk.specs.Faults.{IsAskFault, list_reason, reason}
+use Rattle.archive_desk.specs.Faults.{IsAskFault, list_reason, refusal_reason}
 use Rattle.archive_desk.proofs.CallLemmas.{asks_last}
 use Rattle.archive_desk.proofs.ListLemmas.{index_after}
-use Rattle.archive_desk.specs.Causes.{IsUnreadable}
+use Rattle.archive_desk.specs.Causes.{IsQuestionUnreadable}
 use Rattle.archive_desk.proofs.EndLemmas.{ask_after, stops_as}
 use Rattle.archive_desk.proofs.listing.read_index.Goals as goal
 
@@ -25,9 +25,9 @@ returns-in-Ok-find_merge-clause-ends g c =
     let mid = c.read_headers.new.store in
     let new = c.find_merge.new.store in
     let merge = c.in-Ok-find_merge.merge in
-    let Unread : _ = λ a. IsUnreadable a ask (messages_in a ask.list) in
+    let Unread : _ = λ a. IsQuestionUnreadable a ask (messages_in a ask.list) in
     ask_after g.S.Store old mid new (c.in-Ok.ensures.held.0, λ returned held. let there = c.in-Ok.ensures.held.1 returned held in (there.0, there.1.0))
-    (asks_last g.S.Store (HoldsTables g.S.Store) mid new reason (λ a. list_reason a ask) (λ a (merge : Bool). merge ≡ merge_of a ask.list) (Ok merge) c.in-Ok-find_merge.ensures.found)
+    (asks_last g.S.Store (HoldsTables g.S.Store) mid new refusal_reason (λ a. list_reason a ask) (λ a (merge : Bool). merge ≡ merge_of a ask.list) (Ok merge) c.in-Ok-find_merge.ensures.found)
     c.in-Ok.ensures.ends.counted.0 IsAskFault (Ok _) Unread Unread (λ a bad. bad)
     (record { fault = tt; caused = tt; counted = (c.in-Ok-find_merge.ensures.ends.counted.0, tt) }) c.in-Ok.ensures.ends.was_open
 
@@ -38,8 +38,8 @@ returns-in-Err-find_merge-clause-ends g c =
     let mid = c.read_headers.new.store in
     let new = c.find_merge.new.store in
     let fault = c.in-Err-find_merge.fault in
-    let Unread : _ = λ a. IsUnreadable a ask (messages_in a ask.list) in
+    let Unread : _ = λ a. IsQuestionUnreadable a ask (messages_in a ask.list) in
     ask_after g.S.Store old mid new (c.in-Ok.ensures.held.0, λ returned held. let there = c.in-Ok.ensures.held.1 returned held in (there.0, there.1.0))
-    (asks_last g.S.Store (HoldsTables g.S.Store) mid new reason (λ a. list_reason a ask) (λ a (merge : Bool). merge ≡ merge_of a ask.list) (Err fault) c.in-Err-find_merge.ensures.found)
+    (asks_last g.S.Store (HoldsTables g.S.Store) mid new refusal_reason (λ a. list_reason a ask) (λ a (merge : Bool). merge ≡ merge_of a ask.list) (Err fault) c.in-Err-find_merge.ensures.found)
     c.in-Ok.ensures.ends.counted.0 IsAskFault (Err fault) (λ _. ⊥) Unread (λ a bad. absurd bad)
     (stops_as g.S.Store mid new IsAskFault Bool _ fault (λ _. ⊥) (λ _. ⊥) (λ a bad. bad) c.in-Err-find_merge.ensures.ends) c.in-Ok.ensures.ends.was_open

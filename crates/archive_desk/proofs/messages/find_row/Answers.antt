@@ -1,13 +1,13 @@
 use Rattle.std.proofs.Common.{◌≡◌, Err, Option, option_map, rules, sym, subst}
-use Rattle.archive_machine.specs.Messages.{remembered}
-use Rattle.archive_machine.specs.Questions.{list_refusal, message_of}
-use Rattle.archive_machine.specs.declared.messages.Message.{Message}
-use Rattle.archive_store.specs.Held.{held_of}
-use Rattle.archive_store.specs.Replies.{Answers}
-use Rattle.archive_store.specs.Told.{AsksIn, HoldsTables, CausedOr as StoreCausedOr}
-use Rattle.archive_desk.specs.Faults.{desk_fault, list_reason, reason}
+use Rattle.archive_model.specs.Messages.{archived_message}
+use Rattle.archive_model.specs.Questions.{list_refusal, message_of}
+use Rattle.archive_model.specs.declared.messages.Message.{Message}
+use Rattle.archive_store.specs.Held.{store_connection}
+use Rattle.archive_store.specs.Replies.{AnswersStoreQuestion}
+use Rattle.archive_store.specs.Told.{AnswersFromStoreUnder, HoldsTables, E15MeansDiskFailedOr as StoreCausedOr}
+use Rattle.archive_desk.specs.Faults.{desk_error_of, list_reason, refusal_reason}
 use Rattle.archive_desk.proofs.AskLemmas.{store_declines}
-use Rattle.archive_desk.specs.Causes.{CausedOr, IsMessageUnreadable}
+use Rattle.archive_desk.specs.Causes.{DeskFaultMeansDiskFailedOr, IsMessageUnreadable}
 use Rattle.archive_desk.proofs.CauseLemmas.{store_cause}
 use Rattle.archive_desk.proofs.messages.find_row.Goals as goal
 
@@ -17,12 +17,12 @@ returns-in_err-row-clause-held g c =
     let old = c.args.store.now in
     let new = c.row.new.self in
     let fault = c.in_err-row.field-0.0 in
-    let Says : _ = λ a (found : Option Message). option_map (remembered ask.list) found ≡ message_of a ask.list c.args.key.now in
+    let Says : _ = λ a (found : Option Message). option_map (archived_message ask.list) found ≡ message_of a ask.list c.args.key.now in
     let list : c.ask.inside.list.now ≡ ask.list = search rules in
-    let is : c.from_residual.result ≡ Err (desk_fault fault) = search rules in
-    subst (λ r. AsksIn g.S.Store (HoldsTables g.S.Store) old new reason r (λ a. list_reason a ask) Says) (sym is)
+    let is : c.from_residual.result ≡ Err (desk_error_of fault) = search rules in
+    subst (λ r. AnswersFromStoreUnder g.S.Store (HoldsTables g.S.Store) old new refusal_reason r (λ a. list_reason a ask) Says) (sym is)
     (store_declines g.S.Store old new (λ a. list_refusal a ask.list) Says fault Says c.in_err-row.ensures.ends.lasts
-    (subst (λ l. Answers g.S.Store (held_of old) (held_of new) {A = Option Message} (Err fault) (λ a. list_refusal a l) Says) list c.in_err-row.ensures.answer))
+    (subst (λ l. AnswersStoreQuestion g.S.Store (store_connection old) (store_connection new) {A = Option Message} (Err fault) (λ a. list_refusal a l) Says) list c.in_err-row.ensures.answer))
 
 pub returns-in_err-row-clause-ends : goal.returns-in_err-row-clause-ends
 returns-in_err-row-clause-ends g c = record {
@@ -35,8 +35,8 @@ returns-in_err-row-clause-ends g c = record {
       let key = c.args.key.now in
       let fault = c.in_err-row.field-0.0 in
       let list : c.ask.inside.list.now ≡ ask.list = search rules in
-      let is : c.from_residual.result ≡ Err (desk_fault fault) = search rules in
-      subst (λ r. CausedOr g.S.Store old new r (λ a. IsMessageUnreadable a ask key)) (sym is)
+      let is : c.from_residual.result ≡ Err (desk_error_of fault) = search rules in
+      subst (λ r. DeskFaultMeansDiskFailedOr g.S.Store old new r (λ a. IsMessageUnreadable a ask key)) (sym is)
       (store_cause g.S.Store old new fault (λ a. IsMessageUnreadable a ask key)
       (subst (λ l. StoreCausedOr g.S.Store old new {A = Option Message} (Err fault) (λ a. IsMessageUnreadable a (record ask { list = l }) key)) list c.in_err-row.ensures.ends.caused));
   counted = search rules;

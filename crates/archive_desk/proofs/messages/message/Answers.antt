@@ -1,10 +1,10 @@
 use Rattle.std.proofs.Common.{◌≡◌, ◌⊎◌, inl, inr}
 use Rattle.std.specs.Prelude.{option_map}
-use Rattle.archive_machine.specs.Messages.{remembered}
-use Rattle.archive_machine.specs.Questions.{message_of}
-use Rattle.archive_results.specs.Access.{asked_of, asked_on, reader_marks, told}
+use Rattle.archive_model.specs.Messages.{archived_message}
+use Rattle.archive_model.specs.Questions.{message_of}
+use Rattle.archive_results.specs.Access.{asked_for_key, asked_of_message, reader_facts, spec_asked}
 use Rattle.archive_desk.specs.Asking.{standing_reason}
-use Rattle.archive_desk.specs.Faults.{IsAskFault, reason}
+use Rattle.archive_desk.specs.Faults.{IsAskFault, refusal_reason}
 use Rattle.archive_desk.proofs.AskLemmas.{answer_after, list_refused}
 use Rattle.archive_desk.proofs.CallLemmas.{asks_last}
 use Rattle.archive_store.specs.Told.{HoldsTables}
@@ -17,7 +17,7 @@ returns-in-Ok-clause-asked g c =
     let ask = c.args.ask.now in
     let old = c.args.store.now in
     let new = c.answer_on.new.store in
-    answer_after g.S.Store ask old c.find_row.new.store new told c.args.key.now (option_map (remembered ask.list) c.in-Ok.held)
+    answer_after g.S.Store ask old c.find_row.new.store new spec_asked c.args.key.now (option_map (archived_message ask.list) c.in-Ok.held)
     c.answer_on.result c.in-Ok.ensures.held c.answer_on.ensures.asked
 
 pub returns-in-Err-clause-asked : goal.returns-in-Err-clause-asked
@@ -26,7 +26,7 @@ returns-in-Err-clause-asked g c =
     let old = c.args.store.now in
     let new = c.find_row.new.store in
     list_refused g.S.Store ask old new c.in-Err.fault
-    (λ a found. option_map (remembered ask.list) found ≡ message_of a ask.list c.args.key.now) (λ a answer. told answer ≡ asked_of a ask c.args.key.now) c.in-Err.ensures.held
+    (λ a found. option_map (archived_message ask.list) found ≡ message_of a ask.list c.args.key.now) (λ a answer. spec_asked answer ≡ asked_for_key a ask c.args.key.now) c.in-Err.ensures.held
 
 pub returns-in-Ok-clause-ends : goal.returns-in-Ok-clause-ends
 returns-in-Ok-clause-ends g c =
@@ -34,8 +34,8 @@ returns-in-Ok-clause-ends g c =
     let old = c.args.store.now in
     let mid = c.find_row.new.store in
     let new = c.answer_on.new.store in
-    let last = asks_last g.S.Store (HoldsTables g.S.Store) mid new reason (λ a. standing_reason a ask)
-    (λ a answer. told answer ≡ asked_on ask (reader_marks a ask) (option_map (remembered ask.list) c.in-Ok.held)) c.answer_on.result c.answer_on.ensures.asked in
+    let last = asks_last g.S.Store (HoldsTables g.S.Store) mid new refusal_reason (λ a. standing_reason a ask)
+    (λ a answer. spec_asked answer ≡ asked_of_message ask (reader_facts a ask) (option_map (archived_message ask.list) c.in-Ok.held)) c.answer_on.result c.answer_on.ensures.asked in
     ask_after g.S.Store old mid new (c.in-Ok.ensures.held.0, λ returned held. let there = c.in-Ok.ensures.held.1 returned held in (there.0, there.1.0)) last
     c.in-Ok.ensures.ends.counted.0 IsAskFault c.answer_on.result (λ a. IsReaderUnreadable a ask) (λ a. IsMessageUnreadable a ask c.args.key.now ⊎ IsReaderUnreadable a ask)
     (λ a bad. inr bad) c.answer_on.ensures.ends c.in-Ok.ensures.ends.was_open

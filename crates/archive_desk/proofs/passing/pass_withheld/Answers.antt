@@ -1,16 +1,17 @@
 use Rattle.std.proofs.Common.{◌∙◌, ◌++◌, arith}
 use Rattle.sqlite.specs.Held.{state}
 use Rattle.archive_tables.proofs.LastLemmas.{lasts_same, lasts_then}
-use Rattle.archive_store.specs.Held.{held_of}
+use Rattle.archive_store.specs.Held.{store_connection}
 use Rattle.archive_store.proofs.CauseLemmas.{passed_on}
-use Rattle.archive_store.specs.Walking.{over}
+use Rattle.archive_store.specs.Walking.{walk_over_store}
 use Rattle.archive_desk.proofs.PassLemmas.{failed_since, passed_further, passed_none, stopped_further}
 use Rattle.archive_desk.proofs.passing.pass_withheld.Goals as goal
 
 pub loop-init : goal.loop-init
 loop-init g c = (
   lasts_same _,
-  (λ returned all a given w. passed_none g.S.Store c.args.ask.now c.args.reader.now all a given (over c.args.store.now c.args.walk.now) (over c.args.store.now c.args.walk.now) w),
+  (λ returned all a given w. passed_none g.S.Store c.args.ask.now c.args.reader.now all a given (walk_over_store c.args.store.now c.args.walk.now)
+      (walk_over_store c.args.store.now c.args.walk.now) w),
   omega arith,
   omega arith,
 )
@@ -18,8 +19,8 @@ loop-init g c = (
 pub loop-preserved : goal.loop-preserved
 loop-preserved g c = (
   lasts_then _ _ _ c.loop.invariant.0 c.pass_next.ensures.lasts,
-  passed_further g.S.Store c.args.ask.now c.args.reader.now (over c.args.store.now c.args.walk.now) (over c.loop.store c.loop.walk)
-      (over c.pass_next.new.store c.pass_next.new.walk) c.in_ok-pass_next.field-0 c.loop.invariant.1 c.pass_next.ensures.lasts.returned
+  passed_further g.S.Store c.args.ask.now c.args.reader.now (walk_over_store c.args.store.now c.args.walk.now) (walk_over_store c.loop.store c.loop.walk)
+      (walk_over_store c.pass_next.new.store c.pass_next.new.walk) c.in_ok-pass_next.field-0 c.loop.invariant.1 c.pass_next.ensures.lasts.returned
       c.in_ok-pass_next.ensures.passed.passes,
   omega (arith, c.loop.invariant.2, c.in_ok-pass_next.ensures.passed.passes.left),
   omega (arith, c.loop.invariant.3, c.in_ok-pass_next.ensures.counted.0),
@@ -27,8 +28,8 @@ loop-preserved g c = (
 
 pub returns-clause-passed : goal.returns-clause-passed
 returns-clause-passed g c = record {
-  passed = passed_further g.S.Store c.args.ask.now c.args.reader.now (over c.args.store.now c.args.walk.now) (over c.loop.store c.loop.walk)
-      (over c.pass_next.new.store c.pass_next.new.walk) c.in_ok-pass_next.field-0 c.loop.invariant.1 c.pass_next.ensures.lasts.returned
+  passed = passed_further g.S.Store c.args.ask.now c.args.reader.now (walk_over_store c.args.store.now c.args.walk.now) (walk_over_store c.loop.store c.loop.walk)
+      (walk_over_store c.pass_next.new.store c.pass_next.new.walk) c.in_ok-pass_next.field-0 c.loop.invariant.1 c.pass_next.ensures.lasts.returned
       c.in_ok-pass_next.ensures.passed.passes;
   left = omega (arith, c.loop.invariant.2, c.in_ok-pass_next.ensures.passed.passes.left);
   fault = tt;
@@ -36,13 +37,13 @@ returns-clause-passed g c = record {
 
 pub returns-in_err-pass_next-clause-passed : goal.returns-in_err-pass_next-clause-passed
 returns-in_err-pass_next-clause-passed g c =
-    stopped_further g.S.Store c.args.ask.now c.args.reader.now (over c.args.store.now c.args.walk.now) (over c.loop.store c.loop.walk)
-    (over c.pass_next.new.store c.pass_next.new.walk) c.in_err-pass_next.field-0.0 c.from_residual.result c.from_residual.ensures.1
+    stopped_further g.S.Store c.args.ask.now c.args.reader.now (walk_over_store c.args.store.now c.args.walk.now) (walk_over_store c.loop.store c.loop.walk)
+    (walk_over_store c.pass_next.new.store c.pass_next.new.walk) c.in_err-pass_next.field-0.0 c.from_residual.result c.from_residual.ensures.1
     c.loop.invariant.1 c.pass_next.ensures.lasts.returned c.loop.invariant.2 c.in_err-pass_next.ensures.passed.passes
 
 pub returns-in_err-pass_next-clause-caused : goal.returns-in_err-pass_next-clause-caused
 returns-in_err-pass_next-clause-caused g c = λ returned all a given w free.
     let it = c.loop.invariant.1 (c.pass_next.ensures.lasts.returned returned) all a given w in
     passed_on c.from_residual.result c.in_err-pass_next.field-0.0 _ c.from_residual.ensures.1
-    (λ bad. failed_since (state g.S.Store (held_of c.args.store.now)) (state g.S.Store (held_of c.loop.store)) (state g.S.Store (held_of c.pass_next.new.store)) _
+    (λ bad. failed_since (state g.S.Store (store_connection c.args.store.now)) (state g.S.Store (store_connection c.loop.store)) (state g.S.Store (store_connection c.pass_next.new.store)) _
     c.loop.invariant.0 (c.in_err-pass_next.ensures.caused returned all a (given ++ it.0) it.1 (c.loop.invariant.0.limit ∙ free) bad))

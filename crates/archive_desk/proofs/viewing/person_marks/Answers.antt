@@ -2,18 +2,18 @@ use Rattle.std.proofs.Common.{◌≡◌, Bool, List, Ok, Err, true, false, optio
 use Rattle.std.specs.Prelude.{string_bytes}
 use Rattle.std.specs.declared.alloc.Global.{Global}
 use Rattle.policy_core.specs.Facts.{Facts}
-use Rattle.policy_core.specs.Rules.{Rule, asks_own}
+use Rattle.policy_core.specs.Rules.{Rule, has_own_condition}
 use Rattle.policy_core.specs.Verdict.{verdict_of}
 use Rattle.archive_results.specs.Access.{Ask}
 use Rattle.archive_desk.proofs.MarkLemmas.{person_known, person_unasked}
 use Rattle.archive_desk.specs.Causes.{IsAddressUnreadable, IsPersonUnreadable, IsRankUnknown}
 use Rattle.archive_desk.proofs.EndLemmas.{ends_after, stops_as}
 use Rattle.archive_desk.proofs.CallLemmas.{asks_last}
-use Rattle.archive_machine.specs.Questions.{address_of}
+use Rattle.archive_model.specs.Questions.{address_of}
 use Rattle.archive_store.specs.Told.{HoldsTables}
 use Rattle.archive_desk.specs.Asking.{person_reason}
-use Rattle.archive_desk.specs.Faults.{IsAskFault, reason}
-use Rattle.archive_results.specs.Access.{ReaderMarks}
+use Rattle.archive_desk.specs.Faults.{IsAskFault, refusal_reason}
+use Rattle.archive_results.specs.Access.{ReaderFacts}
 use Rattle.policy_core.specs.declared.access.Standing.{Standing}
 use Rattle.archive_desk.proofs.viewing.person_marks.Goals as goal
 
@@ -40,7 +40,7 @@ pub returns-in-Err-clause-ends : goal.returns-in-Err-clause-ends
 returns-in-Err-clause-ends g c =
     let ask = c.args.ask.now in
     let name = c.args.name.now in
-    stops_as g.S.Store c.args.store.now c.find_standing.new.store IsAskFault Standing ReaderMarks c.in-Err.fault (λ a. IsRankUnknown a ask name) (λ a. IsPersonUnreadable a ask name)
+    stops_as g.S.Store c.args.store.now c.find_standing.new.store IsAskFault Standing ReaderFacts c.in-Err.fault (λ a. IsRankUnknown a ask name) (λ a. IsPersonUnreadable a ask name)
     (λ a bad. inl bad) c.in-Err.ensures.ends
 
 pub returns-in-Err-find_address-clause-ends : goal.returns-in-Err-find_address-clause-ends
@@ -52,11 +52,11 @@ returns-in-Err-find_address-clause-ends g c =
     let new = c.find_address.new.store in
     let fault = c.in-Err-find_address.fault in
     let asked : c.asks_own.result ≡ true = cc in
-    let own : asks_own ask.rules ≡ true = sym (c.asks_own.ensures.value ∙ ap (λ (ask : Ask). asks_own ask.rules) c.ask.view_is) ∙ asked in
-    let last = asks_last g.S.Store (HoldsTables g.S.Store) mid new reason (λ a. person_reason a name)
+    let own : has_own_condition ask.rules ≡ true = sym (c.asks_own.ensures.value ∙ ap (λ (ask : Ask). has_own_condition ask.rules) c.ask.view_is) ∙ asked in
+    let last = asks_last g.S.Store (HoldsTables g.S.Store) mid new refusal_reason (λ a. person_reason a name)
     (λ a address. option_map (string_bytes {Z = Global}) address ≡ address_of a name)
     (Err fault) c.in-Err-find_address.ensures.found in
     ends_after g.S.Store old mid new (c.in-Ok.ensures.found.0, λ returned held. let there = c.in-Ok.ensures.found.1 returned held in (there.0, there.1.0)) last
-    c.in-Ok.ensures.ends.counted.0 IsAskFault {A = ReaderMarks} (Err fault) (λ a. IsAddressUnreadable a name) (λ a. IsPersonUnreadable a ask name) (λ a bad. inr (own, bad))
-    (stops_as g.S.Store mid new IsAskFault _ ReaderMarks fault (λ a. IsAddressUnreadable a name) (λ a. IsAddressUnreadable a name) (λ a bad. bad)
+    c.in-Ok.ensures.ends.counted.0 IsAskFault {A = ReaderFacts} (Err fault) (λ a. IsAddressUnreadable a name) (λ a. IsPersonUnreadable a ask name) (λ a bad. inr (own, bad))
+    (stops_as g.S.Store mid new IsAskFault _ ReaderFacts fault (λ a. IsAddressUnreadable a name) (λ a. IsAddressUnreadable a name) (λ a bad. bad)
     c.in-Err-find_address.ensures.ends)

@@ -1,17 +1,17 @@
 use Rattle.std.proofs.Common.{◌≡◌, Ok, Err, map, inl, inr}
 use Rattle.std.specs.Prelude.{Vec}
 use Rattle.std.specs.declared.alloc.Global.{Global}
-use Rattle.archive_machine.specs.Messages.{remembered}
-use Rattle.archive_machine.specs.declared.messages.Message.{Message}
-use Rattle.archive_machine.specs.Questions.{messages_in}
-use Rattle.archive_results.specs.Access.{ReaderMarks, view_of}
-use Rattle.archive_desk.specs.Asking.{IsEnough, standing_reason}
-use Rattle.archive_desk.specs.Faults.{IsAskFault, reason}
+use Rattle.archive_model.specs.Messages.{archived_message}
+use Rattle.archive_model.specs.declared.messages.Message.{Message}
+use Rattle.archive_model.specs.Questions.{messages_in}
+use Rattle.archive_results.specs.Access.{ReaderFacts, view_of}
+use Rattle.archive_desk.specs.Asking.{DeterminesVerdicts, standing_reason}
+use Rattle.archive_desk.specs.Faults.{IsAskFault, refusal_reason}
 use Rattle.archive_desk.proofs.AskLemmas.{marks_after, view_found, list_refused}
 use Rattle.archive_desk.proofs.CallLemmas.{asks_last}
 use Rattle.archive_desk.proofs.ListLemmas.{unmade}
 use Rattle.archive_store.specs.Told.{HoldsTables}
-use Rattle.archive_desk.specs.Causes.{AreUnreadable, IsReaderUnreadable, IsUnreadable}
+use Rattle.archive_desk.specs.Causes.{HasUnreadableMessage, IsReaderUnreadable, IsQuestionUnreadable}
 use Rattle.archive_desk.proofs.EndLemmas.{ends_after, stops_as}
 use Rattle.archive_desk.proofs.viewing.view.Goals as goal
 
@@ -20,8 +20,8 @@ returns-in-Err-clause-shown g c =
     let ask = c.args.ask.now in
     let old = c.args.store.now in
     let new = c.read_list.new.store in
-    list_refused g.S.Store ask old new c.in-Err.fault (λ a (found : Vec Message Global). map (remembered ask.list) found.items ≡ messages_in a ask.list)
-    (λ a (found : Vec Message Global). map (remembered ask.list) found.items ≡ view_of a ask) c.in-Err.ensures.held
+    list_refused g.S.Store ask old new c.in-Err.fault (λ a (found : Vec Message Global). map (archived_message ask.list) found.items ≡ messages_in a ask.list)
+    (λ a (found : Vec Message Global). map (archived_message ask.list) found.items ≡ view_of a ask) c.in-Err.ensures.held
 
 pub returns-in-Ok-keep_shown-clause-shown : goal.returns-in-Ok-keep_shown-clause-shown
 returns-in-Ok-keep_shown-clause-shown g c =
@@ -31,7 +31,7 @@ returns-in-Ok-keep_shown-clause-shown g c =
     let found = c.in-Ok.messages.items in
     let kept = c.in-Ok-keep_shown.kept.items in
     view_found g.S.Store old new ask c.in-Ok-find_marks.reader found kept
-    (marks_after g.S.Store ask old c.read_list.new.store new (λ a. map (remembered ask.list) found ≡ messages_in a ask.list) (Ok c.in-Ok-find_marks.reader)
+    (marks_after g.S.Store ask old c.read_list.new.store new (λ a. map (archived_message ask.list) found ≡ messages_in a ask.list) (Ok c.in-Ok-find_marks.reader)
     c.in-Ok.ensures.held c.in-Ok-find_marks.ensures.found)
     c.in-Ok-keep_shown.ensures
 
@@ -40,7 +40,7 @@ returns-in-Err-find_marks-clause-shown g c =
     let ask = c.args.ask.now in
     let old = c.args.store.now in
     let new = c.find_marks.new.store in
-    marks_after g.S.Store ask old c.read_list.new.store new (λ a. map (remembered ask.list) c.in-Ok.messages.items ≡ messages_in a ask.list)
+    marks_after g.S.Store ask old c.read_list.new.store new (λ a. map (archived_message ask.list) c.in-Ok.messages.items ≡ messages_in a ask.list)
     (Err c.in-Err-find_marks.fault) c.in-Ok.ensures.held c.in-Err-find_marks.ensures.found
 
 pub returns-clause-shown : goal.returns-clause-shown
@@ -50,15 +50,15 @@ returns-clause-shown g c =
     let new = c.find_marks.new.store in
     let found = c.in-Ok.messages.items in
     let reader = c.in-Ok-find_marks.reader in
-    unmade g.S.Store old new ask (λ a. (map (remembered ask.list) found ≡ messages_in a ask.list) × IsEnough a ask reader)
-    (marks_after g.S.Store ask old c.read_list.new.store new (λ a. map (remembered ask.list) found ≡ messages_in a ask.list) (Ok reader)
+    unmade g.S.Store old new ask (λ a. (map (archived_message ask.list) found ≡ messages_in a ask.list) × DeterminesVerdicts a ask reader)
+    (marks_after g.S.Store ask old c.read_list.new.store new (λ a. map (archived_message ask.list) found ≡ messages_in a ask.list) (Ok reader)
     c.in-Ok.ensures.held c.in-Ok-find_marks.ensures.found)
 
 pub returns-in-Err-clause-ends : goal.returns-in-Err-clause-ends
 returns-in-Err-clause-ends g c =
     let ask = c.args.ask.now in
     stops_as g.S.Store c.args.store.now c.read_list.new.store IsAskFault (Vec Message Global) (Vec Message Global) c.in-Err.fault
-    (λ a. AreUnreadable (messages_in a ask.list)) (λ a. IsUnreadable a ask (messages_in a ask.list)) (λ a bad. inl bad) c.in-Err.ensures.ends
+    (λ a. HasUnreadableMessage (messages_in a ask.list)) (λ a. IsQuestionUnreadable a ask (messages_in a ask.list)) (λ a bad. inl bad) c.in-Err.ensures.ends
 
 pub returns-in-Err-find_marks-clause-ends : goal.returns-in-Err-find_marks-clause-ends
 returns-in-Err-find_marks-clause-ends g c =
@@ -68,8 +68,8 @@ returns-in-Err-find_marks-clause-ends g c =
     let new = c.find_marks.new.store in
     let fault = c.in-Err-find_marks.fault in
     let Unread : _ = λ a. IsReaderUnreadable a ask in
-    let last = asks_last g.S.Store (HoldsTables g.S.Store) mid new reason (λ a. standing_reason a ask) (λ a reader. IsEnough a ask reader)
+    let last = asks_last g.S.Store (HoldsTables g.S.Store) mid new refusal_reason (λ a. standing_reason a ask) (λ a reader. DeterminesVerdicts a ask reader)
     (Err fault) c.in-Err-find_marks.ensures.found in
     ends_after g.S.Store old mid new (c.in-Ok.ensures.held.0, λ returned held. let there = c.in-Ok.ensures.held.1 returned held in (there.0, there.1.0)) last
-    c.in-Ok.ensures.ends.counted.0 IsAskFault {A = Vec Message Global} (Err fault) Unread (λ a. IsUnreadable a ask (messages_in a ask.list)) (λ a bad. inr bad)
-    (stops_as g.S.Store mid new IsAskFault ReaderMarks (Vec Message Global) fault Unread Unread (λ a bad. bad) c.in-Err-find_marks.ensures.ends)
+    c.in-Ok.ensures.ends.counted.0 IsAskFault {A = Vec Message Global} (Err fault) Unread (λ a. IsQuestionUnreadable a ask (messages_in a ask.list)) (λ a bad. inr bad)
+    (stops_as g.S.Store mid new IsAskFault ReaderFacts (Vec Message Global) fault Unread Unread (λ a bad. bad) c.in-Err-find_marks.ensures.ends)

@@ -1,18 +1,18 @@
 use Rattle.std.proofs.Common.{◌≤◌, [], ◌∷◌, arith, drop, length, subst, ap, Ok, Err}
-use Rattle.archive_machine.specs.Commands.{list_full, no_list}
-use Rattle.archive_store.specs.Batches.{AddsAll}
-use Rattle.archive_store.specs.Crashes.{CrashAll}
-use Rattle.archive_store.specs.Held.{held_of}
-use Rattle.archive_store.specs.Refusals.{StopsAmong}
-use Rattle.archive_store.specs.Told.{EndsBehind, HoldsTables}
+use Rattle.archive_model.specs.Commands.{list_full, no_list}
+use Rattle.archive_store.specs.Batches.{AddsAllMessages}
+use Rattle.archive_store.specs.Crashes.{CrashAddsAllBatches}
+use Rattle.archive_store.specs.Held.{store_connection}
+use Rattle.archive_store.specs.Refusals.{RowsRefuseAnItem}
+use Rattle.archive_store.specs.Told.{EndsPartialWrite, HoldsTables}
 use Rattle.archive_port.specs.declared.reports.AddReport.{AddReport}
 use Rattle.archive_port.specs.declared.faults.StoreFault.TheVariants.{Memory}
 use Rattle.archive_desk.specs.declared.importing.ImportStop.{ImportStop}
-use Rattle.archive_desk.specs.declared.importing.ImportFault.TheVariants.{Store as Stored}
+use Rattle.archive_desk.specs.declared.importing.ImportError.TheVariants.{Store as Stored}
 use Rattle.archive_desk.proofs.ImportEnds.{import_unbroken}
 use Rattle.archive_import.proofs.CrashLemmas.{held_crash, kept_crash, safe_added, safe_still}
-use Rattle.archive_import.specs.Intake.{StopsAmid}
-use Rattle.archive_import.specs.Streaming.{IsWanting}
+use Rattle.archive_import.specs.Intake.{RowsRefusePending}
+use Rattle.archive_import.specs.Streaming.{IsImportMemoryRefusal}
 use Rattle.archive_import.proofs.EndLemmas.{held_ends}
 use Rattle.archive_import.proofs.StopLemmas.{held_added, add_stopped, keeps_all}
 use Rattle.archive_import.proofs.importing.add_held.Goals as goal
@@ -20,22 +20,24 @@ use Rattle.archive_import.proofs.importing.add_held.Goals as goal
 pub returns-in-Ok-add_owned-clause-adds : goal.returns-in-Ok-add_owned-clause-adds
 returns-in-Ok-add_owned-clause-adds g c =
     held_added g.S.Store c.args.store.now c.add_owned.new.store c.args.list.now c.args.intake.now c.count.new.self c.in-Ok-add_owned.counts c.in-Ok-add_owned.ensures.ends.lasts
-    (subst (λ is. AddsAll g.S.Store (held_of c.args.store.now) (held_of c.add_owned.new.store) (Ok c.in-Ok-add_owned.counts) c.args.list.now is) c.held.ensures c.in-Ok-add_owned.ensures.step)
+    (subst (λ is. AddsAllMessages g.S.Store (store_connection c.args.store.now) (store_connection c.add_owned.new.store) (Ok c.in-Ok-add_owned.counts) c.args.list.now is) c.held.ensures
+    c.in-Ok-add_owned.ensures.step)
     c.count.ensures.held c.count.ensures.done c.count.ensures.report
 
 pub returns-in-Err-add_owned-clause-adds : goal.returns-in-Err-add_owned-clause-adds
 returns-in-Err-add_owned-clause-adds g c =
     add_stopped g.S.Store c.args.store.now c.add_owned.new.store c.args.list.now c.args.intake.now c.in-Err-add_owned.stop c.stop_amid.result c.stop_amid.ensures c.in-Err-add_owned.ensures.ends.lasts
-    (subst (λ is. AddsAll g.S.Store (held_of c.args.store.now) (held_of c.add_owned.new.store) (Err c.in-Err-add_owned.stop) c.args.list.now is) c.held.ensures c.in-Err-add_owned.ensures.step)
+    (subst (λ is. AddsAllMessages g.S.Store (store_connection c.args.store.now) (store_connection c.add_owned.new.store) (Err c.in-Err-add_owned.stop) c.args.list.now is) c.held.ensures
+    c.in-Err-add_owned.ensures.step)
     (subst (λ is. c.in-Err-add_owned.stop.done ≤ length is) c.held.ensures c.in-Err-add_owned.ensures.tells)
 
 -- ---- how it ends
 
 pub returns-in-Err-clause-ends : goal.returns-in-Err-clause-ends
 returns-in-Err-clause-ends g c =
-    import_unbroken g.S.Store (HoldsTables g.S.Store) IsWanting c.args.store.now _ (Unit {0}) (Unit {0}) (StopsAmid c.args.list.now c.args.intake.now) _
+    import_unbroken g.S.Store (HoldsTables g.S.Store) IsImportMemoryRefusal c.args.store.now _ (Unit {0}) (Unit {0}) (RowsRefusePending c.args.list.now c.args.intake.now) _
     (Stored Memory) c.stop.result (λ bad. absurd (cc)) c.stop.ensures
-    (omega (arith, c.raise.ensures), (λ want. omega (arith, c.raise.ensures)))
+    (omega (arith, c.increment.ensures), (λ want. omega (arith, c.increment.ensures)))
 
 pub returns-in-Ok-add_owned-clause-ends : goal.returns-in-Ok-add_owned-clause-ends
 returns-in-Ok-add_owned-clause-ends g c = record { caused = tt; counted = (c.in-Ok-add_owned.ensures.ends.counted.0, tt) }
@@ -44,7 +46,7 @@ pub returns-in-Err-add_owned-clause-ends : goal.returns-in-Err-add_owned-clause-
 returns-in-Err-add_owned-clause-ends g c =
     let stop = c.in-Err-add_owned.stop in
     held_ends g.S.Store c.args.store.now c.add_owned.new.store c.args.list.now c.args.intake.now stop c.stop_amid.result c.stop_amid.ensures
-    (subst (λ is. EndsBehind g.S.Store c.args.store.now c.add_owned.new.store {A = AddReport} (Err stop.fault) (no_list ∷ list_full ∷ []) (StopsAmong c.args.list.now (drop stop.done is)))
+    (subst (λ is. EndsPartialWrite g.S.Store c.args.store.now c.add_owned.new.store {A = AddReport} (Err stop.fault) (no_list ∷ list_full ∷ []) (RowsRefuseAnItem c.args.list.now (drop stop.done is)))
     c.held.ensures c.in-Err-add_owned.ensures.ends)
 
 -- ---- what a stop of the machine leaves
@@ -59,11 +61,14 @@ returns-in-Err-clause-crash g c =
 pub returns-in-Ok-add_owned-clause-crash : goal.returns-in-Ok-add_owned-clause-crash
 returns-in-Ok-add_owned-clause-crash g c =
     safe_added g.S.Store c.args.store.now c.add_owned.new.store c.args.list.now c.args.intake.now
-    (λ db up may. g.met.S.Store.settled (held_of c.add_owned.new.store).store db up may) c.in-Ok-add_owned.counts
-    (subst (λ is. AddsAll g.S.Store (held_of c.args.store.now) (held_of c.add_owned.new.store) (Ok c.in-Ok-add_owned.counts) c.args.list.now is) c.held.ensures c.in-Ok-add_owned.ensures.step)
-    (subst (λ is. CrashAll g.S.Store (held_of c.args.store.now) (held_of c.add_owned.new.store) c.args.list.now is (Ok c.in-Ok-add_owned.counts)) c.held.ensures c.in-Ok-add_owned.ensures.crash)
+    (λ db up may. g.met.S.Store.settled (store_connection c.add_owned.new.store).store db up may) c.in-Ok-add_owned.counts
+    (subst (λ is. AddsAllMessages g.S.Store (store_connection c.args.store.now) (store_connection c.add_owned.new.store) (Ok c.in-Ok-add_owned.counts) c.args.list.now is) c.held.ensures
+    c.in-Ok-add_owned.ensures.step)
+    (subst (λ is. CrashAddsAllBatches g.S.Store (store_connection c.args.store.now) (store_connection c.add_owned.new.store) c.args.list.now is (Ok c.in-Ok-add_owned.counts)) c.held.ensures
+    c.in-Ok-add_owned.ensures.crash)
 
 pub returns-in-Err-add_owned-clause-crash : goal.returns-in-Err-add_owned-clause-crash
 returns-in-Err-add_owned-clause-crash g c =
     held_crash g.S.Store c.args.store.now c.add_owned.new.store c.args.list.now c.args.intake.now c.in-Err-add_owned.stop c.stop_amid.result c.stop_amid.ensures
-    (subst (λ is. CrashAll g.S.Store (held_of c.args.store.now) (held_of c.add_owned.new.store) c.args.list.now is (Err c.in-Err-add_owned.stop)) c.held.ensures c.in-Err-add_owned.ensures.crash)
+    (subst (λ is. CrashAddsAllBatches g.S.Store (store_connection c.args.store.now) (store_connection c.add_owned.new.store) c.args.list.now is (Err c.in-Err-add_owned.stop)) c.held.ensures
+    c.in-Err-add_owned.ensures.crash)

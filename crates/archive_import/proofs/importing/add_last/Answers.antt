@@ -3,7 +3,7 @@ use Rattle.mbox_stream.specs.Cutter.{IsEndFault}
 use Rattle.archive_import.proofs.ReadLemmas.{begun_none, begun_more, settled_taken, ended_divides, end_stopped, waiting_stopped, last_says}
 use Rattle.archive_import.proofs.StopLemmas.{Keeps}
 use Rattle.archive_import.proofs.CrashLemmas.{amid_lasts, last_crash, more_lasts, read_crash, safe_still, waiting_crash}
-use Rattle.archive_import.specs.Intake.{StopsRead}
+use Rattle.archive_import.specs.Intake.{RowsRefusePendingRead}
 use Rattle.archive_import.proofs.EndLemmas.{last_ends, uncut_ends, waiting_ends}
 use Rattle.archive_import.proofs.importing.add_last.Goals as goal
 
@@ -46,7 +46,8 @@ returns-in-Err-add_waiting-clause-adds g c =
 
 pub returns-in-Err-clause-ends : goal.returns-in-Err-clause-ends
 returns-in-Err-clause-ends g c =
-    uncut_ends g.S.Store c.args.store.now _ (StopsRead c.args.list.now c.args.cutter.now.stream 1 c.args.cutter.now.taken c.args.intake.now) _ _ c.stop_uncut.result c.stop_uncut.ensures.stop
+    uncut_ends g.S.Store c.args.store.now _ (RowsRefusePendingRead c.args.list.now c.args.cutter.now.stream 1 c.args.cutter.now.taken c.args.intake.now) _ _ c.stop_uncut.result
+    c.stop_uncut.ensures.stop
     c.stop_uncut.ensures.counted
 
 pub returns-in-Ok-add_waiting-clause-ends : goal.returns-in-Ok-add_waiting-clause-ends

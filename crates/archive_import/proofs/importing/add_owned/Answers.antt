@@ -1,12 +1,12 @@
 use Rattle.std.proofs.Common.{[], ◌∷◌, ◌∙◌, arith, drop, subst}
 use Rattle.sqlite.specs.Held.{state}
-use Rattle.archive_machine.specs.Commands.{list_full, no_list}
+use Rattle.archive_model.specs.Commands.{list_full, no_list}
 use Rattle.archive_tables.specs.Tables.{archive_of}
 use Rattle.archive_tables.proofs.LastLemmas.{lasts_same}
-use Rattle.archive_store.specs.Refusals.{StopsAmong}
-use Rattle.archive_port.specs.Replies.{done_in, with_fault}
-use Rattle.archive_store.specs.Told.{EndsBehind}
-use Rattle.archive_port.specs.declared.reports.AddStop.{AddStop}
+use Rattle.archive_store.specs.Refusals.{RowsRefuseAnItem}
+use Rattle.archive_port.specs.Replies.{done_count_on_error, map_error_to_fault}
+use Rattle.archive_store.specs.Told.{EndsPartialWrite}
+use Rattle.archive_port.specs.declared.reports.AddError.{AddError}
 use Rattle.archive_store.proofs.CrashLemmas.{broken_crash}
 use Rattle.archive_store.proofs.RunLemmas.{run_nothing}
 use Rattle.archive_import.proofs.importing.add_owned.Goals as goal
@@ -19,7 +19,7 @@ returns-in-Err-clause-ends g c = record {
   lasts = lasts_same _;
   was_open = λ returned. tt;
   kind = tt;
-  counted = (omega (arith, c.raise.ensures), (λ want. omega (arith, c.raise.ensures)));
+  counted = (omega (arith, c.increment.ensures), (λ want. omega (arith, c.increment.ensures)));
   caused = λ returned held free bad. absurd (cc);
 }
 
@@ -30,5 +30,5 @@ returns-in-Err-clause-crash g c = broken_crash g.S.Store c.args.store.now.conn c
 
 pub returns-in-Ok-clause-ends : goal.returns-in-Ok-clause-ends
 returns-in-Ok-clause-ends g c =
-    subst (λ is. EndsBehind g.S.Store c.args.store.now c.add_all.new.self (with_fault (λ (stop : AddStop). stop.fault) c.add_all.result) (no_list ∷ list_full ∷ [])
-    (StopsAmong c.args.list.now (drop (done_in (λ (stop : AddStop). stop.done) c.add_all.result) is))) (c.deref.ensures.value ∙ c.in-Ok.ensures) c.add_all.ensures.ends
+    subst (λ is. EndsPartialWrite g.S.Store c.args.store.now c.add_all.new.self (map_error_to_fault (λ (stop : AddError). stop.fault) c.add_all.result) (no_list ∷ list_full ∷ [])
+    (RowsRefuseAnItem c.args.list.now (drop (done_count_on_error (λ (stop : AddError). stop.done) c.add_all.result) is))) (c.deref.ensures.value ∙ c.in-Ok.ensures) c.add_all.ensures.ends

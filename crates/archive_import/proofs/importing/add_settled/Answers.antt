@@ -1,11 +1,11 @@
 use Rattle.std.proofs.Common.{rules, arith, [], ◌++◌, ◌∙◌, sym, ap, Err, append-nil, append_assoc, inl, inr}
 use Rattle.mbox_stream.specs.Stream.{settled_items}
-use Rattle.archive_machine.specs.Records.{Archive}
-use Rattle.archive_import.specs.Intake.{IsUnderWay, StopsRead}
+use Rattle.archive_model.specs.Records.{Archive}
+use Rattle.archive_import.specs.Intake.{IsUnderWay, RowsRefusePendingRead}
 use Rattle.archive_import.proofs.EndLemmas.{last_ends, uncut_ends, waiting_ends}
 use Rattle.archive_import.proofs.ReadLemmas.{Begun, begun_more, settled_taken, settled_given, preamble_stopped, memory_stopped, waiting_stopped, unread_stopped_read}
 use Rattle.archive_import.proofs.CrashLemmas.{last_crash, more_lasts, read_crash, safe_then, unread_lasts, waiting_crash}
-use Rattle.archive_store.specs.Held.{wants_of}
+use Rattle.archive_store.specs.Held.{memory_refusal_count}
 use Rattle.archive_port.proofs.WantLemmas.{raises_after}
 use Rattle.archive_import.proofs.WantLemmas.{IsStopWanting}
 use Rattle.archive_import.proofs.importing.add_settled.Goals as goal
@@ -21,7 +21,7 @@ loop-preserved g c =
       adds = begun_more g.S.Store c.args.store.now c.loop.store c.add_waiting.new.store list [] c.loop.cutter.taken c.args.intake.now c.loop.intake i.adds c.add_waiting.new.intake read.waiting
           c.add_waiting.new.cutter.taken (takes.taken.0 ∙ ap (λ is. is ++ read.waiting) c.read_from.ensures.taken) c.in-Ok.ensures.adds;
       told = r.1 ∙ ap (λ t. t ++ r.0) i.told ∙ append_assoc _ c.loop.cutter.stream r.0 ∙ ap (λ t. g.R.Source.told c.args.input.now ++ t) (sym r.2 ∙ sym takes.stream);
-      read_well = search rules;
+      no_read_failed = search rules;
       no_end = search rules;
       none_waits = takes.taken.1;
       goes_on = takes.phase ∙ c.in-Ok-true.ensures.open;
@@ -91,25 +91,28 @@ returns-in-Err-Read-clause-ends g c =
 
 pub returns-in-Err-Preamble-clause-ends : goal.returns-in-Err-Preamble-clause-ends
 returns-in-Err-Preamble-clause-ends g c =
-    uncut_ends g.S.Store c.args.store.now _ (StopsRead c.args.list.now c.read_from.new.self.stream 0 [] c.args.intake.now) _ _ c.stop_uncut.result c.stop_uncut.ensures.stop
-    (raises_after {A = Unit {0}} IsStopWanting (wants_of c.args.store.now) (wants_of c.loop.store) c.stop_uncut.new.wants (Err c.stop_uncut.result) c.loop.invariant.grows c.stop_uncut.ensures.counted)
+    uncut_ends g.S.Store c.args.store.now _ (RowsRefusePendingRead c.args.list.now c.read_from.new.self.stream 0 [] c.args.intake.now) _ _ c.stop_uncut.result c.stop_uncut.ensures.stop
+    (raises_after {A = Unit {0}} IsStopWanting (memory_refusal_count c.args.store.now) (memory_refusal_count c.loop.store) c.stop_uncut.new.wants (Err c.stop_uncut.result)
+    c.loop.invariant.grows c.stop_uncut.ensures.counted)
 
 pub returns-in-Err-Memory-clause-ends : goal.returns-in-Err-Memory-clause-ends
 returns-in-Err-Memory-clause-ends g c =
-    uncut_ends g.S.Store c.args.store.now _ (StopsRead c.args.list.now c.read_from.new.self.stream 0 [] c.args.intake.now) _ _ c.stop_uncut-in-Err-Memory.result c.stop_uncut-in-Err-Memory.ensures.stop
-    (raises_after {A = Unit {0}} IsStopWanting (wants_of c.args.store.now) (wants_of c.loop.store) c.stop_uncut-in-Err-Memory.new.wants
+    uncut_ends g.S.Store c.args.store.now _ (RowsRefusePendingRead c.args.list.now c.read_from.new.self.stream 0 [] c.args.intake.now) _ _ c.stop_uncut-in-Err-Memory.result
+    c.stop_uncut-in-Err-Memory.ensures.stop
+    (raises_after {A = Unit {0}} IsStopWanting (memory_refusal_count c.args.store.now) (memory_refusal_count c.loop.store) c.stop_uncut-in-Err-Memory.new.wants
     (Err c.stop_uncut-in-Err-Memory.result) c.loop.invariant.grows c.stop_uncut-in-Err-Memory.ensures.counted)
 
 pub returns-in-Err-Failed-clause-ends : goal.returns-in-Err-Failed-clause-ends
 returns-in-Err-Failed-clause-ends g c =
-    uncut_ends g.S.Store c.args.store.now _ (StopsRead c.args.list.now c.read_from.new.self.stream 0 [] c.args.intake.now) _ _ c.stop_uncut-in-Err-Failed.result c.stop_uncut-in-Err-Failed.ensures.stop
-    (raises_after {A = Unit {0}} IsStopWanting (wants_of c.args.store.now) (wants_of c.loop.store) c.stop_uncut-in-Err-Failed.new.wants
+    uncut_ends g.S.Store c.args.store.now _ (RowsRefusePendingRead c.args.list.now c.read_from.new.self.stream 0 [] c.args.intake.now) _ _ c.stop_uncut-in-Err-Failed.result
+    c.stop_uncut-in-Err-Failed.ensures.stop
+    (raises_after {A = Unit {0}} IsStopWanting (memory_refusal_count c.args.store.now) (memory_refusal_count c.loop.store) c.stop_uncut-in-Err-Failed.new.wants
     (Err c.stop_uncut-in-Err-Failed.result) c.loop.invariant.grows c.stop_uncut-in-Err-Failed.ensures.counted)
 
 pub returns-clause-ends : goal.returns-clause-ends
 returns-clause-ends g c =
-    uncut_ends g.S.Store c.args.store.now _ (StopsRead c.args.list.now c.loop.cutter.stream 0 [] c.args.intake.now) _ _ c.stop_uncut-2.result c.stop_uncut-2.ensures.stop
-    (raises_after {A = Unit {0}} IsStopWanting (wants_of c.args.store.now) (wants_of c.loop.store) c.stop_uncut-2.new.wants (Err c.stop_uncut-2.result)
+    uncut_ends g.S.Store c.args.store.now _ (RowsRefusePendingRead c.args.list.now c.loop.cutter.stream 0 [] c.args.intake.now) _ _ c.stop_uncut-2.result c.stop_uncut-2.ensures.stop
+    (raises_after {A = Unit {0}} IsStopWanting (memory_refusal_count c.args.store.now) (memory_refusal_count c.loop.store) c.stop_uncut-2.new.wants (Err c.stop_uncut-2.result)
     c.loop.invariant.grows c.stop_uncut-2.ensures.counted)
 
 pub returns-in-Err-clause-ends : goal.returns-in-Err-clause-ends

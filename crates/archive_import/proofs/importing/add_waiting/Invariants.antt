@@ -1,7 +1,7 @@
 use Rattle.std.proofs.Common.{◌≡◌, ◌≤◌, length}
-use Rattle.mbox_stream.specs.Cutter.{IsCutter}
-use Rattle.archive_store.specs.Held.{wants_of}
-use Rattle.archive_desk.specs.Holding.{GoesHeld}
+use Rattle.mbox_stream.specs.Cutter.{IsCutterConsistent}
+use Rattle.archive_store.specs.Held.{memory_refusal_count}
+use Rattle.archive_desk.specs.Holding.{RelatesTableArchives}
 use Rattle.archive_import.proofs.CrashLemmas.{KeepsSafe}
 use Rattle.archive_import.proofs.StopLemmas.{Grows, Moved}
 use Rattle.archive_import.proofs.importing.add_waiting.Given as goal
@@ -9,11 +9,11 @@ use Rattle.archive_import.proofs.importing.add_waiting.Given as goal
 abbrev pub invariant-loop-item : goal.invariant-loop-item
 invariant-loop-item g l = record {
   adds : (moved : Moved l.initial.cutter.taken l.initial.cutter.waiting l.cutter.taken l.cutter.waiting)
-      × GoesHeld g.S.Store l.initial.store l.store (Grows l.list l.initial.intake l.intake moved.done);
+      × RelatesTableArchives g.S.Store l.initial.store l.store (Grows l.list l.initial.intake l.intake moved.done);
   stream : l.cutter.stream ≡ l.initial.cutter.stream;
   phase : l.cutter.phase ≡ l.initial.cutter.phase;
-  given : IsCutter l.cutter;
-  grows : wants_of l.initial.store ≤ wants_of l.store;
+  given : IsCutterConsistent l.cutter;
+  grows : memory_refusal_count l.initial.store ≤ memory_refusal_count l.store;
   safe : KeepsSafe g.S.Store l.initial.store l.store;
 }
 

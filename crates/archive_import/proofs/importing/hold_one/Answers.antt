@@ -1,9 +1,9 @@
 use Rattle.std.proofs.Common.{[], ◌∷◌}
-use Rattle.archive_store.specs.Held.{wants_of}
+use Rattle.archive_store.specs.Held.{memory_refusal_count}
 use Rattle.archive_import.proofs.StopLemmas.{hold_says, held_not_added, keeps_all}
 use Rattle.archive_import.proofs.CrashLemmas.{amid_more, hold_crash, safe_still}
 use Rattle.archive_port.proofs.WantLemmas.{raises_after}
-use Rattle.archive_import.specs.Intake.{StopsMore}
+use Rattle.archive_import.specs.Intake.{RowsRefusePendingOrMore}
 use Rattle.archive_import.proofs.EndLemmas.{amid_ends, hold_ends}
 use Rattle.archive_import.proofs.WantLemmas.{IsStopWanting}
 use Rattle.archive_import.proofs.importing.hold_one.Goals as goal
@@ -21,12 +21,13 @@ returns-in-Err-clause-adds g c =
 
 pub returns-then-has_room-clause-ends : goal.returns-then-has_room-clause-ends
 returns-then-has_room-clause-ends g c =
-    hold_ends g.S.Store c.args.store.now _ (StopsMore c.args.list.now c.args.intake.now (c.args.item ∷ [])) c.args.intake.now.done c.hold.result c.hold.ensures.fault c.hold.ensures.counted
+    hold_ends g.S.Store c.args.store.now _ (RowsRefusePendingOrMore c.args.list.now c.args.intake.now (c.args.item ∷ [])) c.args.intake.now.done c.hold.result c.hold.ensures.fault
+    c.hold.ensures.counted
 
 pub returns-in-Ok-clause-ends : goal.returns-in-Ok-clause-ends
 returns-in-Ok-clause-ends g c =
-    hold_ends g.S.Store c.args.store.now _ (StopsMore c.args.list.now c.args.intake.now (c.args.item ∷ [])) c.add_held.new.intake.done c.hold-in-Ok.result c.hold-in-Ok.ensures.fault
-    (raises_after IsStopWanting (wants_of c.args.store.now) (wants_of c.add_held.new.store) c.hold-in-Ok.new.wants c.hold-in-Ok.result c.in-Ok.ensures.ends.counted.0
+    hold_ends g.S.Store c.args.store.now _ (RowsRefusePendingOrMore c.args.list.now c.args.intake.now (c.args.item ∷ [])) c.add_held.new.intake.done c.hold-in-Ok.result c.hold-in-Ok.ensures.fault
+    (raises_after IsStopWanting (memory_refusal_count c.args.store.now) (memory_refusal_count c.add_held.new.store) c.hold-in-Ok.new.wants c.hold-in-Ok.result c.in-Ok.ensures.ends.counted.0
     c.hold-in-Ok.ensures.counted)
 
 pub returns-in-Err-clause-ends : goal.returns-in-Err-clause-ends

@@ -1,15 +1,15 @@
 use Rattle.std.proofs.Common.{[], ◌∷◌, inl, refl, sym, subst, append-nil, arith, Ok, Err}
-use Rattle.archive_machine.specs.Commands.{no_list}
-use Rattle.archive_machine.specs.Records.{Archive}
-use Rattle.archive_store.specs.Told.{HasFailed, HoldsTables}
-use Rattle.archive_desk.specs.Holding.{GoesHeld}
-use Rattle.archive_import.specs.Streaming.{CrashReads, IsReadIn, IsWanting, StopsReading}
+use Rattle.archive_model.specs.Commands.{no_list}
+use Rattle.archive_model.specs.Records.{Archive}
+use Rattle.archive_store.specs.Told.{DiskHasFailed, HoldsTables}
+use Rattle.archive_desk.specs.Holding.{RelatesTableArchives}
+use Rattle.archive_import.specs.Streaming.{CrashImportsInput, IsInputImported, IsImportMemoryRefusal, RowsRefuseReadItem}
 use Rattle.archive_import.specs.Intake.{IsUnderWay}
 use Rattle.archive_import.proofs.ReadLemmas.{Begun, IsFound, not_found, found_begun, settled_stopped, last_stopped, read_in}
-use Rattle.archive_desk.specs.Crashes.{CrashesHeld}
+use Rattle.archive_desk.specs.Crashes.{CrashAfterTablesCall}
 use Rattle.archive_import.proofs.CrashLemmas.{LeavesRead, begun_crash, ended_crash, ends_reading, found_crash, found_safe, read_all, read_lasts, safe_then, stops_reading}
 use Rattle.archive_desk.specs.declared.importing.Report.{Report}
-use Rattle.archive_desk.specs.declared.importing.ImportFault.TheVariants.{Store as Stored}
+use Rattle.archive_desk.specs.declared.importing.ImportError.TheVariants.{Store as Stored}
 use Rattle.archive_desk.proofs.ImportEnds.{import_stopped}
 use Rattle.archive_import.proofs.EndLemmas.{read_ends}
 use Rattle.archive_import.proofs.IntakeLemmas.{under_way_first}
@@ -22,7 +22,7 @@ returns-in-Err-clause-imports g c = (
   0,
   sym (append-nil _),
   omega arith,
-  not_found g.S.Store c.args.store.now c.find_list.new.store c.args.list.now c.in-Err.fault
+  not_found g.S.Store c.args.store.now c.check_list_exists.new.store c.args.list.now c.in-Err.fault
       c.in-Err.ensures.found,
 )
 
@@ -32,7 +32,7 @@ returns-in-Err-add_settled-clause-imports g c = (
   0,
   c.add_settled.ensures.read.told,
   omega (arith, c.in-Err-add_settled.ensures.read.no_end),
-  settled_stopped g.S.Store c.args.store.now c.find_list.new.store c.add_settled.new.store c.args.list.now c.new-intake.result c.new-intake.ensures
+  settled_stopped g.S.Store c.args.store.now c.check_list_exists.new.store c.add_settled.new.store c.args.list.now c.new-intake.result c.new-intake.ensures
       c.in_default.ensures.found
       c.add_settled.new.cutter.stream c.in-Err-add_settled.stop c.in-Err-add_settled.ensures.adds,
 )
@@ -48,11 +48,11 @@ returns-in-Ok-add_last-clause-imports g c =
       c.add_settled.ensures.read.told,
       c.in-Ok.ensures.read.end,
       read_in g.S.Store store c.add_settled.new.store c.add_last.new.store list cutter.stream cutter.taken intake
-          (found_begun g.S.Store store c.find_list.new.store c.add_settled.new.store list c.new-intake.result c.new-intake.ensures
+          (found_begun g.S.Store store c.check_list_exists.new.store c.add_settled.new.store list c.new-intake.result c.new-intake.ensures
           c.in_default.ensures.found cutter.taken intake c.in-Ok.ensures.adds)
           c.report.result
-          (subst (λ r. GoesHeld g.S.Store c.add_settled.new.store c.add_last.new.store
-          (λ b c. (a : Archive) → IsUnderWay list a b cutter.taken intake → IsReadIn list cutter.stream 1 a c r)) (sym c.report.ensures)
+          (subst (λ r. RelatesTableArchives g.S.Store c.add_settled.new.store c.add_last.new.store
+          (λ b c. (a : Archive) → IsUnderWay list a b cutter.taken intake → IsInputImported list cutter.stream 1 a c r)) (sym c.report.ensures)
           c.in-Ok-add_last.ensures.adds),
     )
 
@@ -67,7 +67,7 @@ returns-clause-imports g c =
       c.add_settled.ensures.read.told,
       c.in-Ok.ensures.read.end,
       last_stopped g.S.Store store c.add_settled.new.store c.add_last.new.store list cutter.stream cutter.taken intake
-          (found_begun g.S.Store store c.find_list.new.store c.add_settled.new.store list c.new-intake.result c.new-intake.ensures
+          (found_begun g.S.Store store c.check_list_exists.new.store c.add_settled.new.store list c.new-intake.result c.new-intake.ensures
           c.in_default.ensures.found cutter.taken intake c.in-Ok.ensures.adds)
           c.in-Err-add_last.stop c.in-Err-add_last.ensures.adds,
     )
@@ -76,14 +76,15 @@ returns-clause-imports g c =
 
 pub returns-in-Err-clause-ends : goal.returns-in-Err-clause-ends
 returns-in-Err-clause-ends g c =
-    import_stopped g.S.Store (HoldsTables g.S.Store) IsWanting c.args.store.now c.find_list.new.store (Unit {0}) Report _ (λ store held. held) store_want
-    (HasFailed g.S.Store c.args.store.now c.find_list.new.store) c.in-Err.fault (no_list ∷ []) 0 (record { done = 0; fault = Stored c.in-Err.fault }) refl (λ more. inl more) c.in-Err.ensures.ends
+    import_stopped g.S.Store (HoldsTables g.S.Store) IsImportMemoryRefusal c.args.store.now c.check_list_exists.new.store (Unit {0}) Report _ (λ store held. held) store_want
+    (DiskHasFailed g.S.Store c.args.store.now c.check_list_exists.new.store) c.in-Err.fault (no_list ∷ []) 0 (record { done = 0; fault = Stored c.in-Err.fault }) refl (λ more. inl more)
+    c.in-Err.ensures.ends
 
 pub returns-in-Err-add_settled-clause-ends : goal.returns-in-Err-add_settled-clause-ends
 returns-in-Err-add_settled-clause-ends g c =
     let list = c.args.list.now in
     let store = c.args.store.now in
-    let mid = c.find_list.new.store in
+    let mid = c.check_list_exists.new.store in
     let new = c.add_settled.new.store in
     let stop = c.in-Err-add_settled.stop in
     let stream = c.add_settled.new.cutter.stream in
@@ -92,8 +93,8 @@ returns-in-Err-add_settled-clause-ends g c =
     c.in_default.ensures.found
     (read_lasts g.S.Store mid new list stream 0 [] begun (λ b d _. Begun list [] c.add_settled.new.cutter.taken begun c.add_settled.new.intake b d) stop c.in-Err-add_settled.ensures.adds)
     c.in_default.ensures.ends.counted.0 _ stop
-    (λ a db stops text ends told ended. subst (λ n. StopsReading list text n stop.done db) (omega (arith, ended, c.in-Err-add_settled.ensures.read.no_end))
-    (subst (λ t. StopsReading list t 0 stop.done db) (read_all _ stream text _ c.add_settled.ensures.read.told told) stops))
+    (λ a db stops text ends told ended. subst (λ n. RowsRefuseReadItem list text n stop.done db) (omega (arith, ended, c.in-Err-add_settled.ensures.read.no_end))
+    (subst (λ t. RowsRefuseReadItem list t 0 stop.done db) (read_all _ stream text _ c.add_settled.ensures.read.told told) stops))
     c.in-Err-add_settled.ensures.ends
 
 pub returns-in-Ok-add_last-clause-ends : goal.returns-in-Ok-add_last-clause-ends
@@ -106,7 +107,7 @@ returns-clause-ends g c =
     let cutter = c.add_settled.new.cutter in
     let intake = c.add_settled.new.intake in
     let store = c.args.store.now in
-    let mid = c.find_list.new.store in
+    let mid = c.check_list_exists.new.store in
     let later = c.add_settled.new.store in
     let new = c.add_last.new.store in
     let stop = c.in-Err-add_last.stop in
@@ -114,11 +115,11 @@ returns-clause-ends g c =
     (found_begun g.S.Store store mid later list c.new-intake.result c.new-intake.ensures c.in_default.ensures.found
     cutter.taken intake c.in-Ok.ensures.adds)
     (read_lasts g.S.Store later new list cutter.stream 1 cutter.taken intake (λ b d _. (a : Archive) → IsUnderWay list a b cutter.taken intake
-    → IsReadIn list cutter.stream 1 a d c.add_last.new.intake.report)
+    → IsInputImported list cutter.stream 1 a d c.add_last.new.intake.report)
     stop c.in-Err-add_last.ensures.adds)
     (omega (arith, c.in_default.ensures.ends.counted.0, c.in-Ok.ensures.ends.counted.0)) _ stop
-    (λ a db stops text ends told ended. subst (λ n. StopsReading list text n stop.done db) (omega (arith, ended, c.in-Ok.ensures.read.end))
-    (subst (λ t. StopsReading list t 1 stop.done db) (read_all _ cutter.stream text _ c.add_settled.ensures.read.told told) stops))
+    (λ a db stops text ends told ended. subst (λ n. RowsRefuseReadItem list text n stop.done db) (omega (arith, ended, c.in-Ok.ensures.read.end))
+    (subst (λ t. RowsRefuseReadItem list t 1 stop.done db) (read_all _ cutter.stream text _ c.add_settled.ensures.read.told told) stops))
     c.in-Err-add_last.ensures.ends
 
 -- ---- what a stop of the machine leaves
@@ -126,7 +127,7 @@ returns-clause-ends g c =
 pub returns-in-Err-clause-crash : goal.returns-in-Err-clause-crash
 returns-in-Err-clause-crash g c = λ text ends told ended.
     let store = c.args.store.now in
-    let mid = c.find_list.new.store in
+    let mid = c.check_list_exists.new.store in
     stops_reading g.S.Store store mid c.args.list.now text ends (record { done = 0; fault = Stored c.in-Err.fault })
     (found_crash g.S.Store store mid c.args.list.now text ends c.in-Err.fault c.in-Err.ensures.quiet)
 
@@ -134,7 +135,7 @@ pub returns-in-Err-add_settled-clause-crash : goal.returns-in-Err-add_settled-cl
 returns-in-Err-add_settled-clause-crash g c = λ text ends told ended.
     let list = c.args.list.now in
     let store = c.args.store.now in
-    let mid = c.find_list.new.store in
+    let mid = c.check_list_exists.new.store in
     let new = c.add_settled.new.store in
     let stop = c.in-Err-add_settled.stop in
     let stream = c.add_settled.new.cutter.stream in
@@ -144,8 +145,8 @@ returns-in-Err-add_settled-clause-crash g c = λ text ends told ended.
     (read_lasts g.S.Store mid new list stream 0 [] c.new-intake.result (λ b d _. Begun list [] c.add_settled.new.cutter.taken c.new-intake.result c.add_settled.new.intake b d) stop
     c.in-Err-add_settled.ensures.adds)
     text ends stop
-    (subst (λ n. CrashesHeld g.S.Store mid new {A = Unit {0}} (Err stop) (LeavesRead list text n [] c.new-intake.result)) (omega (arith, ended, c.in-Err-add_settled.ensures.read.no_end))
-    (subst (λ t. CrashesHeld g.S.Store mid new {A = Unit {0}} (Err stop) (LeavesRead list t 0 [] c.new-intake.result)) (read_all _ stream text _ c.add_settled.ensures.read.told told)
+    (subst (λ n. CrashAfterTablesCall g.S.Store mid new {A = Unit {0}} (Err stop) (LeavesRead list text n [] c.new-intake.result)) (omega (arith, ended, c.in-Err-add_settled.ensures.read.no_end))
+    (subst (λ t. CrashAfterTablesCall g.S.Store mid new {A = Unit {0}} (Err stop) (LeavesRead list t 0 [] c.new-intake.result)) (read_all _ stream text _ c.add_settled.ensures.read.told told)
     c.in-Err-add_settled.ensures.crash)))
 
 pub returns-in-Ok-add_last-clause-crash : goal.returns-in-Ok-add_last-clause-crash
@@ -154,18 +155,18 @@ returns-in-Ok-add_last-clause-crash g c = λ text ends told ended.
     let cutter = c.add_settled.new.cutter in
     let intake = c.add_settled.new.intake in
     let store = c.args.store.now in
-    let mid = c.find_list.new.store in
+    let mid = c.check_list_exists.new.store in
     let later = c.add_settled.new.store in
     let new = c.add_last.new.store in
     let found = c.in_default.ensures.found in
     let begun = found_begun g.S.Store store mid later list c.new-intake.result c.new-intake.ensures found cutter.taken intake c.in-Ok.ensures.adds in
     let safe = safe_then g.S.Store store mid later (IsFound list) (found_safe g.S.Store store mid list c.in_default.ensures.found c.in_default.ensures.quiet) found c.in-Ok.ensures.adds.0
     c.in-Ok.ensures.crash in
-    subst (λ n. CrashReads g.S.Store store new list text n (Ok c.report.result)) (omega (arith, ended, c.in-Ok.ensures.read.end))
-    (subst (λ t. CrashReads g.S.Store store new list t 1 (Ok c.report.result)) (read_all _ cutter.stream text _ c.add_settled.ensures.read.told told)
+    subst (λ n. CrashImportsInput g.S.Store store new list text n (Ok c.report.result)) (omega (arith, ended, c.in-Ok.ensures.read.end))
+    (subst (λ t. CrashImportsInput g.S.Store store new list t 1 (Ok c.report.result)) (read_all _ cutter.stream text _ c.add_settled.ensures.read.told told)
     (ends_reading g.S.Store store new list cutter.stream 1 c.report.result
     (read_in g.S.Store store later new list cutter.stream cutter.taken intake begun c.report.result
-    (subst (λ r. GoesHeld g.S.Store later new (λ b c. (a : Archive) → IsUnderWay list a b cutter.taken intake → IsReadIn list cutter.stream 1 a c r)) (sym c.report.ensures)
+    (subst (λ r. RelatesTableArchives g.S.Store later new (λ b c. (a : Archive) → IsUnderWay list a b cutter.taken intake → IsInputImported list cutter.stream 1 a c r)) (sym c.report.ensures)
     c.in-Ok-add_last.ensures.adds))
     (safe_then g.S.Store store later new (λ a c. IsUnderWay list a c cutter.taken intake) safe begun c.in-Ok-add_last.ensures.adds.0 c.in-Ok-add_last.ensures.crash)))
 
@@ -175,7 +176,7 @@ returns-clause-crash g c = λ text ends told ended.
     let cutter = c.add_settled.new.cutter in
     let intake = c.add_settled.new.intake in
     let store = c.args.store.now in
-    let mid = c.find_list.new.store in
+    let mid = c.check_list_exists.new.store in
     let later = c.add_settled.new.store in
     let new = c.add_last.new.store in
     let stop = c.in-Err-add_last.stop in
@@ -186,8 +187,8 @@ returns-clause-crash g c = λ text ends told ended.
     (ended_crash g.S.Store store later new list cutter.taken intake safe
     (found_begun g.S.Store store mid later list c.new-intake.result c.new-intake.ensures found cutter.taken intake c.in-Ok.ensures.adds)
     (read_lasts g.S.Store later new list cutter.stream 1 cutter.taken intake (λ b d _. (a : Archive) → IsUnderWay list a b cutter.taken intake
-    → IsReadIn list cutter.stream 1 a d c.add_last.new.intake.report)
+    → IsInputImported list cutter.stream 1 a d c.add_last.new.intake.report)
     stop c.in-Err-add_last.ensures.adds) text ends stop
-    (subst (λ n. CrashesHeld g.S.Store later new {A = Unit {0}} (Err stop) (LeavesRead list text n cutter.taken intake)) (omega (arith, ended, c.in-Ok.ensures.read.end))
-    (subst (λ t. CrashesHeld g.S.Store later new {A = Unit {0}} (Err stop) (LeavesRead list t 1 cutter.taken intake)) (read_all _ cutter.stream text _ c.add_settled.ensures.read.told told)
+    (subst (λ n. CrashAfterTablesCall g.S.Store later new {A = Unit {0}} (Err stop) (LeavesRead list text n cutter.taken intake)) (omega (arith, ended, c.in-Ok.ensures.read.end))
+    (subst (λ t. CrashAfterTablesCall g.S.Store later new {A = Unit {0}} (Err stop) (LeavesRead list t 1 cutter.taken intake)) (read_all _ cutter.stream text _ c.add_settled.ensures.read.told told)
     c.in-Err-add_last.ensures.crash)))

@@ -2,8 +2,8 @@ use Rattle.std.proofs.Common.{ap}
 use Rattle.archive_desk.specs.declared.importing.ImportStop.{ImportStop}
 use Rattle.archive_import.proofs.CrashLemmas.{kept_crash}
 use Rattle.archive_import.proofs.ReadLemmas.{unread_added, unread_stopped}
-use Rattle.archive_store.specs.Held.{wants_of}
-use Rattle.archive_import.specs.Intake.{StopsAmid}
+use Rattle.archive_store.specs.Held.{memory_refusal_count}
+use Rattle.archive_import.specs.Intake.{RowsRefusePending}
 use Rattle.archive_import.proofs.EndLemmas.{uncut_ends}
 use Rattle.archive_import.proofs.WantLemmas.{unread_unwanted}
 use Rattle.archive_import.proofs.importing.stop_unread.Goals as goal
@@ -19,8 +19,8 @@ returns-in-Err-clause-adds g c =
 
 pub returns-in-Ok-clause-ends : goal.returns-in-Ok-clause-ends
 returns-in-Ok-clause-ends g c =
-    uncut_ends g.S.Store c.args.store.now c.add_held.new.store (StopsAmid c.args.list.now c.args.intake.now) _ _ c.stop.result c.stop.ensures
-    (unread_unwanted (Unit {0}) (wants_of c.args.store.now) (wants_of c.add_held.new.store) _ c.stop.result c.in-Ok.ensures.ends.counted.0 c.stop.ensures)
+    uncut_ends g.S.Store c.args.store.now c.add_held.new.store (RowsRefusePending c.args.list.now c.args.intake.now) _ _ c.stop.result c.stop.ensures
+    (unread_unwanted (Unit {0}) (memory_refusal_count c.args.store.now) (memory_refusal_count c.add_held.new.store) _ c.stop.result c.in-Ok.ensures.ends.counted.0 c.stop.ensures)
 
 pub returns-in-Ok-clause-crash : goal.returns-in-Ok-clause-crash
 returns-in-Ok-clause-crash g c =

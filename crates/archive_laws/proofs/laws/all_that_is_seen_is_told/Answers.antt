@@ -10,6 +10,6 @@ returns-clause-empty c = empty_in_order
 pub returns-clause-commands : goal.returns-clause-commands
 returns-clause-commands c = λ archive commands items it. record {
   sound = c.commands_keep_soundness.ensures.run archive commands items it.sound;
-  apart = c.names_stay_apart.ensures.run archive commands it.apart;
+  apart = c.names_stay_unique.ensures.run archive commands it.apart;
   named = c.names_and_tokens_are_such.ensures.run archive commands it.named;
 }

@@ -1,6 +1,6 @@
 use Rattle.std.proofs.Common.{arith, ◌+◌, [], ◌∷◌, ◌++◌, ◌∙◌, ap, refl, length-append}
-use Rattle.archive_listen.specs.Serving.{at_work, served}
-use Rattle.archive_listen.proofs.ServingLemmas.{serves_more, told_more}
+use Rattle.archive_listen.specs.Serving.{running_service, server_state}
+use Rattle.archive_listen.proofs.ServingLemmas.{serves_more, reads_text}
 use Rattle.archive_listen.proofs.serving.serve_each.Goals as goal
 
 pub loop-taken-init : goal.loop-taken-init
@@ -14,15 +14,21 @@ loop-taken-preserved g c =
       omega (arith, c.loop-taken-test.true),
       record {
         each = serves_more _ _ _ i.0 c.in-Ok.outcome _ _ _ i.3.each c.in-Ok.ensures.served;
-        told = told_more i.0 c.in-Ok.outcome _ _ _ i.3.told c.tell_outcome.ensures.told;
+        told = reads_text i.0 c.in-Ok.outcome _ _ _ i.3.told c.tell_outcome.ensures.told;
       },
       omega (arith, i.4, c.tell_outcome.ensures.failures),
     )
 
 pub returns-in-Err-clause-stopped : goal.returns-in-Err-clause-stopped
 returns-in-Err-clause-stopped g c =
-    let i = c.loop-taken.invariant in
-    (i.0, served c.loop-taken.listener (at_work c.loop-taken.service c.loop-taken.state), omega (arith, i.1, c.loop-taken-test.true), i.3, c.in-Err.ensures.stopped.0, c.in-Err.ensures.stopped.1)
+    let i = c.loop-taken.invariant in (
+      i.0,
+      server_state c.loop-taken.listener (running_service c.loop-taken.service c.loop-taken.state),
+      omega (arith, i.1, c.loop-taken-test.true),
+      i.3,
+      c.in-Err.ensures.stopped.0,
+      c.in-Err.ensures.stopped.1,
+    )
 
 pub returns-in-Err-clause-failures : goal.returns-in-Err-clause-failures
 returns-in-Err-clause-failures g c = c.loop-taken.invariant.4

@@ -1,5 +1,5 @@
 use Rattle.std.proofs.Common.{List, ℕ, subst}
-use Rattle.archive_pages.specs.Causes.{HasServeCause, IsMessageUnread, IsUnreadBy}
+use Rattle.archive_pages.specs.Causes.{Has503Cause, IsMessageDataUnreadable, IsUnreadableOrReaderUnknown}
 use Rattle.archive_pages.proofs.CauseLemmas.{desk_unfound}
 use Rattle.archive_pages.proofs.finding.find_message.Goals as goal
 
@@ -10,8 +10,8 @@ returns-in_default-fault-clause-why g c =
     let new = c.find_message.new.store in record {
       caused = (
         c.in-Err.ensures.ends.counted.0,
-        subst (λ (key : List ℕ). HasServeCause g.S.Store old new (IsUnreadBy (IsMessageUnread ask key) ask.reader)) c.in-Some.ensures.some
-            (desk_unfound g.S.Store old new ask (IsMessageUnread ask c.in-Some.key) c.in-Err.fault c.in_default-fault.not-NoList c.in-Err.ensures.ends.fault
+        subst (λ (key : List ℕ). Has503Cause g.S.Store old new (IsUnreadableOrReaderUnknown (IsMessageDataUnreadable ask key) ask.reader)) c.in-Some.ensures.some
+            (desk_unfound g.S.Store old new ask (IsMessageDataUnreadable ask c.in-Some.key) c.in-Err.fault c.in_default-fault.not-NoList c.in-Err.ensures.ends.fault
             c.in-Err.ensures.ends.counted.1 c.in-Err.ensures.ends.caused c.in-Err.ensures.asked),
       );
       served = tt;

@@ -1,4 +1,4 @@
-use Rattle.archive_desk.specs.Readable.{IsHolderUnreadable}
+use Rattle.archive_desk.specs.Readable.{IsTokenHolderUnreadable}
 use Rattle.archive_pages.proofs.CauseLemmas.{store_unfound}
 use Rattle.archive_pages.proofs.finding.find_person.Goals as goal
 
@@ -6,6 +6,6 @@ pub returns-in-Err-clause-caused : goal.returns-in-Err-clause-caused
 returns-in-Err-clause-caused g c =
     let token = c.args.token.now in (
       c.in-Err.ensures.ends.counted.0,
-      store_unfound g.S.Store c.args.store.now c.person_of_token.new.self c.in-Err.field-0 (λ a. IsHolderUnreadable a token)
+      store_unfound g.S.Store c.args.store.now c.person_of_token.new.self c.in-Err.field-0 (λ a. IsTokenHolderUnreadable a token)
           c.in-Err.ensures.ends.kind c.in-Err.ensures.ends.counted c.in-Err.ensures.ends.caused,
     )

@@ -1,12 +1,12 @@
 use Rattle.std.proofs.Common.{◌≡◌, ◌∙◌, ◌<◌, IfSome, ap, length, subst, sym}
 use Rattle.percent_encoding.specs.Percent.{percent_decode}
 use Rattle.archive_html.specs.Pages.{author_page}
-use Rattle.archive_kept.specs.Outlines.{outline_for}
-use Rattle.archive_kept.specs.Parts.{author}
+use Rattle.archive_cache.specs.ListIndexes.{index_for_ask}
+use Rattle.archive_cache.specs.Parts.{author}
 use Rattle.archive_results.specs.Access.{Ask}
 use Rattle.archive_results.specs.Results.{author_lines}
 use Rattle.archive_pages.specs.Answers.{shown_view}
-use Rattle.archive_pages.specs.Calls.{AreFor}
+use Rattle.archive_pages.specs.Calls.{IsCacheCoherentForAsk}
 use Rattle.archive_pages.specs.Replies.{page_reply}
 use Rattle.archive_pages.proofs.CauseLemmas.{no_outline}
 use Rattle.archive_pages.proofs.PlaceLemmas.{author_placed, found_at, found_none}
@@ -16,7 +16,7 @@ pub returns-in_default-clause-found : goal.returns-in_default-clause-found
 returns-in_default-clause-found g c =
     let ask = c.args.ask.now in
     let key = percent_decode c.args.text.now in
-    found_none g.S.Store c.args.store.now c.find_place.new.store (AreFor ask c.args.kept.now) ask c.find_place.new.kept (author c.deref.result.now) c.in_ok-place.field-0
+    found_none g.S.Store c.args.store.now c.find_place.new.store (IsCacheCoherentForAsk ask c.args.kept.now) ask c.find_place.new.kept (author c.deref.result.now) c.in_ok-place.field-0
     (λ a. page_reply (author_page ask.list key (author_lines key (shown_view a ask)))) c.in_ok-place.ensures.found c.in_default.is
 
 pub returns-in_default-outline-clause-why : goal.returns-in_default-outline-clause-why
@@ -32,8 +32,8 @@ returns-in-Ok-author_page-clause-found g c =
     let shown : c.deref-2.result.now ≡ key = c.deref-2.ensures.value ∙ c.in-Ok.ensures in
     let outline = c.in-Some-outline.outline.now in
     let page = c.in-Ok-author_page.page.items in
-    found_at g.S.Store c.args.store.now c.find_place.new.store (AreFor ask c.args.kept.now) ask c.find_place.new.kept (author c.deref.result.now) c.in_ok-place.field-0
+    found_at g.S.Store c.args.store.now c.find_place.new.store (IsCacheCoherentForAsk ask c.args.kept.now) ask c.find_place.new.kept (author c.deref.result.now) c.in_ok-place.field-0
     (λ a. page_reply (author_page ask.list key (author_lines key (shown_view a ask)))) c.in_ok-place.ensures.found
     c.in-Some.place outline (page_reply page) c.in-Some.is c.in-Some-outline.ensures.outline
     (λ a of. author_placed a ask outline c.ask.inside.list.now c.lines.result.now (ap (λ (q : Ask). q.list) c.ask.view_is) c.lines.ensures key page
-    (subst (λ k. outline ≡ outline_for a ask (author k)) asked of) (subst (λ k. page ≡ author_page c.ask.inside.list.now k c.lines.result.now) shown c.in-Ok-author_page.ensures))
+    (subst (λ k. outline ≡ index_for_ask a ask (author k)) asked of) (subst (λ k. page ≡ author_page c.ask.inside.list.now k c.lines.result.now) shown c.in-Ok-author_page.ensures))

@@ -1,4 +1,4 @@
-use Rattle.archive_pages.specs.Causes.{IsListUnread}
+use Rattle.archive_pages.specs.Causes.{IsListDataUnreadable}
 use Rattle.archive_pages.proofs.CauseLemmas.{desk_unfound}
 use Rattle.archive_pages.proofs.listing.find_place.Goals as goal
 
@@ -6,6 +6,6 @@ pub returns-in_default-clause-caused : goal.returns-in_default-clause-caused
 returns-in_default-clause-caused g c =
     let ask = c.args.ask.now in (
       c.in-Err.ensures.ends.counted.0,
-      desk_unfound g.S.Store c.args.store.now c.find_outline.new.store ask (IsListUnread ask)
+      desk_unfound g.S.Store c.args.store.now c.get_or_build_index.new.store ask (IsListDataUnreadable ask)
           c.in-Err.fault c.in_default.not-NoList c.in-Err.ensures.ends.fault c.in-Err.ensures.ends.counted.1 c.in-Err.ensures.ends.caused c.in-Err.ensures.found,
     )

@@ -1,15 +1,15 @@
 use Rattle.std.proofs.Common.{◌≡◌, ◌∙◌, inl, Some, List, ℕ, ap, sym, subst}
 use Rattle.std.specs.Prelude.{option_map, string_bytes}
 use Rattle.std.specs.Option.{option_map_or}
-use Rattle.archive_machine.specs.Questions.{person_of_token}
+use Rattle.archive_model.specs.Questions.{person_of_token}
 use Rattle.archive_store.specs.Told.{HoldsTables}
 use Rattle.archive_store.proofs.Joins.{goes_in_as}
-use Rattle.archive_kept.specs.Kept.{AreOf}
-use Rattle.archive_kept.proofs.KeepLemmas.{keeps_after}
+use Rattle.archive_cache.specs.Coherence.{IsCacheCoherent}
+use Rattle.archive_cache.proofs.KeepLemmas.{keeps_after}
 use Rattle.archive_pages.specs.Answers.{path_reply}
 use Rattle.archive_pages.specs.Replies.{unauthorized}
-use Rattle.archive_desk.specs.Readable.{IsHolderUnreadable}
-use Rattle.archive_pages.specs.Causes.{IsHolderUnread, IsPathUnread, IsUnreadBy}
+use Rattle.archive_desk.specs.Readable.{IsTokenHolderUnreadable}
+use Rattle.archive_pages.specs.Causes.{IsTokenDataUnreadable, IsPathDataUnreadable, IsUnreadableOrReaderUnknown}
 use Rattle.archive_pages.proofs.CauseLemmas.{cause_as, holder_unread, served_after}
 use Rattle.archive_pages.proofs.KeptLemmas.{keeps_still, lasts_kept, serves_if_after}
 use Rattle.archive_pages.proofs.paths.answer_holder.Goals as goal
@@ -20,7 +20,7 @@ returns-in-Ok-Some-clause-sent g c =
     ap (λ (n : List ℕ). Some n) c.as_str.ensures.value ∙ sym (ap (option_map string_bytes) c.in-Ok-Some.field-0-is) in
     serves_if_after g.S.Store (g.W.Sink.told c.args.output.now) (g.W.Sink.told c.answer_path.new.output) c.answer_path.result c.args.store.now c.find_person.new.store
     c.answer_path.new.store (λ a. option_map string_bytes c.in-Ok-Some.field-0 ≡ person_of_token a c.args.token.now)
-    (λ a. AreOf a c.args.pages.now.policy.now c.args.pages.now.day c.args.pages.now.kept)
+    (λ a. IsCacheCoherent a c.args.pages.now.policy.now c.args.pages.now.day c.args.pages.now.kept)
     (λ a reply. reply ≡ path_reply a c.args.pages.now.policy.now c.args.pages.now.day c.args.path.now (Some c.as_str.result.now))
     (λ a reply. reply ≡ option_map_or (path_reply a c.args.pages.now.policy.now c.args.pages.now.day c.args.path.now)
     (option_map (λ (x : List ℕ). Some x) (person_of_token a c.args.token.now)) unauthorized)
@@ -38,11 +38,11 @@ returns-in-Ok-Some-clause-ends g c =
       caused = served_after g.S.Store c.args.store.now c.find_person.new.store c.answer_path.new.store (λ a. option_map string_bytes c.in-Ok-Some.field-0 ≡ person_of_token a c.args.token.now)
           c.in-Ok-Some.ensures.found.0 c.in-Ok-Some.ensures.caused.0
           (lasts_kept g.S.Store (g.W.Sink.told c.args.output.now) (g.W.Sink.told c.answer_path.new.output) c.answer_path.result
-          c.find_person.new.store c.answer_path.new.store (λ a. AreOf a c.args.pages.now.policy.now c.args.pages.now.day c.args.pages.now.kept)
+          c.find_person.new.store c.answer_path.new.store (λ a. IsCacheCoherent a c.args.pages.now.policy.now c.args.pages.now.day c.args.pages.now.kept)
           (λ a reply. reply ≡ path_reply a c.args.pages.now.policy.now c.args.pages.now.day c.args.path.now (Some c.as_str.result.now)) c.answer_path.ensures.sent)
           c.answer_path.result
-          (IsUnreadBy (IsPathUnread c.args.pages.now.policy.now c.args.pages.now.day c.args.path.now (Some c.as_str.result.now)) (Some c.as_str.result.now))
-          (IsHolderUnread c.args.pages.now.policy.now c.args.pages.now.day c.args.token.now c.args.path.now)
+          (IsUnreadableOrReaderUnknown (IsPathDataUnreadable c.args.pages.now.policy.now c.args.pages.now.day c.args.path.now (Some c.as_str.result.now)) (Some c.as_str.result.now))
+          (IsTokenDataUnreadable c.args.pages.now.policy.now c.args.pages.now.day c.args.token.now c.args.path.now)
           (λ a is bad. holder_unread c.args.pages.now.policy.now c.args.pages.now.day a c.args.token.now c.args.path.now c.as_str.result.now (sym (named ∙ is)) bad)
           c.answer_path.ensures.ends.caused;
       keeps = record {
@@ -53,7 +53,7 @@ returns-in-Ok-Some-clause-ends g c =
             (λ a b. (b ≡ a) × (option_map string_bytes c.in-Ok-Some.field-0 ≡ person_of_token a c.args.token.now))
             (λ a b. b ≡ a) (λ a b h. h.0) c.in-Ok-Some.ensures.found.0)
             (lasts_kept g.S.Store (g.W.Sink.told c.args.output.now) (g.W.Sink.told c.answer_path.new.output) c.answer_path.result
-            c.find_person.new.store c.answer_path.new.store (λ a. AreOf a c.args.pages.now.policy.now c.args.pages.now.day c.args.pages.now.kept)
+            c.find_person.new.store c.answer_path.new.store (λ a. IsCacheCoherent a c.args.pages.now.policy.now c.args.pages.now.day c.args.pages.now.kept)
             (λ a reply. reply ≡ path_reply a c.args.pages.now.policy.now c.args.pages.now.day c.args.path.now (Some c.as_str.result.now)) c.answer_path.ensures.sent)
             c.answer_path.ensures.ends.keeps.keeps;
       };
@@ -64,8 +64,8 @@ returns-in-Err-clause-ends g c = record {
   reply = c.write_failure-in-Err.ensures.ends;
   caused = (
     c.in-Err.ensures.caused.0,
-    λ it. cause_as g.S.Store c.args.store.now c.find_person.new.store (λ a. IsHolderUnreadable a c.args.token.now)
-        (IsHolderUnread c.args.pages.now.policy.now c.args.pages.now.day c.args.token.now c.args.path.now) (λ a bad. inl bad) c.in-Err.ensures.caused.1,
+    λ it. cause_as g.S.Store c.args.store.now c.find_person.new.store (λ a. IsTokenHolderUnreadable a c.args.token.now)
+        (IsTokenDataUnreadable c.args.pages.now.policy.now c.args.pages.now.day c.args.token.now c.args.path.now) (λ a bad. inl bad) c.in-Err.ensures.caused.1,
   );
   keeps = keeps_still g.S.Store c.args.store.now c.find_person.new.store c.args.pages.now;
 }

@@ -1,30 +1,30 @@
 use Rattle.std.proofs.Common.{◌≡◌, ◌∙◌, inl, inr, None, Some, ap, rules, subst, sym}
-use Rattle.archive_requests.specs.Asked.{named_request}
+use Rattle.archive_requests.specs.Asked.{model_request}
 use Rattle.archive_requests.specs.declared.requests.Request.{Request}
 use Rattle.archive_requests.specs.declared.requests.Request.TheVariants.{Asks}
-use Rattle.archive_kept.specs.Kept.{AreOf}
+use Rattle.archive_cache.specs.Coherence.{IsCacheCoherent}
 use Rattle.std.specs.Prelude.{IfSome}
 use Rattle.archive_pages.specs.Answers.{request_reply, unrouted_reply}
-use Rattle.archive_pages.specs.Causes.{IsPathUnread, IsRequestUnread, IsUnreadBy, ServesOr}
-use Rattle.archive_pages.specs.Replies.{Sends}
+use Rattle.archive_pages.specs.Causes.{IsPathDataUnreadable, IsRequestDataUnreadable, IsUnreadableOrReaderUnknown, ServesOr503}
+use Rattle.archive_pages.specs.Replies.{SendsReply}
 use Rattle.archive_pages.proofs.UnroutedLemmas.{unrouted_nobody, with_any, with_same}
-use Rattle.archive_pages.specs.KeptServing.{ServesIf}
+use Rattle.archive_pages.specs.KeptServing.{ServesFromArchiveIf}
 use Rattle.archive_pages.proofs.CauseLemmas.{serves_or_as}
 use Rattle.archive_pages.proofs.paths.answer_request.Goals as goal
 
 pub returns-in-Asks-None-default-clause-sent : goal.returns-in-Asks-None-default-clause-sent
 returns-in-Asks-None-default-clause-sent g c =
     let none : c.in-Asks-None-default.token ≡ None = search rules in
-    subst (λ (r : Request). ServesIf g.S.Store c.args.store.now c.answer_path.new.store (λ a. AreOf a c.args.pages.now.policy.now c.args.pages.now.day c.args.pages.now.kept)
-    (λ a reply. reply ≡ request_reply a c.args.pages.now.policy.now c.args.pages.now.day (named_request r))
+    subst (λ (r : Request). ServesFromArchiveIf g.S.Store c.args.store.now c.answer_path.new.store (λ a. IsCacheCoherent a c.args.pages.now.policy.now c.args.pages.now.day c.args.pages.now.kept)
+    (λ a reply. reply ≡ request_reply a c.args.pages.now.policy.now c.args.pages.now.day (model_request r))
     (g.W.Sink.told c.args.output.now) (g.W.Sink.told c.answer_path.new.output) c.answer_path.result)
     (sym (c.in-Asks-None-default.is ∙ ap (λ t. Asks t c.in-Asks-None-default.path) none)) c.answer_path.ensures.sent
 
 pub returns-in-Asks-Some-default-clause-sent : goal.returns-in-Asks-Some-default-clause-sent
 returns-in-Asks-Some-default-clause-sent g c =
     let held : c.in-Asks-Some-default.token' ≡ Some c.in-Asks-Some-default.token = search rules in
-    subst (λ (r : Request). ServesIf g.S.Store c.args.store.now c.answer_holder.new.store (λ a. AreOf a c.args.pages.now.policy.now c.args.pages.now.day c.args.pages.now.kept)
-    (λ a reply. reply ≡ request_reply a c.args.pages.now.policy.now c.args.pages.now.day (named_request r))
+    subst (λ (r : Request). ServesFromArchiveIf g.S.Store c.args.store.now c.answer_holder.new.store (λ a. IsCacheCoherent a c.args.pages.now.policy.now c.args.pages.now.day c.args.pages.now.kept)
+    (λ a reply. reply ≡ request_reply a c.args.pages.now.policy.now c.args.pages.now.day (model_request r))
     (g.W.Sink.told c.args.output.now) (g.W.Sink.told c.answer_holder.new.output) c.answer_holder.result)
     (sym (c.in-Asks-Some-default.is ∙ ap (λ t. Asks t c.in-Asks-Some-default.path) held)) c.answer_holder.ensures.sent
 
@@ -40,18 +40,18 @@ returns-in-Unauthorized-clause-unrouted g c = rw c.in-Unauthorized.is (with_any 
 pub returns-in-Asks-None-default-clause-unrouted : goal.returns-in-Asks-None-default-clause-unrouted
 returns-in-Asks-None-default-clause-unrouted g c =
     let none : c.in-Asks-None-default.token ≡ None = search rules in
-    subst (λ (r : Request). IfSome c.args.pages.now.routes (λ _. IfSome (unrouted_reply (named_request r))
-    (λ wanted. Sends (λ reply. reply ≡ wanted) (g.W.Sink.told c.args.output.now) (g.W.Sink.told c.answer_path.new.output) c.answer_path.result)))
+    subst (λ (r : Request). IfSome c.args.pages.now.routes (λ _. IfSome (unrouted_reply (model_request r))
+    (λ wanted. SendsReply (λ reply. reply ≡ wanted) (g.W.Sink.told c.args.output.now) (g.W.Sink.told c.answer_path.new.output) c.answer_path.result)))
     (sym (c.in-Asks-None-default.is ∙ ap (λ t. Asks t c.in-Asks-None-default.path) none))
     (with_same c.args.pages.now.routes (unrouted_nobody
-    (λ wanted. Sends (λ reply. reply ≡ wanted) (g.W.Sink.told c.args.output.now) (g.W.Sink.told c.answer_path.new.output) c.answer_path.result)
+    (λ wanted. SendsReply (λ reply. reply ≡ wanted) (g.W.Sink.told c.args.output.now) (g.W.Sink.told c.answer_path.new.output) c.answer_path.result)
     c.in-Asks-None-default.path.now) c.answer_path.ensures.unrouted)
 
 pub returns-in-Asks-Some-default-clause-unrouted : goal.returns-in-Asks-Some-default-clause-unrouted
 returns-in-Asks-Some-default-clause-unrouted g c =
     let held : c.in-Asks-Some-default.token' ≡ Some c.in-Asks-Some-default.token = search rules in
-    subst (λ (r : Request). IfSome c.args.pages.now.routes (λ _. IfSome (unrouted_reply (named_request r))
-    (λ wanted. Sends (λ reply. reply ≡ wanted) (g.W.Sink.told c.args.output.now) (g.W.Sink.told c.answer_holder.new.output) c.answer_holder.result)))
+    subst (λ (r : Request). IfSome c.args.pages.now.routes (λ _. IfSome (unrouted_reply (model_request r))
+    (λ wanted. SendsReply (λ reply. reply ≡ wanted) (g.W.Sink.told c.args.output.now) (g.W.Sink.told c.answer_holder.new.output) c.answer_holder.result)))
     (sym (c.in-Asks-Some-default.is ∙ ap (λ t. Asks t c.in-Asks-Some-default.path) held)) (with_any c.args.pages.now.routes tt)
 
 pub returns-in-Asks-None-default-clause-ends : goal.returns-in-Asks-None-default-clause-ends
@@ -62,10 +62,10 @@ returns-in-Asks-None-default-clause-ends g c =
     let none : c.in-Asks-None-default.token ≡ None = search rules in
     record {
       reply = c.answer_path.ensures.ends.reply;
-      caused = subst (λ (r : Request). ServesOr g.S.Store c.args.store.now c.answer_path.new.store c.answer_path.result (IsRequestUnread policy day (named_request r)))
+      caused = subst (λ (r : Request). ServesOr503 g.S.Store c.args.store.now c.answer_path.new.store c.answer_path.result (IsRequestDataUnreadable policy day (model_request r)))
           (sym (c.in-Asks-None-default.is ∙ ap (λ t. Asks t c.in-Asks-None-default.path) none))
-          (serves_or_as g.S.Store c.args.store.now c.answer_path.new.store c.answer_path.result (IsUnreadBy (IsPathUnread policy day path None) None)
-          (IsPathUnread policy day path None) (λ a bad. elim bad [ inl unread ↦ unread | inr none ↦ absurd none ]) c.answer_path.ensures.ends.caused);
+          (serves_or_as g.S.Store c.args.store.now c.answer_path.new.store c.answer_path.result (IsUnreadableOrReaderUnknown (IsPathDataUnreadable policy day path None) None)
+          (IsPathDataUnreadable policy day path None) (λ a bad. elim bad [ inl unread ↦ unread | inr none ↦ absurd none ]) c.answer_path.ensures.ends.caused);
       keeps = c.answer_path.ensures.ends.keeps;
     }
 
@@ -74,8 +74,8 @@ returns-in-Asks-Some-default-clause-ends g c =
     let held : c.in-Asks-Some-default.token' ≡ Some c.in-Asks-Some-default.token = search rules in
     record {
       reply = c.answer_holder.ensures.ends.reply;
-      caused = subst (λ (r : Request). ServesOr g.S.Store c.args.store.now c.answer_holder.new.store c.answer_holder.result
-          (IsRequestUnread c.args.pages.now.policy.now c.args.pages.now.day (named_request r)))
+      caused = subst (λ (r : Request). ServesOr503 g.S.Store c.args.store.now c.answer_holder.new.store c.answer_holder.result
+          (IsRequestDataUnreadable c.args.pages.now.policy.now c.args.pages.now.day (model_request r)))
           (sym (c.in-Asks-Some-default.is ∙ ap (λ t. Asks t c.in-Asks-Some-default.path) held)) c.answer_holder.ensures.ends.caused;
       keeps = c.answer_holder.ensures.ends.keeps;
     }

@@ -1,10 +1,10 @@
 use Rattle.std.proofs.Common.{◌≡◌, Some, subst, sym}
-use Rattle.archive_kept.specs.Parts.{whole}
-use Rattle.archive_kept.specs.Sending.{lines_text}
-use Rattle.archive_pages.specs.Calls.{AreFor, IsPlace}
-use Rattle.archive_pages.specs.Causes.{IsListUnread, IsUnreadBy}
+use Rattle.archive_cache.specs.Parts.{whole}
+use Rattle.archive_cache.specs.Sending.{mbox_text_of_lines}
+use Rattle.archive_pages.specs.Calls.{IsCacheCoherentForAsk, IsCachedIndexPlace}
+use Rattle.archive_pages.specs.Causes.{IsListDataUnreadable, IsUnreadableOrReaderUnknown}
 use Rattle.archive_pages.specs.Replies.{mbox_reply}
-use Rattle.archive_pages.specs.Serving.{Sent}
+use Rattle.archive_pages.specs.Serving.{SendsFromArchive}
 use Rattle.archive_pages.proofs.CauseLemmas.{no_outline, served_after}
 use Rattle.archive_pages.proofs.MboxLemmas.{mbox_served, mbox_unlisted}
 use Rattle.archive_pages.proofs.routing.answer_mbox.Goals as goal
@@ -27,13 +27,13 @@ returns-clause-sent g c =
     let after = g.W.Sink.told c.write_mbox.new.output in
     mbox_served g.S.Store ask c.args.kept.now c.find_place.new.kept c.args.store.now mid c.in-Ok-Some.place c.in-Some.outline.now c.in-Some.ensures.outline
     (rw c.in-Ok-Some.field-0-is at c.in-Ok-Some.ensures.found) new before after c.write_mbox.result c.write_mbox.ensures.lasts
-    (subst (λ lines. Sent g.S.Store mid new (λ a r. r ≡ mbox_reply (lines_text a ask.list lines)) before after c.write_mbox.result) c.lines.ensures
+    (subst (λ lines. SendsFromArchive g.S.Store mid new (λ a r. r ≡ mbox_reply (mbox_text_of_lines a ask.list lines)) before after c.write_mbox.result) c.lines.ensures
     c.write_mbox.ensures.sent)
 
 pub returns-clause-caused : goal.returns-clause-caused
 returns-clause-caused g c =
     let ask = c.args.ask.now in
-    let Found : _ = λ a. AreFor ask c.args.kept.now a → IsPlace a ask c.find_place.new.kept whole c.in-Ok-Some.field-0 in
-    let Unread : _ = IsUnreadBy (IsListUnread ask) ask.reader in
+    let Found : _ = λ a. IsCacheCoherentForAsk ask c.args.kept.now a → IsCachedIndexPlace a ask c.find_place.new.kept whole c.in-Ok-Some.field-0 in
+    let Unread : _ = IsUnreadableOrReaderUnknown (IsListDataUnreadable ask) ask.reader in
     served_after g.S.Store c.args.store.now c.find_place.new.store c.write_mbox.new.store Found c.in-Ok-Some.ensures.found.0 c.in-Ok-Some.ensures.caused.0
     c.write_mbox.ensures.lasts c.write_mbox.result Unread Unread (λ a found bad. bad) c.write_mbox.ensures.caused

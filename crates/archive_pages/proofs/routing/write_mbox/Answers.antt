@@ -1,9 +1,9 @@
 use Rattle.std.proofs.Common.{◌≡◌, ◌<◌, Err, IfErr, Ok, OnOk, arith, inl, rules, subst}
-use Rattle.archive_machine.specs.Questions.{messages_in}
-use Rattle.archive_desk.specs.Causes.{AreUnreadable, HasCause, IsBroken}
+use Rattle.archive_model.specs.Questions.{messages_in}
+use Rattle.archive_desk.specs.Causes.{HasUnreadableMessage, HasCause, IsDeskDatabaseFault}
 use Rattle.archive_desk.proofs.CauseLemmas.{cause_among}
-use Rattle.archive_pages.specs.Causes.{IsListUnread}
-use Rattle.archive_pages.specs.Replies.{IsReplyStop}
+use Rattle.archive_pages.specs.Causes.{IsListDataUnreadable}
+use Rattle.archive_pages.specs.Replies.{HasReplyFaultCause}
 use Rattle.archive_pages.proofs.CauseLemmas.{mbox_unserved}
 use Rattle.archive_pages.proofs.DeskLemmas.{none_out}
 use Rattle.archive_pages.proofs.MboxLemmas.{Wrote, lines_broken, lines_part, lines_unsent, lines_whole, not_the_writer}
@@ -55,10 +55,10 @@ returns-in_default g c =
       ends = record { quiet = tt; cause = (why.0, c.if-written-gt0.true, why.1) };
       caused = (
         c.in-Err.ensures.ends.counted.0,
-        (λ bad. mbox_unserved g.S.Store old new ask (IsListUnread ask) before after failed fails stop.written stop.fault c.in_default.not-Write
+        (λ bad. mbox_unserved g.S.Store old new ask (IsListDataUnreadable ask) before after failed fails stop.written stop.fault c.in_default.not-Write
             c.in-Err.ensures.writer.cause c.in-Err.ensures.ends.counted.1
-            (λ it. cause_among g.S.Store old new (λ a. AreUnreadable (messages_in a ask.list)) (IsListUnread ask) (λ a unread. inl unread)
-            (subst (λ l. IsBroken stop.fault → HasCause g.S.Store old new (λ a. AreUnreadable (messages_in a l))) is c.in-Err.ensures.ends.caused it))),
+            (λ it. cause_among g.S.Store old new (λ a. HasUnreadableMessage (messages_in a ask.list)) (IsListDataUnreadable ask) (λ a unread. inl unread)
+            (subst (λ l. IsDeskDatabaseFault stop.fault → HasCause g.S.Store old new (λ a. HasUnreadableMessage (messages_in a l))) is c.in-Err.ensures.ends.caused it))),
       );
     }
 
@@ -85,14 +85,14 @@ returns-in_default-2 g c =
       lasts = lasts;
       ends = record {
         quiet = subst (λ n. OnOk result (more ≡ n)) why.0 c.write_failure.ensures.ends.quiet;
-        cause = subst (λ m. IfErr result (λ f. IsReplyStop m last failed more f)) same
-            (subst (λ n. IfErr result (λ f. IsReplyStop after last n more f)) why.0 c.write_failure.ensures.ends.cause);
+        cause = subst (λ m. IfErr result (λ f. HasReplyFaultCause m last failed more f)) same
+            (subst (λ n. IfErr result (λ f. HasReplyFaultCause after last n more f)) why.0 c.write_failure.ensures.ends.cause);
       };
       caused = (
         c.in-Err.ensures.ends.counted.0,
-        (λ bad. mbox_unserved g.S.Store old new ask (IsListUnread ask) before after failed fails stop.written stop.fault c.in_default-2.not-Write
+        (λ bad. mbox_unserved g.S.Store old new ask (IsListDataUnreadable ask) before after failed fails stop.written stop.fault c.in_default-2.not-Write
             c.in-Err.ensures.writer.cause c.in-Err.ensures.ends.counted.1
-            (λ it. cause_among g.S.Store old new (λ a. AreUnreadable (messages_in a ask.list)) (IsListUnread ask) (λ a unread. inl unread)
-            (subst (λ l. IsBroken stop.fault → HasCause g.S.Store old new (λ a. AreUnreadable (messages_in a l))) is c.in-Err.ensures.ends.caused it))),
+            (λ it. cause_among g.S.Store old new (λ a. HasUnreadableMessage (messages_in a ask.list)) (IsListDataUnreadable ask) (λ a unread. inl unread)
+            (subst (λ l. IsDeskDatabaseFault stop.fault → HasCause g.S.Store old new (λ a. HasUnreadableMessage (messages_in a l))) is c.in-Err.ensures.ends.caused it))),
       );
     }

@@ -1,5 +1,5 @@
 use Rattle.std.proofs.Common.{◌≡◌, true, rules}
-use Rattle.archive_machine.specs.Tokens.{is_token}
+use Rattle.archive_model.specs.BearerTokens.{is_token}
 use Rattle.archive_requests.proofs.BearerLemmas.{IsUtf8-token}
 use Rattle.archive_requests.proofs.bearer.if_token.Goals as goal
 

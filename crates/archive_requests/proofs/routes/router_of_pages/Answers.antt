@@ -2,7 +2,7 @@
 use Rattle.std.proofs.Common.{refl, [], ◌∷◌, ◌++◌, codes}
 use Rattle.matchit.proofs.OnLiterals.{matchit_on_literals}
 use Rattle.archive_requests.specs.declared.routes.Page.TheVariants.{Lists, Message, Month, Threads, Thread, Author}
-use Rattle.archive_requests.specs.Routing.{pages, with_route}
+use Rattle.archive_requests.specs.Routing.{route_table, with_route}
 use Rattle.archive_requests.proofs.InsertLemmas.{only_memory, carried}
 use Rattle.archive_requests.proofs.routes.router_of_pages.Goals as goal
 
@@ -71,7 +71,7 @@ returns-in_err-insert-7-clause-memory c =
     carried _ _ c.from_residual-in_err-insert-7.ensures.1 m
 
 pub returns-clause-rows : goal.returns-clause-rows
-unfolding matchit_on_literals pages
+unfolding matchit_on_literals route_table
 returns-clause-rows c =
     rw (
       c.in_ok-insert-7.ensures.1,

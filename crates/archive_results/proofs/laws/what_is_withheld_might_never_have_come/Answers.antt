@@ -1,10 +1,10 @@
-use Rattle.archive_machine.specs.Messages.{number_of}
+use Rattle.archive_model.specs.Messages.{withdrawal_number}
 use Rattle.archive_results.proofs.PromiseLemmas as lemmas
 use Rattle.archive_results.proofs.HistoryLemmas as history
 use Rattle.archive_results.proofs.laws.what_is_withheld_might_never_have_come.Goals as goal
 
 pub returns-clause-beside : goal.returns-clause-beside
-returns-clause-beside c = λ a list key by. lemmas.all_else_alike a list key (number_of by)
+returns-clause-beside c = λ a list key by. lemmas.all_else_alike a list key (withdrawal_number by)
 
 pub returns-clause-never : goal.returns-clause-never
 returns-clause-never c = lemmas.before_it_came

@@ -1,12 +1,12 @@
 use Rattle.std.proofs.Common.{◌≡◌, ◌∙◌, ap, inl, inr, refl, true, List, ℕ, Some, Ok}
 use Rattle.archive_results.specs.Access.{Ask}
-use Rattle.archive_words.specs.Values.{GetValues}
-use Rattle.archive_work.specs.Working.{Gets}
-use Rattle.archive_run.specs.Databases.{Works}
-use Rattle.archive_run.specs.Orders.{GetsUnder}
-use Rattle.sift_run.specs.Running.{IsDayBy}
-use Rattle.sift_run.specs.Streams.{sent}
-use Rattle.archive_run.specs.Working.{Fails, GetsNot}
+use Rattle.archive_args.specs.Values.{GetValues}
+use Rattle.archive_commands.specs.Working.{GetsMessage}
+use Rattle.archive_run.specs.Databases.{UsesDatabase}
+use Rattle.archive_run.specs.Orders.{RunGetsMessageOnDay}
+use Rattle.sift_run.specs.Running.{IsReadingDay}
+use Rattle.sift_run.specs.Streams.{output_stream_state}
+use Rattle.archive_run.specs.Working.{FailsOnDatabase, RefusesGet}
 use Rattle.sift_run.proofs.ResultLemmas.{at_three, by_result, err_at, sent_as}
 use Rattle.archive_run.proofs.ordering.get_by.Goals as goal
 
@@ -25,15 +25,15 @@ returns-in_err-text g c =
     let is_key : key ≡ order.key = ap (λ i. i.key.now) c.order-inside.view_is ∙ ap (λ (o : GetValues). o.key) c.order.view_is in
     let is_asked : c.order.inside.asked ≡ order.asked = ap (λ (o : GetValues). o.asked) c.order.view_is in
     let is_ask = rw is_asked at c.ask_of-ask.ensures in
-    let given : IsDayBy g.Y.Clock.DayClock order.asked.day true old.clock clock (Some day) = rw is_day at c.in-Some.ensures in
-    err_at (GetsUnder old new g.Y.Output.Sink g.Y.Output.Outgoing g.Y.Storage.Store g.Y-Databases-Databases g.Y.Clock.DayClock order c.args.policy.now)
+    let given : IsReadingDay g.Y.Clock.DayClock order.asked.day true old.clock clock (Some day) = rw is_day at c.in-Some.ensures in
+    err_at (RunGetsMessageOnDay old new g.Y.Output.Sink g.Y.Output.BufferedSink g.Y.Storage.Store g.Y-Databases-Databases g.Y.Clock.DayClock order c.args.policy.now)
     c.from_residual.result refusal c.from_residual.ensures.1
     (inr (
       clock,
       day,
       given,
       inl (
-        at_three (λ (f : List ℕ) (a : Ask) (k : List ℕ). Fails g.Y-Databases-Databases old.databases new.databases f (λ o x. GetsNot g.Y.Storage.Store o x a k) refusal)
+        at_three (λ (f : List ℕ) (a : Ask) (k : List ℕ). FailsOnDatabase g.Y-Databases-Databases old.databases new.databases f (λ o x. RefusesGet g.Y.Storage.Store o x a k) refusal)
             _ _ _ _ _ _ is_file is_ask is_key c.in_err-text.ensures,
         refl,
       ),
@@ -49,17 +49,17 @@ returns g c =
     let day = c.in-Some.day in
     let new = record old { clock = clock; databases = c.work_get.new.databases; output = c.send.new.output } in
     let text = c.in_ok-text.text in
-    let before = sent g.Y.Output.Sink g.Y.Output.Outgoing old.output in
-    let after = sent g.Y.Output.Sink g.Y.Output.Outgoing c.send.new.output in
+    let before = output_stream_state g.Y.Output.Sink g.Y.Output.BufferedSink old.output in
+    let after = output_stream_state g.Y.Output.Sink g.Y.Output.BufferedSink c.send.new.output in
     let is_file : asked.file.now ≡ order.asked.file = ap (λ i. i.asked.file) c.order-inside.view_is ∙ ap (λ (o : GetValues). o.asked.file) c.order.view_is in
     let is_day : asked.day ≡ order.asked.day = ap (λ i. i.asked.day) c.order-inside.view_is ∙ ap (λ (o : GetValues). o.asked.day) c.order.view_is in
     let is_key : key ≡ order.key = ap (λ i. i.key.now) c.order-inside.view_is ∙ ap (λ (o : GetValues). o.key) c.order.view_is in
     let is_asked : c.order.inside.asked ≡ order.asked = ap (λ (o : GetValues). o.asked) c.order.view_is in
     let is_ask = rw is_asked at c.ask_of-ask.ensures in
-    let given : IsDayBy g.Y.Clock.DayClock order.asked.day true old.clock clock (Some day) = rw is_day at c.in-Some.ensures in
-    let got = at_three (λ (f : List ℕ) (a : Ask) (k : List ℕ). Works g.Y-Databases-Databases old.databases new.databases f (λ o x. Gets g.Y.Storage.Store o x a k (Ok text)))
+    let given : IsReadingDay g.Y.Clock.DayClock order.asked.day true old.clock clock (Some day) = rw is_day at c.in-Some.ensures in
+    let got = at_three (λ (f : List ℕ) (a : Ask) (k : List ℕ). UsesDatabase g.Y-Databases-Databases old.databases new.databases f (λ o x. GetsMessage g.Y.Storage.Store o x a k (Ok text)))
     _ _ _ _ _ _ is_file is_ask is_key c.in_ok-text.ensures in
-    by_result (GetsUnder old new g.Y.Output.Sink g.Y.Output.Outgoing g.Y.Storage.Store g.Y-Databases-Databases g.Y.Clock.DayClock order c.args.policy.now) _ _
+    by_result (RunGetsMessageOnDay old new g.Y.Output.Sink g.Y.Output.BufferedSink g.Y.Storage.Store g.Y-Databases-Databases g.Y.Clock.DayClock order c.args.policy.now) _ _
     c.send.result (sent_as _ before after c.deref.result.now _ c.send.result c.deref.ensures.value c.send.ensures)
     (λ u sends. (clock, day, given, (text, got, (sends, refl))))
     (λ e part. inr (clock, day, given, inr (text, got, (part.0, part.1, refl))))

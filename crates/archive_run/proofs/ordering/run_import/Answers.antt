@@ -12,7 +12,7 @@ returns-in-Ok g c =
     let taken = c.in-Ok.ensures in
     elim c.send_report.ensures [
       | inl memory ↦ rw memory.0 (inr (report, taken, inl (refl, ap (λ o. record new { output = o }) memory.1)))
-      | inr sent ↦ by_result (RunsImport old new g.Y.Output.Sink g.Y.Output.Outgoing g.Y.Storage.Store g.Y-Databases-Databases g.Y.Files.OpenFiles g.Y.Files.Input.Source c.args.order.now)
+      | inr sent ↦ by_result (RunsImport old new g.Y.Output.Sink g.Y.Output.BufferedSink g.Y.Storage.Store g.Y-Databases-Databases g.Y.Files.StreamedFiles g.Y.Files.Input.Source c.args.order.now)
           _ _ c.send_report.result sent
           (λ u sends. (report, taken, (sends, refl)))
           (λ e part. inr (report, taken, inr (part.0, part.1, refl)))

@@ -1,10 +1,10 @@
 use Rattle.std.proofs.Common.{ap, inl, inr, refl, sym, subst, arith, Ok, Err}
-use Rattle.archive_words.specs.declared.orders.Order.{Order}
+use Rattle.archive_args.specs.declared.orders.Order.{Order}
 use Rattle.archive_run.specs.Refusals.{refusal_text}
-use Rattle.archive_run.specs.Runs.{Runs}
-use Rattle.archive_run.specs.World.{devices}
-use Rattle.archive_run.specs.declared.faults.Refusal.TheVariants.{Run}
-use Rattle.sift_run.specs.declared.faults.RunFault.TheVariants.{Memory}
+use Rattle.archive_run.specs.Runs.{RunsOrder}
+use Rattle.archive_run.specs.Environments.{devices}
+use Rattle.archive_run.specs.declared.faults.RunError.TheVariants.{Run}
+use Rattle.sift_run.specs.declared.faults.CommandError.TheVariants.{Memory}
 use Rattle.sift_run.proofs.StatusLemmas.{at_most_one, at_one, at_zero, memory_alone, memory_said, same_order, words_bad}
 use Rattle.archive_run.proofs.OverLemmas.{ends_over, ends_unread, runs_over}
 use Rattle.archive_run.proofs.running.run.Goals as goal
@@ -12,43 +12,43 @@ use Rattle.archive_run.proofs.running.run.Goals as goal
 pub returns-in-Ok-clause-done : goal.returns-in-Ok-clause-done
 returns-in-Ok-clause-done g c =
     λ order given zero.
-    let dev = devices g.Y.Storage.Store g.Y.Files.ReadFiles g.Y.Files.OpenFiles g.Y.Files.Input.Source g.Y-Databases-Databases g.Y.Clock.DayClock
+    let dev = devices g.Y.Storage.Store g.Y.Files.ReadFiles g.Y.Files.StreamedFiles g.Y.Files.Input.Source g.Y-Databases-Databases g.Y.Clock.DayClock
     g.Y.Ports.Ports.listens g.Y.Ports.Listener.Listener.accepts g.Y.Ports.Listener.Listener.closes g.Y.Ports.Listener.Listener.over g.Y.Ports.Ports.went
-    g.Y.Threaders.Threaders.makes g.Y.Input.Source g.Y.Output.Sink g.Y.Output.Outgoing g.Y.Faults.Sink in
+    g.Y.Threaders.Threaders.makes g.Y.Input.Source g.Y.Output.Sink g.Y.Output.BufferedSink g.Y.Faults.Sink in
     let old = c.args.world.now in
     let mid = c.run_order-done.new.world in
-    let it = at_zero _ _ (Runs dev old mid c.in-Ok.asked) c.run_order-done.result c.finish.result c.finish.ensures c.run_order-done.ensures zero in
-    let P : Order → Type 0 = λ o. Runs dev old mid o (Ok tt) in
-    let Q : g.row.Y-Faults.Denot → Type 0 = λ f. Runs dev old (record mid { faults = f }) order (Ok tt) in
+    let it = at_zero _ _ (RunsOrder dev old mid c.in-Ok.asked) c.run_order-done.result c.finish.result c.finish.ensures c.run_order-done.ensures zero in
+    let P : Order → Type 0 = λ o. RunsOrder dev old mid o (Ok tt) in
+    let Q : g.row.Y-Faults.Denot → Type 0 = λ f. RunsOrder dev old (record mid { faults = f }) order (Ok tt) in
     subst Q (sym it.2) (subst P (same_order _ _ _ c.in-Ok.ensures.ok given.1) it.1)
 
 pub returns-in-Ok-clause-refused : goal.returns-in-Ok-clause-refused
 returns-in-Ok-clause-refused g c =
     λ order given one.
-    let dev = devices g.Y.Storage.Store g.Y.Files.ReadFiles g.Y.Files.OpenFiles g.Y.Files.Input.Source g.Y-Databases-Databases g.Y.Clock.DayClock
+    let dev = devices g.Y.Storage.Store g.Y.Files.ReadFiles g.Y.Files.StreamedFiles g.Y.Files.Input.Source g.Y-Databases-Databases g.Y.Clock.DayClock
     g.Y.Ports.Ports.listens g.Y.Ports.Listener.Listener.accepts g.Y.Ports.Listener.Listener.closes g.Y.Ports.Listener.Listener.over g.Y.Ports.Ports.went
-    g.Y.Threaders.Threaders.makes g.Y.Input.Source g.Y.Output.Sink g.Y.Output.Outgoing g.Y.Faults.Sink in
+    g.Y.Threaders.Threaders.makes g.Y.Input.Source g.Y.Output.Sink g.Y.Output.BufferedSink g.Y.Faults.Sink in
     let old = c.args.world.now in
     let mid = c.run_order-done.new.world in
-    let it = at_one _ _ (Runs dev old mid c.in-Ok.asked) c.run_order-done.result c.finish.result c.finish.ensures c.run_order-done.ensures one in
-    let P : Order → Type 0 = λ o. Runs dev old mid o (Err it.0) in
+    let it = at_one _ _ (RunsOrder dev old mid c.in-Ok.asked) c.run_order-done.result c.finish.result c.finish.ensures c.run_order-done.ensures one in
+    let P : Order → Type 0 = λ o. RunsOrder dev old mid o (Err it.0) in
     let cause = subst P (same_order _ _ _ c.in-Ok.ensures.ok given.1) it.1 in
     record {
       refusal = it.0;
       stopped = mid;
       cause = inr cause;
       told = (it.2, refl);
-      ends = ends_over dev g.met.Y.System.opens_held g.met.Y.System.closes_held
+      ends = ends_over dev g.met.Y.Platform.opens_held g.met.Y.Platform.closes_held
           g.met.Y.Ports.Listener.Listener.accepts_none g.met.Y.Ports.Listener.Listener.closes_one g.met.Y.Ports.Ports.listens_none old mid order it.0 cause;
     }
 
 pub returns-in-Ok-clause-holds : goal.returns-in-Ok-clause-holds
 returns-in-Ok-clause-holds g c =
     λ order given zero.
-    let dev = devices g.Y.Storage.Store g.Y.Files.ReadFiles g.Y.Files.OpenFiles g.Y.Files.Input.Source g.Y-Databases-Databases g.Y.Clock.DayClock
+    let dev = devices g.Y.Storage.Store g.Y.Files.ReadFiles g.Y.Files.StreamedFiles g.Y.Files.Input.Source g.Y-Databases-Databases g.Y.Clock.DayClock
     g.Y.Ports.Ports.listens g.Y.Ports.Listener.Listener.accepts g.Y.Ports.Listener.Listener.closes g.Y.Ports.Listener.Listener.over g.Y.Ports.Ports.went
-    g.Y.Threaders.Threaders.makes g.Y.Input.Source g.Y.Output.Sink g.Y.Output.Outgoing g.Y.Faults.Sink in
-    runs_over dev g.met.Y.System.opens_held g.met.Y.System.closes_held
+    g.Y.Threaders.Threaders.makes g.Y.Input.Source g.Y.Output.Sink g.Y.Output.BufferedSink g.Y.Faults.Sink in
+    runs_over dev g.met.Y.Platform.opens_held g.met.Y.Platform.closes_held
     g.met.Y.Ports.Listener.Listener.accepts_none g.met.Y.Ports.Listener.Listener.closes_one g.met.Y.Ports.Ports.listens_none
     c.args.world.now (record c.run_order-done.new.world { faults = c.finish.new.faults }) order
     (returns-in-Ok-clause-done g c order given zero)
@@ -67,8 +67,8 @@ pub returns-in-Err-clause-done : goal.returns-in-Err-clause-done
 returns-in-Err-clause-done g c =
     λ order given zero.
     let old = c.args.world.now in
-    let said = memory_said g.Y.Output.Sink g.Y.Output.Outgoing g.Y.Faults.Sink old.output c.say_stop.new.output old.faults c.say_stop.new.faults c.say_stop.result _
-    (memory_alone _ _ _ c.in-Err.ensures.refused c.in-Err.ensures.stopped given) c.say_stop.ensures in
+    let said = memory_said g.Y.Output.Sink g.Y.Output.BufferedSink g.Y.Faults.Sink old.output c.report_parse_error.new.output old.faults c.report_parse_error.new.faults c.report_parse_error.result _
+    (memory_alone _ _ _ c.in-Err.ensures.refused c.in-Err.ensures.stopped given) c.report_parse_error.ensures in
     let one = said.0 in
     absurd (omega (arith, zero, one))
 
@@ -76,39 +76,39 @@ pub returns-in-Err-clause-refused : goal.returns-in-Err-clause-refused
 returns-in-Err-clause-refused g c =
     λ order given one.
     let old = c.args.world.now in
-    let dev = devices g.Y.Storage.Store g.Y.Files.ReadFiles g.Y.Files.OpenFiles g.Y.Files.Input.Source g.Y-Databases-Databases g.Y.Clock.DayClock
+    let dev = devices g.Y.Storage.Store g.Y.Files.ReadFiles g.Y.Files.StreamedFiles g.Y.Files.Input.Source g.Y-Databases-Databases g.Y.Clock.DayClock
     g.Y.Ports.Ports.listens g.Y.Ports.Listener.Listener.accepts g.Y.Ports.Listener.Listener.closes g.Y.Ports.Listener.Listener.over g.Y.Ports.Ports.went
-    g.Y.Threaders.Threaders.makes g.Y.Input.Source g.Y.Output.Sink g.Y.Output.Outgoing g.Y.Faults.Sink in
-    let faults = c.say_stop.new.faults in
-    let said = memory_said g.Y.Output.Sink g.Y.Output.Outgoing g.Y.Faults.Sink old.output c.say_stop.new.output old.faults faults c.say_stop.result _
-    (memory_alone _ _ _ c.in-Err.ensures.refused c.in-Err.ensures.stopped given) c.say_stop.ensures in
+    g.Y.Threaders.Threaders.makes g.Y.Input.Source g.Y.Output.Sink g.Y.Output.BufferedSink g.Y.Faults.Sink in
+    let faults = c.report_parse_error.new.faults in
+    let said = memory_said g.Y.Output.Sink g.Y.Output.BufferedSink g.Y.Faults.Sink old.output c.report_parse_error.new.output old.faults faults c.report_parse_error.result _
+    (memory_alone _ _ _ c.in-Err.ensures.refused c.in-Err.ensures.stopped given) c.report_parse_error.ensures in
     record {
       refusal = Run Memory;
       stopped = old;
       cause = inl (refl, refl);
       told = (said.2, ap (λ o. record old { output = o; faults = faults }) said.1);
-      ends = ends_unread dev g.met.Y.System.opens_held g.met.Y.System.closes_held
+      ends = ends_unread dev g.met.Y.Platform.opens_held g.met.Y.Platform.closes_held
           g.met.Y.Ports.Listener.Listener.accepts_none g.met.Y.Ports.Listener.Listener.closes_one g.met.Y.Ports.Ports.listens_none old old order;
     }
 
 pub returns-in-Err-clause-holds : goal.returns-in-Err-clause-holds
 returns-in-Err-clause-holds g c =
     λ order given zero.
-    let dev = devices g.Y.Storage.Store g.Y.Files.ReadFiles g.Y.Files.OpenFiles g.Y.Files.Input.Source g.Y-Databases-Databases g.Y.Clock.DayClock
+    let dev = devices g.Y.Storage.Store g.Y.Files.ReadFiles g.Y.Files.StreamedFiles g.Y.Files.Input.Source g.Y-Databases-Databases g.Y.Clock.DayClock
     g.Y.Ports.Ports.listens g.Y.Ports.Listener.Listener.accepts g.Y.Ports.Listener.Listener.closes g.Y.Ports.Listener.Listener.over g.Y.Ports.Ports.went
-    g.Y.Threaders.Threaders.makes g.Y.Input.Source g.Y.Output.Sink g.Y.Output.Outgoing g.Y.Faults.Sink in
+    g.Y.Threaders.Threaders.makes g.Y.Input.Source g.Y.Output.Sink g.Y.Output.BufferedSink g.Y.Faults.Sink in
     let old = c.args.world.now in
-    runs_over dev g.met.Y.System.opens_held g.met.Y.System.closes_held
+    runs_over dev g.met.Y.Platform.opens_held g.met.Y.Platform.closes_held
     g.met.Y.Ports.Listener.Listener.accepts_none g.met.Y.Ports.Listener.Listener.closes_one g.met.Y.Ports.Ports.listens_none
-    old (record old { output = c.say_stop.new.output; faults = c.say_stop.new.faults }) order
+    old (record old { output = c.report_parse_error.new.output; faults = c.report_parse_error.new.faults }) order
     (returns-in-Err-clause-done g c order given zero)
 
 pub returns-in-Err-clause-bad : goal.returns-in-Err-clause-bad
 returns-in-Err-clause-bad g c =
     λ two.
     let old = c.args.world.now in
-    words_bad g.Y.Output.Sink g.Y.Output.Outgoing g.Y.Faults.Sink old.output c.say_stop.new.output old.faults c.say_stop.new.faults c.say_stop.result _ _
-    c.in-Err.ensures.stopped c.in-Err.ensures.refused c.say_stop.ensures two
+    words_bad g.Y.Output.Sink g.Y.Output.BufferedSink g.Y.Faults.Sink old.output c.report_parse_error.new.output old.faults c.report_parse_error.new.faults c.report_parse_error.result _ _
+    c.in-Err.ensures.stopped c.in-Err.ensures.refused c.report_parse_error.ensures two
 
 pub returns-in-Err-clause-stopped : goal.returns-in-Err-clause-stopped
-returns-in-Err-clause-stopped g c = inr (_, c.in-Err.ensures.stopped, (c.say_stop.ensures, refl))
+returns-in-Err-clause-stopped g c = inr (_, c.in-Err.ensures.stopped, (c.report_parse_error.ensures, refl))

@@ -1,6 +1,6 @@
 use Rattle.std.proofs.Common.{◌≡◌, ap, inr, subst, ℕ, List, Ok}
-use Rattle.archive_words.specs.Values.{ServeValues}
-use Rattle.archive_run.specs.Serving.{PortServes, PortServesNot, ServesIn, said}
+use Rattle.archive_args.specs.Values.{ServeValues}
+use Rattle.archive_run.specs.Serving.{ListensAndServes, RefusesListeningOrServing, RunServesDatabase, server_output}
 use Rattle.archive_run.proofs.OrderLemmas.{databases_of, with_databases}
 use Rattle.sift_run.proofs.ResultLemmas.{by_result}
 use Rattle.archive_run.proofs.WorkLemmas.{works}
@@ -18,8 +18,8 @@ returns-clause-served g c =
     let closes = g.Y.Ports.Listener.Listener.closes in
     let over = g.Y.Ports.Listener.Listener.over in
     let went = g.Y.Ports.Ports.went in
-    let before = said g.Y.Output.Sink g.Y.Output.Outgoing g.Y.Faults.Sink old.output old.faults in
-    let after = said g.Y.Output.Sink g.Y.Output.Outgoing g.Y.Faults.Sink new.output new.faults in
+    let before = server_output g.Y.Output.Sink g.Y.Output.BufferedSink g.Y.Faults.Sink old.output old.faults in
+    let after = server_output g.Y.Output.Sink g.Y.Output.BufferedSink g.Y.Faults.Sink new.output new.faults in
     let served = done.ensures.served.0 in
     let kept = done.ensures.served.1 in
     let frame = with_databases _ _ c.close.new.self kept in
@@ -28,15 +28,17 @@ returns-clause-served g c =
     let opened = subst P is_file c.in-Ok.ensures.opened in
     let C : g.row.Y-Databases.Denot → Type 0 = λ d. keeps.closes d c.close.new.self done.new.store in
     let closed = subst C (databases_of _ _ kept) c.close.ensures in
-    by_result (ServesIn old new g.Y.Output.Sink g.Y.Output.Outgoing g.Y.Faults.Sink g.Y.Storage.Store g.Y.Ports.Ports.listens accepts closes over went keeps order c.args.policy.now c.args.day) _ _
+    by_result (RunServesDatabase old new g.Y.Output.Sink g.Y.Output.BufferedSink g.Y.Faults.Sink g.Y.Storage.Store g.Y.Ports.Ports.listens accepts closes over went keeps order
+    c.args.policy.now c.args.day) _ _
     done.result served
     (λ u it. (
       works keeps old.databases c.open.new.self c.close.new.self order.file c.in-Ok.store done.new.store opened closed
-          (λ o x. PortServes g.Y.Storage.Store accepts closes over went g.Y.Ports.Ports.listens old.ports new.ports order.port order.count c.args.policy.now c.args.day o x before after) it,
+          (λ o x. ListensAndServes g.Y.Storage.Store accepts closes over went g.Y.Ports.Ports.listens old.ports new.ports order.port order.count c.args.policy.now c.args.day o x before after) it,
       frame,
     ))
     (λ e it. inr (
       works keeps old.databases c.open.new.self c.close.new.self order.file c.in-Ok.store done.new.store opened closed
-          (λ o x. PortServesNot g.Y.Storage.Store accepts closes over went g.Y.Ports.Ports.listens old.ports new.ports order.port order.count c.args.policy.now c.args.day o x before after e) it,
+          (λ o x. RefusesListeningOrServing g.Y.Storage.Store accepts closes over went g.Y.Ports.Ports.listens old.ports new.ports order.port order.count c.args.policy.now c.args.day o x
+          before after e) it,
       frame,
     ))

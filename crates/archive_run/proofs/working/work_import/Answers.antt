@@ -1,4 +1,4 @@
-use Rattle.archive_run.specs.Working.{ImportsFile, ImportsNot, NotOpened}
+use Rattle.archive_run.specs.Working.{ImportsFile, RefusesImport, RefusesOpening}
 use Rattle.archive_run.proofs.WorkLemmas.{worked}
 use Rattle.archive_run.proofs.working.work_import.Goals as goal
 
@@ -8,7 +8,7 @@ returns g c =
     let done = c.import_file-imported in
     rw (← c.order.view_is) (worked g.D.Databases c.args.databases.now c.open.new.self c.close.new.self order.file.now c.in-Ok.store
     done.new.store c.in-Ok.ensures.opened c.close.ensures done.result
-    (λ report o x. ImportsFile g.S.Store o x g.F.OpenFiles g.F.Input.Source c.args.files.now order.list.now order.mbox.now report)
-    (λ refusal o x. ImportsNot g.S.Store o x g.F.OpenFiles g.F.Input.Source c.args.files.now order.list.now order.mbox.now refusal)
-    (λ refusal. NotOpened g.D.Databases c.args.databases.now c.close.new.self order.file.now refusal)
+    (λ report o x. ImportsFile g.S.Store o x g.F.StreamedFiles g.F.Input.Source c.args.files.now order.list.now order.mbox.now report)
+    (λ refusal o x. RefusesImport g.S.Store o x g.F.StreamedFiles g.F.Input.Source c.args.files.now order.list.now order.mbox.now refusal)
+    (λ refusal. RefusesOpening g.D.Databases c.args.databases.now c.close.new.self order.file.now refusal)
     done.ensures.imported)

@@ -5,11 +5,11 @@ use Rattle.archive_store.proofs.BatchLemmas.{held_or_back, stays_taken}
 use Rattle.std.proofs.Common.{inl, inr, subst, arith, rules}
 use Rattle.archive_tables.proofs.EndLemmas.{archive_stays}
 use Rattle.archive_tables.proofs.LastLemmas.{lasts_then}
-use Rattle.archive_store.specs.Refusals.{StopsAmong}
+use Rattle.archive_store.specs.Refusals.{RowsRefuseAnItem}
 use Rattle.archive_store.proofs.PassLemmas.{saw_same}
 use Rattle.archive_store.proofs.CauseLemmas.{passed_on}
 use Rattle.archive_store.proofs.StopLemmas.{blame_disk, left_or_failed}
-use Rattle.archive_tables.specs.Crashes.{IsStored}
+use Rattle.archive_tables.specs.Crashes.{IsArchiveStored}
 use Rattle.archive_tables.proofs.CrashLemmas.{quiet_then, commit_over}
 use Rattle.archive_store.proofs.batches.add_batch.Goals as goal
 
@@ -111,7 +111,8 @@ returns-in-Err-clause-ends g c = record {
       let back = c.rollback-undone-in-Err.ensures.left clean first.now (c.in-Err.ensures.step clean_2 first.now a there) in
       elim (c.in-Err.ensures.ends.caused first.now clean_2 limit a there it) [
         | inl more ↦ inl (omega (arith, more, c.begin-begun.ensures.ends.lasts.shut.faults, c.rollback-undone-in-Err.ensures.lasts.shut.faults))
-        | inr stops ↦ left_or_failed first last (StopsAmong list (drop c.args.from items)) whole clean t.held.is_open (λ up. (back up).1) (subst (StopsAmong list (drop c.args.from items)) same stops)
+        | inr stops ↦ left_or_failed first last (RowsRefuseAnItem list (drop c.args.from items)) whole clean t.held.is_open (λ up. (back up).1)
+            (subst (RowsRefuseAnItem list (drop c.args.from items)) same stops)
       ];
 }
 
@@ -133,7 +134,7 @@ returns-in-Ok-pass-clause-crash g c = λ a t clean db may.
     let added = c.in-Ok.ensures.step clean_2 first.now a there in
     elim (commit_over g.S.Store c.add_some.new.store.conn c.commit-committed.new.conn first.now added.0.held c.commit-committed.ensures.ends.crash clean db may) [
       | inl earlier ↦ inl (quiet clean_2 db earlier)
-      | inr it ↦ inr (c.in-Ok.at, record { least = c.in-Ok.ensures.came.1; most = c.in-Ok.ensures.came.2; whole = added.1 }, subst (λ x. IsStored x db) added.0.archive_is it)
+      | inr it ↦ inr (c.in-Ok.at, record { least = c.in-Ok.ensures.came.1; most = c.in-Ok.ensures.came.2; whole = added.1 }, subst (λ x. IsArchiveStored x db) added.0.archive_is it)
     ]
 
 pub returns-in-Err-pass-clause-crash : goal.returns-in-Err-pass-clause-crash
@@ -150,7 +151,7 @@ returns-in-Err-pass-clause-crash g c = λ a t clean db may.
     elim (commit_over g.S.Store c.add_some.new.store.conn c.commit-committed.new.conn first.now added.0.held c.commit-committed.ensures.ends.crash
     (c.rollback-undone.ensures.lasts.returned clean) db (c.rollback-undone.ensures.ends.quiet clean db may)) [
       | inl earlier ↦ inl (quiet clean_2 db earlier)
-      | inr it ↦ inr (c.in-Ok.at, record { least = c.in-Ok.ensures.came.1; most = c.in-Ok.ensures.came.2; whole = added.1 }, subst (λ x. IsStored x db) added.0.archive_is it)
+      | inr it ↦ inr (c.in-Ok.at, record { least = c.in-Ok.ensures.came.1; most = c.in-Ok.ensures.came.2; whole = added.1 }, subst (λ x. IsArchiveStored x db) added.0.archive_is it)
     ]
 
 pub returns-in-Err-clause-crash : goal.returns-in-Err-clause-crash

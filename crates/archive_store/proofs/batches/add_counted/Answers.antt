@@ -5,12 +5,12 @@ use Rattle.archive_tables.proofs.EndLemmas.{archive_stays, rests_behind}
 use Rattle.archive_tables.proofs.RunLemmas.{on_fault}
 use Rattle.archive_store.proofs.BatchLemmas.{known_over, full_over, new_over, none_of}
 use Rattle.std.proofs.Common.{ap, subst, inl, inr, refl}
-use Rattle.archive_machine.specs.Machine.{Outcome, with_keyed}
-use Rattle.archive_tables.specs.Crashes.{IsStored}
+use Rattle.archive_model.specs.Machine.{StepOutcome, with_message_under_key}
+use Rattle.archive_tables.specs.Crashes.{IsArchiveStored}
 use Rattle.archive_store.proofs.BatchLemmas.{new_is}
-use Rattle.archive_machine.specs.Keys.{item_key}
-use Rattle.archive_tables.specs.Statements.{IsRefused, IsCarriedOut}
-use Rattle.archive_database.specs.Taking.{taking_in}
+use Rattle.archive_model.specs.Keys.{item_key}
+use Rattle.archive_tables.specs.Statements.{IsStatementRefused, StatementExecutesTo}
+use Rattle.archive_database.specs.Taking.{insert_item_statement}
 use Rattle.archive_store.proofs.CauseLemmas.{more_since}
 use Rattle.archive_store.proofs.PassLemmas.{saw_same}
 use Rattle.archive_store.proofs.StopLemmas.{blame_disk, carried_as, stopped_by}
@@ -38,22 +38,22 @@ returns-then-count-clause-step g c = λ clean behind k n.
 
 pub returns-in_err-pass_fault-clause-step : goal.returns-in_err-pass_fault-clause-step
 returns-in_err-pass_fault-clause-step g c = λ clean behind k n.
-    let asked = rw c.in_ok-pass.ensures.passed at (c.has_message-known.ensures.over (c.take_in-taken.ensures.ends.lasts.returned clean) behind k) in
-    let error = err_from_is_err_and c.take_in-taken.result c.in_err-pass_fault.ensures.passed in
+    let asked = rw c.in_ok-pass.ensures.passed at (c.has_message-known.ensures.over (c.insert_message-taken.ensures.ends.lasts.returned clean) behind k) in
+    let error = err_from_is_err_and c.insert_message-taken.result c.in_err-pass_fault.ensures.passed in
     on_fault _ _ c.from_residual-in_err-pass_fault.result c.from_residual-in_err-pass_fault.ensures.1
-    (rests_behind behind (state g.S.Store c.args.store.now.conn) (state g.S.Store c.has_message-known.new.conn) (state g.S.Store c.take_in-taken.new.conn) asked.1.1
-    (rw error.1 at (c.take_in-taken.ensures.taken clean behind asked.1.0)))
+    (rests_behind behind (state g.S.Store c.args.store.now.conn) (state g.S.Store c.has_message-known.new.conn) (state g.S.Store c.insert_message-taken.new.conn) asked.1.1
+    (rw error.1 at (c.insert_message-taken.ensures.taken clean behind asked.1.0)))
 
 pub returns-clause-step : goal.returns-clause-step
 returns-clause-step g c = λ clean behind k n.
     let list = c.args.list.now in
     let old = state g.S.Store c.args.store.now.conn in
     let mid = state g.S.Store c.has_message-known.new.conn in
-    let asked = rw c.in_ok-pass.ensures.passed at (c.has_message-known.ensures.over (c.take_in-taken.ensures.ends.lasts.returned clean) behind k) in
+    let asked = rw c.in_ok-pass.ensures.passed at (c.has_message-known.ensures.over (c.insert_message-taken.ensures.ends.lasts.returned clean) behind k) in
     let none = sym c.if-branch.false ∙ asked.0 in
-    let written = (rw c.in_ok-pass_fault.ensures.passed at (c.take_in-taken.ensures.taken clean behind asked.1.0))
+    let written = (rw c.in_ok-pass_fault.ensures.passed at (c.insert_message-taken.ensures.taken clean behind asked.1.0))
     (none_of old mid list c.as_str.result.now c.of-key.result c.as_str.ensures none asked.1.1) in
-    new_over behind old (state g.S.Store c.take_in-taken.new.conn) list c.args.item.now c.args.count.now n c.as_str.result.now c.if-is_too_large.ensures
+    new_over behind old (state g.S.Store c.insert_message-taken.new.conn) list c.args.item.now c.args.count.now n c.as_str.result.now c.if-is_too_large.ensures
     c.of-key.result mid c.as_str.ensures c.of-key.ensures none c.if-count.false asked.1 written
 
 -- ---- what it makes of the rows, and why it fails
@@ -81,19 +81,19 @@ returns-in_err-pass_fault-clause-rows g c = λ clean behind held free.
     let item = c.args.item.now in
     let old = state g.S.Store c.args.store.now.conn in
     let mid = state g.S.Store c.has_message-known.new.conn in
-    let new = state g.S.Store c.take_in-taken.new.conn in
-    let was = c.take_in-taken.ensures.ends.lasts.returned clean in
+    let new = state g.S.Store c.insert_message-taken.new.conn in
+    let was = c.insert_message-taken.ensures.ends.lasts.returned clean in
     let k = c.as_str.result.now in
     let same = saw_same old mid c.in_ok-pass.ensures.passed (c.has_message-known.ensures.same was) in
     let asked = rw c.in_ok-pass.ensures.passed at (c.has_message-known.ensures.over was behind held) in
     let none = sym c.if-branch.false ∙ asked.0 in
-    let statement = taking_in list c.of-key.result item in
+    let statement = insert_item_statement list c.of-key.result item in
     stopped_by _ c.from_residual-in_err-pass_fault.result c.in_err-pass_fault.field-0.0 _ c.from_residual-in_err-pass_fault.ensures.1
-    (λ it. elim (blame_fault mid new (IsRefused statement mid.now) c.take_in-taken.result c.in_err-pass_fault.field-0.0 c.in_err-pass_fault.ensures.passed
-    (c.take_in-taken.ensures.caused clean behind asked.1.0 (c.has_message-known.ensures.ends.lasts.limit ∙ free)) it) [
+    (λ it. elim (blame_fault mid new (IsStatementRefused statement mid.now) c.insert_message-taken.result c.in_err-pass_fault.field-0.0 c.in_err-pass_fault.ensures.passed
+    (c.insert_message-taken.ensures.caused clean behind asked.1.0 (c.has_message-known.ensures.ends.lasts.limit ∙ free)) it) [
       | inl more ↦ inl (more_since old mid new c.has_message-known.ensures.ends.lasts more)
       | inr refused ↦ inr (
-        same_statement old.now (ap (λ key. taking_in list key item) c.of-key.ensures) (subst (IsRefused statement) same refused),
+        same_statement old.now (ap (λ key. insert_item_statement list key item) c.of-key.ensures) (subst (IsStatementRefused statement) same refused),
         (λ n. carried_as _ _ (new_is behind old new list item c.args.count.now n k c.if-is_too_large.ensures c.of-key.result c.as_str.ensures c.of-key.ensures none c.if-count.false) tt),
       )
     ])
@@ -104,12 +104,13 @@ returns-clause-rows g c = λ clean behind held free.
     let item = c.args.item.now in
     let old = state g.S.Store c.args.store.now.conn in
     let mid = state g.S.Store c.has_message-known.new.conn in
-    let new = state g.S.Store c.take_in-taken.new.conn in
-    let was = c.take_in-taken.ensures.ends.lasts.returned clean in
+    let new = state g.S.Store c.insert_message-taken.new.conn in
+    let was = c.insert_message-taken.ensures.ends.lasts.returned clean in
     let same = saw_same old mid c.in_ok-pass.ensures.passed (c.has_message-known.ensures.same was) in
     let asked = rw c.in_ok-pass.ensures.passed at (c.has_message-known.ensures.over was behind held) in
-    let made = (rw c.in_ok-pass_fault.ensures.passed at (c.take_in-taken.ensures.made clean behind asked.1.0 (c.has_message-known.ensures.ends.lasts.limit ∙ free))) in
-    subst (λ db. IsCarriedOut (taking_in list (item_key item) item) db new.now) same (subst (λ key. IsCarriedOut (taking_in list key item) mid.now new.now) c.of-key.ensures made)
+    let made = (rw c.in_ok-pass_fault.ensures.passed at (c.insert_message-taken.ensures.made clean behind asked.1.0 (c.has_message-known.ensures.ends.lasts.limit ∙ free))) in
+    subst (λ db. StatementExecutesTo (insert_item_statement list (item_key item) item) db new.now) same
+    (subst (λ key. StatementExecutesTo (insert_item_statement list key item) mid.now new.now) c.of-key.ensures made)
 
 -- ---- what a stop leaves
 
@@ -132,15 +133,15 @@ returns-in_err-pass_fault-clause-crash g c = λ behind held n clean db may.
     let old = state g.S.Store c.args.store.now.conn in
     let mid = state g.S.Store c.has_message-known.new.conn in
     let k = c.as_str.result.now in
-    let asked = rw c.in_ok-pass.ensures.passed at (c.has_message-known.ensures.over (c.take_in-taken.ensures.ends.lasts.returned clean) behind held) in
+    let asked = rw c.in_ok-pass.ensures.passed at (c.has_message-known.ensures.over (c.insert_message-taken.ensures.ends.lasts.returned clean) behind held) in
     let none = sym c.if-branch.false ∙ asked.0 in
     let absent = none_of old mid list k c.of-key.result c.as_str.ensures none asked.1.1 in
-    let is = new_is behind old (state g.S.Store c.take_in-taken.new.conn) list item c.args.count.now n k c.if-is_too_large.ensures c.of-key.result c.as_str.ensures
+    let is = new_is behind old (state g.S.Store c.insert_message-taken.new.conn) list item c.args.count.now n k c.if-is_too_large.ensures c.of-key.result c.as_str.ensures
     c.of-key.ensures none c.if-count.false in
-    let made = ap (λ a. with_keyed a list c.of-key.result item) (archive_stays asked.1.1) ∙ ap (λ (o : Outcome). o.0) (sym is) in
-    elim (c.take_in-taken.ensures.crash behind asked.1.0 absent clean db may) [
-      | inl earlier ↦ inl (c.has_message-known.ensures.quiet (c.take_in-taken.ensures.ends.lasts.returned clean) db earlier)
-      | inr it ↦ inr (it.0, subst (λ a. IsStored a db) made it.1)
+    let made = ap (λ a. with_message_under_key a list c.of-key.result item) (archive_stays asked.1.1) ∙ ap (λ (o : StepOutcome). o.0) (sym is) in
+    elim (c.insert_message-taken.ensures.crash behind asked.1.0 absent clean db may) [
+      | inl earlier ↦ inl (c.has_message-known.ensures.quiet (c.insert_message-taken.ensures.ends.lasts.returned clean) db earlier)
+      | inr it ↦ inr (it.0, subst (λ a. IsArchiveStored a db) made it.1)
     ]
 
 pub returns-clause-crash : goal.returns-clause-crash
@@ -150,13 +151,13 @@ returns-clause-crash g c = λ behind held n clean db may.
     let old = state g.S.Store c.args.store.now.conn in
     let mid = state g.S.Store c.has_message-known.new.conn in
     let k = c.as_str.result.now in
-    let asked = rw c.in_ok-pass.ensures.passed at (c.has_message-known.ensures.over (c.take_in-taken.ensures.ends.lasts.returned clean) behind held) in
+    let asked = rw c.in_ok-pass.ensures.passed at (c.has_message-known.ensures.over (c.insert_message-taken.ensures.ends.lasts.returned clean) behind held) in
     let none = sym c.if-branch.false ∙ asked.0 in
     let absent = none_of old mid list k c.of-key.result c.as_str.ensures none asked.1.1 in
-    let is = new_is behind old (state g.S.Store c.take_in-taken.new.conn) list item c.args.count.now n k c.if-is_too_large.ensures c.of-key.result c.as_str.ensures
+    let is = new_is behind old (state g.S.Store c.insert_message-taken.new.conn) list item c.args.count.now n k c.if-is_too_large.ensures c.of-key.result c.as_str.ensures
     c.of-key.ensures none c.if-count.false in
-    let made = ap (λ a. with_keyed a list c.of-key.result item) (archive_stays asked.1.1) ∙ ap (λ (o : Outcome). o.0) (sym is) in
-    elim (c.take_in-taken.ensures.crash behind asked.1.0 absent clean db may) [
-      | inl earlier ↦ inl (c.has_message-known.ensures.quiet (c.take_in-taken.ensures.ends.lasts.returned clean) db earlier)
-      | inr it ↦ inr (it.0, subst (λ a. IsStored a db) made it.1)
+    let made = ap (λ a. with_message_under_key a list c.of-key.result item) (archive_stays asked.1.1) ∙ ap (λ (o : StepOutcome). o.0) (sym is) in
+    elim (c.insert_message-taken.ensures.crash behind asked.1.0 absent clean db may) [
+      | inl earlier ↦ inl (c.has_message-known.ensures.quiet (c.insert_message-taken.ensures.ends.lasts.returned clean) db earlier)
+      | inr it ↦ inr (it.0, subst (λ a. IsArchiveStored a db) made it.1)
     ]

@@ -1,11 +1,11 @@
 use Rattle.std.proofs.Common.{◌≡◌, ◌<◌, ◌+◌, ◌-◌, ◌∙◌, ap, get_or, length, take, drop, length-drop, arith, refl, subst, Some, inl, inr}
 use Rattle.sqlite.specs.Held.{state}
-use Rattle.archive_machine.specs.Commands.{taken_in, already_known, refused, too_large}
-use Rattle.archive_machine.specs.Runs.{taken}
+use Rattle.archive_model.specs.Commands.{taken_in, already_known, refused, too_large}
+use Rattle.archive_model.specs.Runs.{taken}
 use Rattle.archive_tables.proofs.RunLemmas.{on_fault}
-use Rattle.archive_port.specs.Wanting.{IsWant}
+use Rattle.archive_port.specs.Wanting.{IsMemoryRefusal}
 use Rattle.archive_port.proofs.WantLemmas.{raises_after, raises_on}
-use Rattle.archive_port.specs.Adding.{told_in, tally_of}
+use Rattle.archive_port.specs.Adding.{reported_count, tally_of_report}
 use Rattle.archive_store.proofs.BatchLemmas.{one_taken, none_taken, held_or_back, told_new, told_known, told_too_large}
 use Rattle.archive_tables.specs.Tables.{archive_of}
 use Rattle.archive_store.specs.Refusals.{MakeRows}
@@ -38,9 +38,9 @@ loop-at-preserved g c = (
   omega (arith, c.loop-at.invariant.0),
   omega (arith, c.loop-at-test.true),
   elim c.match-branch-2.branch [
-    | in-New w ↦ (let told = ap told_in w.report-is in omega (arith, told, c.loop-at.invariant.2))
-    | in-Known w ↦ (let told = ap told_in w.report-is in omega (arith, told, c.loop-at.invariant.2))
-    | in-TooLarge w ↦ (let told = ap told_in w.report-is in omega (arith, told, c.loop-at.invariant.2))
+    | in-New w ↦ (let told = ap reported_count w.report-is in omega (arith, told, c.loop-at.invariant.2))
+    | in-Known w ↦ (let told = ap reported_count w.report-is in omega (arith, told, c.loop-at.invariant.2))
+    | in-TooLarge w ↦ (let told = ap reported_count w.report-is in omega (arith, told, c.loop-at.invariant.2))
   ],
   (λ clean. c.loop-at.invariant.3 (c.add_counted.ensures.ends.lasts.returned clean)),
   (λ clean db a from.
@@ -53,9 +53,9 @@ loop-at-preserved g c = (
       let adds = c.in_ok-add_counted.ensures.step clean (Some db) so_far.held so_far.counted in
       let replies = (taken a c.args.additions.now.list.now (take c.loop-at.at items)).replies in
       elim c.match-branch-2.branch [
-        | in-New w ↦ more taken_in c.match-branch-2.report (rw w.in-New.is at adds) (ap tally_of w.report-is ∙ told_new c.loop-at.report replies so_far.told)
-        | in-Known w ↦ more already_known c.match-branch-2.report (rw w.in-Known.is at adds) (ap tally_of w.report-is ∙ told_known c.loop-at.report replies so_far.told)
-        | in-TooLarge w ↦ more (refused too_large) c.match-branch-2.report (rw w.in-TooLarge.is at adds) (ap tally_of w.report-is ∙ told_too_large c.loop-at.report replies so_far.told)
+        | in-New w ↦ more taken_in c.match-branch-2.report (rw w.in-New.is at adds) (ap tally_of_report w.report-is ∙ told_new c.loop-at.report replies so_far.told)
+        | in-Known w ↦ more already_known c.match-branch-2.report (rw w.in-Known.is at adds) (ap tally_of_report w.report-is ∙ told_known c.loop-at.report replies so_far.told)
+        | in-TooLarge w ↦ more (refused too_large) c.match-branch-2.report (rw w.in-TooLarge.is at adds) (ap tally_of_report w.report-is ∙ told_too_large c.loop-at.report replies so_far.told)
       ]),
   lasts_then _ _ _ c.loop-at.invariant.5 c.add_counted.ensures.ends.lasts,
   omega (arith, c.loop-at.invariant.6, c.in_ok-add_counted.ensures.ends.counted.0),
@@ -115,7 +115,7 @@ returns-in-Full-clause-ends g c = record {
 pub returns-in_err-add_counted-clause-ends : goal.returns-in_err-add_counted-clause-ends
 returns-in_err-add_counted-clause-ends g c = record {
   lasts = lasts_then _ _ _ c.loop-at.invariant.5 c.add_counted.ensures.ends.lasts;
-  counted = raises_after IsWant _ _ _ c.from_residual.result c.loop-at.invariant.6
+  counted = raises_after IsMemoryRefusal _ _ _ c.from_residual.result c.loop-at.invariant.6
       (raises_on (Unit {0}) _ _ c.from_residual.result c.in_err-add_counted.field-0.0 c.from_residual.ensures.1 c.in_err-add_counted.ensures.ends.counted);
   caused = λ db clean free a from.
       let was = c.add_counted.ensures.ends.lasts.returned clean in

@@ -11,7 +11,7 @@ returns-in_err-shown-clause-found g c = λ returned held.
 pub returns-clause-found : goal.returns-clause-found
 returns-clause-found g c = λ returned held.
     let shown = passed_rows c.all_places-shown.ensures c.in_ok-shown.ensures.passed returned held in
-    finds_read c.read_places.result c.pass_fault.result _ _ c.pass_fault.ensures.passed c.read_places.ensures.read
+    finds_read c.read_numbers.result c.pass_fault.result _ _ c.pass_fault.ensures.passed c.read_numbers.ensures.read
     (λ places read. (read _ (c.deref.ensures.value ∙ shown.0), (shown.1, shown.2))) (λ up. (shown.1, shown.2))
 
 pub returns-in_err-shown-clause-caused : goal.returns-in_err-shown-clause-caused
@@ -23,5 +23,5 @@ returns-in_err-shown-clause-caused g c = λ returned held free.
 pub returns-clause-caused : goal.returns-clause-caused
 returns-clause-caused g c = λ returned held free.
     let shown = passed_rows c.all_places-shown.ensures c.in_ok-shown.ensures.passed returned held in
-    blames_read c.read_places.result c.pass_fault.result _ c.pass_fault.ensures.passed c.read_places.ensures.unread
+    blames_read c.read_numbers.result c.pass_fault.result _ c.pass_fault.ensures.passed c.read_numbers.ensures.unread
     (λ e unread is. not_both e (unread _ (c.deref.ensures.value ∙ shown.0)) is)

@@ -1,10 +1,10 @@
 use Rattle.std.proofs.Common.{rules, ◌∷◌, [], Err, ◌∙◌, sym, ap}
 use Rattle.sqlite.specs.Effect.{Database}
 use Rattle.sqlite.specs.Held.{state}
-use Rattle.archive_machine.specs.Commands.{no_list}
-use Rattle.archive_tables.specs.Tables.{archive_in, archive_of}
+use Rattle.archive_model.specs.Commands.{no_list}
+use Rattle.archive_tables.specs.Tables.{archive_in_trees, archive_of}
 use Rattle.archive_tables.proofs.LastLemmas.{lasts_then}
-use Rattle.archive_store.specs.Walking.{selected_places}
+use Rattle.archive_store.specs.Walking.{selected_numbers}
 use Rattle.archive_store.proofs.FollowLemmas.{when_ok}
 use Rattle.archive_store.proofs.ReadingLemmas.{is_there}
 use Rattle.archive_store.proofs.CauseLemmas.{passed_on, more_since}
@@ -34,17 +34,17 @@ returns-in_err-shown-clause-refused g c =
       (λ returned kept up.
           let has = c.in_ok-has_list.ensures.answer (c.show_places.ensures.ends.lasts.returned returned) kept in
           let shown = passed_no_rows _ _ c.show_places.ensures c.in_err-shown.ensures.passed returned has.0.0 up in
-          (shown.1, ap (λ (d : Database). archive_in d.trees) shown.0 ∙ has.0.1)),
+          (shown.1, ap (λ (d : Database). archive_in_trees d.trees) shown.0 ∙ has.0.1)),
     )
 
 pub returns-clause-refused : goal.returns-clause-refused
 returns-clause-refused g c =
-    answers_read c.read_places.result c.pass_fault.result _ _ _ c.pass_fault.ensures.passed c.pass_fault.ensures.kind c.read_places.ensures.read (λ places read. tt) (
+    answers_read c.read_numbers.result c.pass_fault.result _ _ _ c.pass_fault.ensures.passed c.pass_fault.ensures.kind c.read_numbers.ensures.read (λ places read. tt) (
       lasts_then _ _ _ c.has_list.ensures.ends.lasts c.show_places.ensures.ends.lasts,
       (λ returned kept up.
           let has = c.in_ok-has_list.ensures.answer (c.show_places.ensures.ends.lasts.returned returned) kept in
           let shown = passed_rows c.show_places.ensures c.in_ok-shown.ensures.passed returned has.0.0 in
-          (shown.2, ap (λ (d : Database). archive_in d.trees) shown.1 ∙ has.0.1)),
+          (shown.2, ap (λ (d : Database). archive_in_trees d.trees) shown.1 ∙ has.0.1)),
     )
 
 -- ---- what it finds
@@ -53,12 +53,12 @@ pub returns-clause-found : goal.returns-clause-found
 returns-clause-found g c = λ returned kept.
     let has = c.in_ok-has_list.ensures.answer (c.show_places.ensures.ends.lasts.returned returned) kept in
     let shown = passed_rows c.show_places.ensures c.in_ok-shown.ensures.passed returned has.0.0 in
-    finds_read c.read_places.result c.pass_fault.result _ _ c.pass_fault.ensures.passed c.read_places.ensures.read
+    finds_read c.read_numbers.result c.pass_fault.result _ _ c.pass_fault.ensures.passed c.read_numbers.ensures.read
     (λ places read. (
       is_there c.args.list.now (archive_of (state g.S.Store c.args.store.now.conn)) (sym c.if-not-branch.false ∙ has.2),
       shown.2,
-      ap (λ (d : Database). archive_in d.trees) shown.1 ∙ has.0.1,
-      read _ (c.deref.ensures.value ∙ shown.0) ∙ ap (λ (d : Database). selected_places d.trees c.args.list.now c.args.which.now) (sym shown.1),
+      ap (λ (d : Database). archive_in_trees d.trees) shown.1 ∙ has.0.1,
+      read _ (c.deref.ensures.value ∙ shown.0) ∙ ap (λ (d : Database). selected_numbers d.trees c.args.list.now c.args.which.now) (sym shown.1),
     ))
     tt
 
@@ -92,6 +92,6 @@ returns-clause-ends g c = record {
   caused = λ returned kept free.
       let has = c.in_ok-has_list.ensures.answer (c.show_places.ensures.ends.lasts.returned returned) kept in
       let shown = passed_rows c.show_places.ensures c.in_ok-shown.ensures.passed returned has.0.0 in
-      blames_read c.read_places.result c.pass_fault.result _ c.pass_fault.ensures.passed c.read_places.ensures.unread
+      blames_read c.read_numbers.result c.pass_fault.result _ c.pass_fault.ensures.passed c.read_numbers.ensures.unread
       (λ e unread is. not_both e (unread _ (c.deref.ensures.value ∙ shown.0)) is);
 }

@@ -19,7 +19,7 @@ returns-in-Some-clause-shown g c = λ clean kept.
     let itself = to_z-of_z w64 c.args.place c.ranges.place in
     let held = rw (itself, c.in-Some.is) at (passed_rows c.marks_at-found.ensures c.in_ok-row.ensures.passed clean kept) in
     let it = marks_held (message_at (state g.S.Store c.args.store.now.conn).now.trees c.args.place) c.in-Some.row held.0 in
-    finds_read c.marks_or_fail.result c.pass_fault.result _ _ c.pass_fault.ensures.passed c.marks_or_fail.ensures.read
+    finds_read c.checked_dated_marks.result c.pass_fault.result _ _ c.pass_fault.ensures.passed c.checked_dated_marks.ensures.read
     (λ marks read. ((it.0, it.1, read it.0 it.2), held.1, held.2)) (λ up. (held.1, held.2))
 
 pub returns-in-None-clause-shown : goal.returns-in-None-clause-shown
@@ -38,7 +38,7 @@ returns-in-Some-clause-caused g c = λ clean kept free.
     let itself = to_z-of_z w64 c.args.place c.ranges.place in
     let held = rw (itself, c.in-Some.is) at (passed_rows c.marks_at-found.ensures c.in_ok-row.ensures.passed clean kept) in
     let it = marks_held (message_at (state g.S.Store c.args.store.now.conn).now.trees c.args.place) c.in-Some.row held.0 in
-    blames_read c.marks_or_fail.result c.pass_fault.result _ c.pass_fault.ensures.passed c.marks_or_fail.ensures.unread
+    blames_read c.checked_dated_marks.result c.pass_fault.result _ c.pass_fault.ensures.passed c.checked_dated_marks.ensures.unread
     (λ e unread is. inr (λ some. unread.1 it.0 it.2 (subst (λ o. IsSomeAnd o IsReadable) it.1 some)))
 
 pub returns-in-None-clause-caused : goal.returns-in-None-clause-caused

@@ -17,7 +17,7 @@ pub returns-in-Some-clause-shown : goal.returns-in-Some-clause-shown
 returns-in-Some-clause-shown g c = λ clean kept.
     let itself = to_z-of_z w64 c.args.place c.ranges.place in
     let held = rw (itself, c.in-Some.is) at (passed_rows c.message_at-found.ensures c.in_ok-row.ensures.passed clean kept) in
-    finds_read c.read_or_fail.result c.pass_fault.result _ _ c.pass_fault.ensures.passed c.read_or_fail.ensures.read
+    finds_read c.checked_message.result c.pass_fault.result _ _ c.pass_fault.ensures.passed c.checked_message.ensures.read
     (λ message read. ((held.0.0, held.0.1, read held.0.0.list ∙ held.0.2), held.1, held.2)) (λ up. (held.1, held.2))
 
 pub returns-in-None-clause-shown : goal.returns-in-None-clause-shown
@@ -37,7 +37,7 @@ pub returns-in-Some-clause-caused : goal.returns-in-Some-clause-caused
 returns-in-Some-clause-caused g c = λ clean kept free.
     let itself = to_z-of_z w64 c.args.place c.ranges.place in
     let held = rw (itself, c.in-Some.is) at (passed_rows c.message_at-found.ensures c.in_ok-row.ensures.passed clean kept) in
-    blames_read c.read_or_fail.result c.pass_fault.result _ c.pass_fault.ensures.passed c.read_or_fail.ensures.unread
+    blames_read c.checked_message.result c.pass_fault.result _ c.pass_fault.ensures.passed c.checked_message.ensures.unread
     (λ e unread is. inr (λ some. unread.1 held.0.0.list (subst IsReadable (sym held.0.2) (subst (λ o. IsSomeAnd o IsReadable) held.0.1 some))))
 
 pub returns-in-None-clause-caused : goal.returns-in-None-clause-caused

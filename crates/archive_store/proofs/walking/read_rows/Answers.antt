@@ -1,12 +1,12 @@
 use Rattle.std.proofs.Common.{rules, ◌∙◌, subst, arith}
-use Rattle.archive_machine.specs.Messages.{remembered}
+use Rattle.archive_model.specs.Messages.{archived_message}
 use Rattle.archive_tables.proofs.RunLemmas.{on_fault}
-use Rattle.archive_store.specs.Walking.{WalksOver, over}
+use Rattle.archive_store.specs.Walking.{WalksOver, walk_over_store}
 use Rattle.archive_store.proofs.WalkingLemmas.{given_more}
 use Rattle.archive_tables.proofs.LastLemmas.{lasts_then}
 use Rattle.archive_store.proofs.CauseLemmas.{passed_on, stops_later}
 use Rattle.sqlite.specs.Held.{state}
-use Rattle.archive_port.specs.Wanting.{IsWant}
+use Rattle.archive_port.specs.Wanting.{IsMemoryRefusal}
 use Rattle.archive_port.proofs.WantLemmas.{raises_after, raises_on}
 use Rattle.archive_store.proofs.walking.read_rows.Goals as goal
 
@@ -22,8 +22,8 @@ loop-found-preserved g c = (
   (λ returned list all a given w.
       let so_far = c.loop-found.invariant.1 (c.next.ensures.ends.lasts.returned returned) list all a given w in
       let more = rw c.in-Some.is at (c.in_ok-message.ensures.given returned list all a _ so_far) in
-      subst (λ so. WalksOver g.S.Store list all a so (over c.next.new.store c.next.new.self))
-      (given_more (remembered list) given c.loop-found.found.items c.push.new.self.items c.in-Some.message c.in-Ok-push.ensures.items) more),
+      subst (λ so. WalksOver g.S.Store list all a so (walk_over_store c.next.new.store c.next.new.self))
+      (given_more (archived_message list) given c.loop-found.found.items c.push.new.self.items c.in-Some.message c.in-Ok-push.ensures.items) more),
   lasts_then _ _ _ c.loop-found.invariant.2 c.next.ensures.ends.lasts,
   omega (arith, c.loop-found.invariant.3, c.in_ok-message.ensures.ends.counted.0),
 )
@@ -43,7 +43,7 @@ pub returns-in_err-message-clause-ends : goal.returns-in_err-message-clause-ends
 returns-in_err-message-clause-ends g c = record {
   lasts = lasts_then _ _ _ c.loop-found.invariant.2 c.next.ensures.ends.lasts;
   fault = search rules;
-  counted = raises_after IsWant _ _ _ c.from_residual.result c.loop-found.invariant.3
+  counted = raises_after IsMemoryRefusal _ _ _ c.from_residual.result c.loop-found.invariant.3
       (raises_on (Unit {0}) _ _ c.from_residual.result c.in_err-message.field-0.0 c.from_residual.ensures.1 c.in_err-message.ensures.ends.counted);
 }
 

@@ -2,12 +2,12 @@ use Rattle.std.proofs.Common.{◌≡◌, List, ℕ, [], ◌∷◌, Ok, Err, Resu
 use Rattle.sqlite.specs.declared.error.Error.{Error}
 use Rattle.sqlite.specs.declared.types.Value.TheVariants.{Text}
 use Rattle.sqlite.specs.Order.{Row}
-use Rattle.archive_tables.specs.Rows.{name_shown, IsTextFault}
+use Rattle.archive_tables.specs.Rows.{name_result_row, IsTextReadError}
 use Rattle.archive_tables.proofs.ReadLemmas.{first_fails}
 use Rattle.archive_tables.proofs.rows.read_name.Goals as goal
 
-of_name : {A : Type 0} (row : Row) (r : Result A Error) → IfErr r (λ e. (t : List ℕ) (rest : Row) → row ≡ Text t ∷ rest → IsTextFault t e)
-    → IfErr r (λ e. (n : List ℕ) → row ≡ name_shown n → IsTextFault n e)
+of_name : {A : Type 0} (row : Row) (r : Result A Error) → IfErr r (λ e. (t : List ℕ) (rest : Row) → row ≡ Text t ∷ rest → IsTextReadError t e)
+    → IfErr r (λ e. (n : List ℕ) → row ≡ name_result_row n → IsTextReadError n e)
 of_name row (Ok a) fails = tt
 of_name row (Err e) fails = λ n is. fails n [] is
 

@@ -1,6 +1,6 @@
 use Rattle.std.proofs.Common.{◌∙◌, ap}
 use Rattle.clap.specs.Simple.{app_of_fields}
-use Rattle.archive_usage.specs.Program.{IsCommand}
+use Rattle.archive_usage.specs.Program.{CommandParsesAsApp}
 use Rattle.archive_usage.proofs.building.described.Goals as goal
 
 pub returns : goal.returns

@@ -1,8 +1,8 @@
-use Rattle.archive_usage.specs.Program.{bare_app, list_add_app, list_app, merge_app, sift_app, with_command}
+use Rattle.archive_usage.specs.Program.{bare_app, list_add_app, app_with_list_commands, merge_app, sift_app, with_command}
 use Rattle.archive_usage.proofs.building.list_program.Goals as goal
 
 pub returns : goal.returns
-unfolding list_app
+unfolding app_with_list_commands
 returns c =
     let sifting = with_command bare_app sift_app in
     let is_sifting = c.in_ok-sifting.ensures bare_app sift_app c.in_ok-bare_program.ensures c.in_ok-sift_command.ensures in

@@ -1,11 +1,11 @@
-use Rattle.archive_usage.specs.Program.{grant_app, list_app, person_add_app, person_address_app, person_app, revoke_app, with_command}
+use Rattle.archive_usage.specs.Program.{grant_app, app_with_list_commands, person_add_app, person_address_app, app_with_person_commands, revoke_app, with_command}
 use Rattle.archive_usage.proofs.building.person_program.Goals as goal
 
 pub returns : goal.returns
-unfolding person_app
+unfolding app_with_person_commands
 returns c =
-    let naming = with_command list_app person_add_app in
-    let is_naming = c.in_ok-naming.ensures list_app person_add_app c.in_ok-list_program.ensures c.in_ok-person_add_command.ensures in
+    let naming = with_command app_with_list_commands person_add_app in
+    let is_naming = c.in_ok-naming.ensures app_with_list_commands person_add_app c.in_ok-list_program.ensures c.in_ok-person_add_command.ensures in
     let addressing = with_command naming person_address_app in
     let is_addressing = c.in_ok-addressing.ensures naming person_address_app is_naming c.in_ok-person_address_command.ensures in
     let granting = with_command addressing grant_app in

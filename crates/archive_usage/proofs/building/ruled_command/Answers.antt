@@ -1,8 +1,8 @@
 use Rattle.std.proofs.Common.{codes}
-use Rattle.archive_usage.specs.Program.{table_app, with_needed}
+use Rattle.archive_usage.specs.Program.{database_app, with_required_option}
 use Rattle.archive_usage.proofs.building.ruled_command.Goals as goal
 
 pub returns : goal.returns
 returns c =
-    let command = table_app c.args.name.now in
-    c.with_option.ensures (with_needed command (codes "policy")) (c.in_ok-ruled.ensures command c.in_ok-command.ensures)
+    let command = database_app c.args.name.now in
+    c.with_option.ensures (with_required_option command (codes "policy")) (c.in_ok-ruled.ensures command c.in_ok-command.ensures)

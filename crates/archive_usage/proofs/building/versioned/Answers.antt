@@ -1,10 +1,10 @@
 use Rattle.std.proofs.Common.{ap, ◌∙◌, true}
 use Rattle.clap.specs.Simple.{app_of_fields, App}
-use Rattle.archive_usage.specs.Program.{versioned}
+use Rattle.archive_usage.specs.Program.{with_version_flag}
 use Rattle.archive_usage.proofs.building.versioned.Goals as goal
 
 pub returns : goal.returns
-unfolding versioned
+unfolding with_version_flag
 returns c = λ app is. record {
   reads = ap app_of_fields c.no_binary_name.ensures
       ∙ (ap (λ (a : App). record a { top = record a.top { no_binary_name = true } }) (ap app_of_fields c.version.ensures)

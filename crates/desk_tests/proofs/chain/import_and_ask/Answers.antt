@@ -1,10 +1,10 @@
 use Rattle.std.proofs.Common.{◌≡◌, map, rules, Ok, Err}
 use Rattle.archive_results.specs.Access.{view_of}
 use Rattle.archive_results.specs.Results.{month_lines}
-use Rattle.archive_results.specs.Shown.{shown_of}
-use Rattle.archive_desk.specs.Exporting.{IsExportRefused, exported, stop_reason as export_reason}
-use Rattle.archive_desk.specs.Faults.{ask_reason, reason}
-use Rattle.archive_desk.specs.Importing.{IsBrokenImport, stop_reason as import_reason}
+use Rattle.archive_results.specs.Shown.{shown_message}
+use Rattle.archive_desk.specs.Exporting.{IsExportRefused, exported_text, export_stop_reason as export_reason}
+use Rattle.archive_desk.specs.Faults.{ask_reason, refusal_reason}
+use Rattle.archive_desk.specs.Importing.{IsBrokenImport, import_stop_reason as import_reason}
 use Rattle.archive_desk.proofs.ImportLemmas.{import_right}
 use Rattle.desk_tests.proofs.ChainLemmas.{export_right, into_list, import_stops, month_stops, export_stops, left, lasts_on, part_of, all_told}
 use Rattle.desk_tests.proofs.chain.import_and_ask.Goals as goal
@@ -28,7 +28,7 @@ returns-in-Err-month-clause-chain g c =
     let imported = into_list g.S.Store ask text c.args.store.now c.import.new.store c.ask.inside.list.now c.in-Ok.report is
     (import_right g.S.Store c.args.store.now c.import.new.store c.ask.inside.list.now text (Ok c.in-Ok.report) c.in-Ok.ensures.imports) in
     month_stops g.S.Store ask text c.args.store.now c.import.new.store c.in-Ok.report imported
-    c.month.new.store told told (reason c.in-Err-month.fault) c.in-Err-month.ensures.listed
+    c.month.new.store told told (refusal_reason c.in-Err-month.fault) c.in-Err-month.ensures.listed
 
 pub returns-in-Ok-export-clause-chain : goal.returns-in-Ok-export-clause-chain
 returns-in-Ok-export-clause-chain g c =
@@ -51,7 +51,7 @@ returns-in-Err-export-clause-chain g c =
     let imported = into_list g.S.Store ask text c.args.store.now c.import.new.store c.ask.inside.list.now c.in-Ok.report is
     (import_right g.S.Store c.args.store.now c.import.new.store c.ask.inside.list.now text (Ok c.in-Ok.report) c.in-Ok.ensures.imports) in
     export_stops g.S.Store ask text c.args.store.now c.import.new.store c.in-Ok.report imported
-    c.month.new.store (λ b. c.in-Ok-month.lines.items ≡ month_lines c.args.asked (map shown_of (view_of b ask))) c.in-Ok-month.ensures.listed
+    c.month.new.store (λ b. c.in-Ok-month.lines.items ≡ month_lines c.args.asked (map shown_message (view_of b ask))) c.in-Ok-month.ensures.listed
     c.export.new.store (g.W.Sink.told c.args.out.now) (g.W.Sink.told c.export.new.out) (export_reason c.in-Err-export.stop)
     (export_right g.S.Store c.month.new.store c.export.new.store ask (g.W.Sink.told c.args.out.now) (g.W.Sink.told c.export.new.out) (Err c.in-Err-export.stop) c.in-Err-export.ensures.exported)
 
@@ -66,9 +66,9 @@ returns-in-Err-export-clause-part g c =
     (import_right g.S.Store c.args.store.now c.import.new.store c.ask.inside.list.now text (Ok c.in-Ok.report) c.in-Ok.ensures.imports) in
     part_of g.S.Store ask text c.args.store.now c.month.new.store c.export.new.store
     (left g.S.Store ask text c.args.store.now c.import.new.store c.in-Ok.report imported
-    c.month.new.store (λ b. c.in-Ok-month.lines.items ≡ month_lines c.args.asked (map shown_of (view_of b ask))) c.in-Ok-month.ensures.listed)
+    c.month.new.store (λ b. c.in-Ok-month.lines.items ≡ month_lines c.args.asked (map shown_message (view_of b ask))) c.in-Ok-month.ensures.listed)
     (lasts_on g.S.Store c.month.new.store c.export.new.store (λ b c. c ≡ b)
-    (λ x y why. (y ≡ x) × IsExportRefused (ask_reason x ask) before after (exported x ask) why.0 why.1)
+    (λ x y why. (y ≡ x) × IsExportRefused (ask_reason x ask) before after (exported_text x ask) why.0 why.1)
     (export_reason c.in-Err-export.stop)
     (export_right g.S.Store c.month.new.store c.export.new.store ask before after (Err c.in-Err-export.stop) c.in-Err-export.ensures.exported))
     before after c.in-Err-export.stop.written c.in-Err-export.ensures.stopped.part

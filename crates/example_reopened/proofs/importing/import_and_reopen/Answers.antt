@@ -1,6 +1,6 @@
 use Rattle.std.proofs.Common.{Ok, Err}
 use Rattle.sqlite.specs.Files.{over_files}
-use Rattle.archive_machine.specs.Records.{Archive}
+use Rattle.archive_model.specs.Records.{Archive}
 use Rattle.archive_desk.specs.Importing.{IsImported}
 use Rattle.archive_desk.proofs.ImportLemmas.{import_right}
 use Rattle.example_reopened.proofs.ReopenLemmas.{leads_to, leads_on, leads_again}

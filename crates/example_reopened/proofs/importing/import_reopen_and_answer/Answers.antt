@@ -1,6 +1,6 @@
 use Rattle.sqlite.specs.Files.{over_files}
 use Rattle.archive_desk.specs.Importing.{IsImported}
-use Rattle.archive_pages.specs.Running.{AnswersFrom}
+use Rattle.archive_pages.specs.Headline.{AnswersRequestFromArchive}
 use Rattle.archive_pages.proofs.RunningLemmas.{answers_first}
 use Rattle.example_reopened.proofs.ReopenLemmas.{leads_still}
 use Rattle.example_reopened.proofs.ImportLemmas.{of_imported}
@@ -9,7 +9,7 @@ use Rattle.example_reopened.proofs.importing.import_reopen_and_answer.Goals as g
 pub returns-clause-answered : goal.returns-clause-answered
 returns-clause-answered g c =
     of_imported c.args.files c.in-Ok.done.0 c.answer-answered.new.store c.args.list.now c.args.mbox.now c.in-Ok.done.1
-    (λ archive. AnswersFrom archive c.args.policy.now c.args.day (g.R.Source.told c.args.input.now) (g.R.Source.told c.answer-answered.new.input)
+    (λ archive. AnswersRequestFromArchive archive c.args.policy.now c.args.day (g.R.Source.told c.args.input.now) (g.R.Source.told c.answer-answered.new.input)
     (g.R.Source.ends c.args.input.now) (g.R.Source.ends c.answer-answered.new.input) (g.W.Sink.told c.args.output.now)
     (g.W.Sink.told c.answer-answered.new.output) c.answer-answered.result)
     c.in-Ok.ensures.imported c.answer-answered.ensures.stays.same

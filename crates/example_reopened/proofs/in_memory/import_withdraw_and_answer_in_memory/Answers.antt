@@ -1,21 +1,21 @@
 use Rattle.std.proofs.Common.{map, subst, sym}
 use Rattle.sqlite.proofs.Callers.{memory_is_clean}
-use Rattle.archive_machine.specs.Runs.{run}
+use Rattle.archive_model.specs.Runs.{run}
 use Rattle.archive_tables.specs.Making.{empty_archive}
-use Rattle.archive_store.specs.Held.{held_of}
-use Rattle.archive_port.specs.Commands.{command_of}
+use Rattle.archive_store.specs.Held.{store_connection}
+use Rattle.archive_port.specs.Commands.{spec_command}
 use Rattle.archive_desk.specs.Readable.{CanBeRead}
-use Rattle.example_reopened.specs.Withdrawing.{AnswersBehind}
+use Rattle.example_reopened.specs.Withdrawing.{AnswersAfterWithdrawal}
 use Rattle.example_reopened.proofs.MemoryLemmas.{wanting}
 use Rattle.example_reopened.proofs.in_memory.import_withdraw_and_answer_in_memory.Goals as goal
 
 pub returns-in-Ok-import_withdraw_and_answer-clause-answered : goal.returns-in-Ok-import_withdraw_and_answer-clause-answered
 returns-in-Ok-import_withdraw_and_answer-clause-answered g c =
     subst
-    (λ before. AnswersBehind g.R.Source g.W.Sink c.args.withdrawal.now c.args.policy.now c.args.day before c.args.first.now c.import_withdraw_and_answer.new.first
+    (λ before. AnswersAfterWithdrawal g.R.Source g.W.Sink c.args.withdrawal.now c.args.policy.now c.args.day before c.args.first.now c.import_withdraw_and_answer.new.first
     c.args.second.now c.import_withdraw_and_answer.new.second c.in-Ok-import_withdraw_and_answer.report c.in-Ok-import_withdraw_and_answer.answered)
     c.in-Ok.ensures.remembers
-    (c.in-Ok-import_withdraw_and_answer.ensures.answered (memory_is_clean (held_of c.import_withdraw_and_answer.new.store)) c.in-Ok.ensures.ready)
+    (c.in-Ok-import_withdraw_and_answer.ensures.answered (memory_is_clean (store_connection c.import_withdraw_and_answer.new.store)) c.in-Ok.ensures.ready)
 
 pub returns-in-Ok-import_withdraw_and_answer-clause-caused : goal.returns-in-Ok-import_withdraw_and_answer-clause-caused
 returns-in-Ok-import_withdraw_and_answer-clause-caused g c =
@@ -25,5 +25,5 @@ returns-in-Ok-import_withdraw_and_answer-clause-caused g c =
     c.args.first.now c.import_withdraw_and_answer.new.first c.args.second.now c.import_withdraw_and_answer.new.second
     c.in-Ok-import_withdraw_and_answer.report c.in-Ok-import_withdraw_and_answer.answered c.in-Ok.ensures.ready c.in-Ok.ensures.unlimited
     (subst CanBeRead (sym c.in-Ok.ensures.remembers)
-    (write.run empty_archive (map command_of c.args.commands.now) c.the_commands_of_a_run_are_said.ensures write.empty))
+    (write.run empty_archive (map spec_command c.args.commands.now) c.the_commands_of_a_run_are_said.ensures write.empty))
     c.in-Ok-import_withdraw_and_answer.ensures.ends

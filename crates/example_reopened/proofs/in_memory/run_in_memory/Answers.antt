@@ -1,19 +1,19 @@
 use Rattle.std.proofs.Common.{ap, map, ◌∙◌}
 use Rattle.sqlite.specs.Steps.{over_memory}
 use Rattle.sqlite.proofs.Callers.{memory_is_clean}
-use Rattle.archive_machine.specs.Runs.{run}
+use Rattle.archive_model.specs.Runs.{run}
 use Rattle.archive_tables.specs.Making.{empty_archive}
-use Rattle.archive_store.specs.Held.{held_of}
-use Rattle.archive_port.specs.Commands.{command_of}
+use Rattle.archive_store.specs.Held.{store_connection}
+use Rattle.archive_port.specs.Commands.{spec_command}
 use Rattle.archive_store.proofs.Joins.{ready_with}
 use Rattle.archive_store.proofs.RightLemmas.{empty_right, run_right}
 use Rattle.example_reopened.proofs.in_memory.run_in_memory.Goals as goal
 
 pub returns-in-Ok : goal.returns-in-Ok
 returns-in-Ok c =
-    let made = c.in_ok-store.ensures.made (memory_is_clean (held_of c.in_ok-store.store)) in
-    let ran = c.in-Ok.ensures.step (memory_is_clean (held_of c.run.new.self)) made.0 in
-    let commands = map command_of c.args.commands.now in
+    let made = c.in_ok-store.ensures.made (memory_is_clean (store_connection c.in_ok-store.store)) in
+    let ran = c.in-Ok.ensures.step (memory_is_clean (store_connection c.run.new.self)) made.0 in
+    let commands = map spec_command c.args.commands.now in
     let is = ran.1 ∙ ap (λ archive. (run archive commands).archive) made.1 in
     record {
       ready = ready_with over_memory c.run.new.self (run empty_archive commands).archive ran.0 is (run_right empty_archive commands empty_right);

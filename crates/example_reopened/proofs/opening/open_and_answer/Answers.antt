@@ -1,15 +1,15 @@
 use Rattle.std.proofs.Common.{◌≡◌}
-use Rattle.archive_pages.specs.Running.{AnswersFrom}
+use Rattle.archive_pages.specs.Headline.{AnswersRequestFromArchive}
 use Rattle.archive_pages.proofs.RunningLemmas.{answers_first}
 use Rattle.sqlite.specs.Files.{over_files}
-use Rattle.example_reopened.proofs.OpenLemmas.{caused_since, of_held, of_run}
+use Rattle.example_reopened.proofs.OpenLemmas.{caused_since, serves_held_archive, of_run}
 use Rattle.example_reopened.proofs.ReopenLemmas.{leads_still, leads_to}
 use Rattle.example_reopened.proofs.opening.open_and_answer.Goals as goal
 
 pub returns-clause-answered : goal.returns-clause-answered
 returns-clause-answered g c =
-    of_held c.args.files c.in_ok-store.store c.answer-answered.new.store c.in_ok-store.ensures.opened c.answer-answered.ensures.stays.same.0
-    (λ archive. AnswersFrom archive c.args.policy.now c.args.day (g.R.Source.told c.args.peer.now.input) (g.R.Source.told c.answer-answered.new.input)
+    serves_held_archive c.args.files c.in_ok-store.store c.answer-answered.new.store c.in_ok-store.ensures.opened c.answer-answered.ensures.stays.same.0
+    (λ archive. AnswersRequestFromArchive archive c.args.policy.now c.args.day (g.R.Source.told c.args.peer.now.input) (g.R.Source.told c.answer-answered.new.input)
     (g.R.Source.ends c.args.peer.now.input) (g.R.Source.ends c.answer-answered.new.input) (g.W.Sink.told c.args.peer.now.output)
     (g.W.Sink.told c.answer-answered.new.output) c.answer-answered.result)
     (λ returned held. answers_first over_files c.in_ok-store.store c.answer-answered.new.store returned held c.args.policy.now c.args.day c.answer-answered.result
@@ -20,7 +20,7 @@ returns-clause-answered g c =
 pub returns-clause-commanded : goal.returns-clause-commanded
 returns-clause-commanded g c =
     of_run c.args.files c.answer-answered.new.store
-    (λ archive. AnswersFrom archive c.args.policy.now c.args.day (g.R.Source.told c.args.peer.now.input) (g.R.Source.told c.answer-answered.new.input)
+    (λ archive. AnswersRequestFromArchive archive c.args.policy.now c.args.day (g.R.Source.told c.args.peer.now.input) (g.R.Source.told c.answer-answered.new.input)
     (g.R.Source.ends c.args.peer.now.input) (g.R.Source.ends c.answer-answered.new.input) (g.W.Sink.told c.args.peer.now.output)
     (g.W.Sink.told c.answer-answered.new.output) c.answer-answered.result)
     (returns-clause-answered g c)

@@ -1,5 +1,5 @@
-use Rattle.archive_machine.specs.Records.{Archive}
-use Rattle.example_reopened.specs.Withdrawing.{IsWithdrawn}
+use Rattle.archive_model.specs.Records.{Archive}
+use Rattle.example_reopened.specs.Withdrawing.{ImportsAndWithdraws}
 use Rattle.example_reopened.proofs.PublishLemmas.{left_with}
 use Rattle.example_reopened.proofs.ReopenLemmas.{leads_to, leads_on, leads_again}
 use Rattle.example_reopened.proofs.publishing.withdraw_and_reopen.Goals as goal
@@ -11,7 +11,7 @@ returns-in-Err-import_and_withdraw-clause-stopped g c =
 
 pub returns-in-Ok-reopen-clause-withdrawn : goal.returns-in-Ok-reopen-clause-withdrawn
 returns-in-Ok-reopen-clause-withdrawn g c =
-    let R : Archive → Archive → Type 0 = λ a b. IsWithdrawn c.args.withdrawal.now a b c.in-Ok-import_and_withdraw.report in
+    let R : Archive → Archive → Type 0 = λ a b. ImportsAndWithdraws c.args.withdrawal.now a b c.in-Ok-import_and_withdraw.report in
     leads_again c.args.files c.import_and_withdraw.new.store c.in-Ok-reopen.again R
     (leads_on c.args.files c.in-Ok.store c.import_and_withdraw.new.store R (leads_to c.args.files c.in-Ok.store c.in-Ok.ensures.opened)
     c.in-Ok-import_and_withdraw.ensures.done)

@@ -1,6 +1,6 @@
 use Rattle.sqlite.specs.Files.{over_files}
 use Rattle.archive_store.specs.Told.{archive_in}
-use Rattle.example_reopened.specs.Withdrawing.{IsWithdrawn}
+use Rattle.example_reopened.specs.Withdrawing.{ImportsAndWithdraws}
 use Rattle.archive_pages.proofs.ServingLemmas.{same_after}
 use Rattle.example_reopened.proofs.PublishLemmas.{caused_behind}
 use Rattle.example_reopened.proofs.ReopenLemmas.{leads_still}
@@ -20,7 +20,7 @@ returns-clause-answered g c = λ returned archive held.
 
 pub returns-clause-stays : goal.returns-clause-stays
 returns-clause-stays g c =
-    leads_still c.args.files c.in-Ok.done.0 c.answer_both-answered.new.store (λ a b. IsWithdrawn c.args.withdrawal.now a b c.in-Ok.done.1)
+    leads_still c.args.files c.in-Ok.done.0 c.answer_both-answered.new.store (λ a b. ImportsAndWithdraws c.args.withdrawal.now a b c.in-Ok.done.1)
     c.in-Ok.ensures.withdrawn
     (same_after over_files c.in-Ok.done.0 c.answer_both-answered.ensures.ends.between c.answer_both-answered.new.store
     c.answer_both-answered.ensures.ends.first_ends.stays.same c.answer_both-answered.ensures.ends.second_ends.stays.same)

@@ -18,7 +18,7 @@ pub returns-clause-ends : goal.returns-clause-ends
 returns-clause-ends g c = record {
   between = c.answer-one.new.store;
   first_ends = record { stays = c.answer-one.ensures.stays; quiet = c.answer-one.ensures.quiet; cause = c.answer-one.ensures.cause };
-  first_caused = c.answer-one.ensures.caused;
+  first_error_cause = c.answer-one.ensures.caused;
   second_ends = record { stays = c.answer-other.ensures.stays; quiet = c.answer-other.ensures.quiet; cause = c.answer-other.ensures.cause };
-  second_caused = c.answer-other.ensures.caused;
+  second_error_cause = c.answer-other.ensures.caused;
 }

@@ -25,5 +25,5 @@ returns-clause-ends g c = record {
 pub returns-clause-counted : goal.returns-clause-counted
 returns-clause-counted g c =
     let first = c.in_ok-report.ensures.counted.0 in
-    let then = c.answer_both-answered.ensures.ends.first_caused.0 in
-    let last = c.answer_both-answered.ensures.ends.second_caused.0 in (omega (arith, first, then, last), tt)
+    let then = c.answer_both-answered.ensures.ends.first_error_cause.0 in
+    let last = c.answer_both-answered.ensures.ends.second_error_cause.0 in (omega (arith, first, then, last), tt)

@@ -2,7 +2,7 @@ use Rattle.std.proofs.Common.{◌≡◌, ℕ, ◌+◌, ◌≤◌, ◌<◌, lengt
 use Rattle.std.proofs.lemmas.Int.{to_z-of_z}
 use Rattle.mail_core.specs.Lines.{lines}
 use Rattle.mbox_core.specs.Division.{Item, AreBlocks}
-use Rattle.luvazhimba_c.specs.Places.{StandsAt}
+use Rattle.luvazhimba_c.specs.Places.{IsMessageAtOffset}
 use Rattle.luvazhimba_c.proofs.PlaceLemmas.{IsLineLen, text_within, placed, begins_block}
 use Rattle.luvazhimba_c.proofs.cutting.place_of.Goals as goal
 
@@ -34,7 +34,7 @@ returns-clause-stands c =
     let fits : FitsSigned w64 c.len_and_arrival-text.result.1 = search rules in
     let kept : to_z w64 (of_z w64 c.len_and_arrival-text.result.1) ≡ c.len_and_arrival-text.result.1 = to_z-of_z w64 c.len_and_arrival-text.result.1 fits in
     let arrival = to_z w64 (of_z w64 c.len_and_arrival-text.result.1) in
-    subst (λ (t : ℕ). StandsAt bytes at item (record { start = at + n; end = at + n + t; arrival = arrival }) (at + n + t + m)) e
+    subst (λ (t : ℕ). IsMessageAtOffset bytes at item (record { start = at + n; end = at + n + t; arrival = arrival }) (at + n + t + m)) e
     (p.stands arrival (kept ∙ c.len_and_arrival-text.ensures.arrival))
 
 pub returns-clause-later : goal.returns-clause-later

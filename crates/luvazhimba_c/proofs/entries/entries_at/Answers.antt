@@ -1,7 +1,7 @@
 use Rattle.std.proofs.Common.{◌<◌, length, arith}
 use Rattle.std.proofs.lemmas.Grind.{common_steps}
 use Rattle.std.proofs.lemmas.List.Elements.{Contains-get_or, All-more}
-use Rattle.luvazhimba_c.specs.Entries.{IsReadable}
+use Rattle.luvazhimba_c.specs.Entries.{IsReadableMessage}
 use Rattle.luvazhimba_c.proofs.entries.entries_at.Goals as goal
 
 pub loop-at-preserved : goal.loop-at-preserved
@@ -9,7 +9,7 @@ loop-at-preserved c =
     let within : c.loop-at.at < length c.args.messages.now = omega arith in
     record {
       entries = grind (arith, common_steps);
-      readable = All-more (IsReadable c.args.bytes.now) c.args.messages.now c.loop-at.at _ within c.loop-at.invariant.readable c.in-Ok.ensures.readable;
+      readable = All-more (IsReadableMessage c.args.bytes.now) c.args.messages.now c.loop-at.at _ within c.loop-at.invariant.readable c.in-Ok.ensures.readable;
     }
 
 pub returns-in-Err-clause-outside : goal.returns-in-Err-clause-outside

@@ -1,5 +1,5 @@
 use Rattle.std.proofs.Common.{length}
-use Rattle.thread_links.specs.Containers.{count_of}
+use Rattle.thread_links.specs.Containers.{container_count}
 use Rattle.thread_links.specs.Links.{parent_of, links_of}
 use Rattle.thread_core.specs.Threads.{threads_of}
 use Rattle.luvazhimba_c.proofs.RowBounds.{rows_few}
@@ -8,5 +8,5 @@ use Rattle.luvazhimba_c.proofs.laws.rows_are_at_most_twice_the_messages.Goals as
 pub returns : goal.returns
 returns c = λ entries merge.
     rows_few (length entries) (threads_of entries merge)
-    (c.dummies_have_two_children.ensures entries merge (count_of entries) (parent_of (links_of entries)))
+    (c.dummies_have_two_children.ensures entries merge (container_count entries) (parent_of (links_of entries)))
     (c.each_place_stands_in_one_row.ensures.step_one entries merge)

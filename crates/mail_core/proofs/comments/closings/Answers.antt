@@ -1,6 +1,6 @@
 use Rattle.std.proofs.Common.{◌≡◌, ◌+◌, ◌-◌, ◌<◌, ◌∙◌, ap, sym, arith, ℕ, List, length, true, false}
-use Rattle.mail_core.specs.Comments.{comment_mark}
-use Rattle.mail_core.specs.Comments.CommentMark.{opening, closing, escape, ordinary}
+use Rattle.mail_core.specs.Comments.{comment_byte_kind}
+use Rattle.mail_core.specs.Comments.CommentByteKind.{opening, closing, escape, ordinary}
 use Rattle.mail_core.proofs.CommentLemmas.{comment_mark-40, comment_mark-41, comment_mark-92, comment_mark-other}
 use Rattle.mail_core.proofs.CommentTable.{closed-none, closed-quoted, closed-byte, closings-none, closings-pushed}
 use Rattle.mail_core.proofs.comments.closings.Goals as goal
@@ -24,7 +24,7 @@ loop-k-preserved-in-41 c =
     let v = c.loop-k.invariant in record {
       place = omega arith;
       known = closings-pushed text c.loop-k.closed.items c.push.new.self.items (k - 1) k c.loop-k.next hk under v.known v.next c.in_ok-push.ensures.items;
-      next = closed-byte text (k - 1) k c.loop-k.next c.loop-k.after closing hk under (ap comment_mark c.in-41.is ∙ comment_mark-41) v.next v.after;
+      next = closed-byte text (k - 1) k c.loop-k.next c.loop-k.after closing hk under (ap comment_byte_kind c.in-41.is ∙ comment_mark-41) v.next v.after;
       after = v.next ∙ sym (closed-quoted text (k - 1) k hk under);
       few = omega arith;
       few_after = omega arith;
@@ -39,7 +39,7 @@ loop-k-preserved-in-40 c =
     let v = c.loop-k.invariant in record {
       place = omega arith;
       known = closings-pushed text c.loop-k.closed.items c.push.new.self.items (k - 1) k c.loop-k.next hk under v.known v.next c.in_ok-push.ensures.items;
-      next = c.saturating_sub-here.ensures ∙ closed-byte text (k - 1) k c.loop-k.next c.loop-k.after opening hk under (ap comment_mark c.in-40.is ∙ comment_mark-40) v.next v.after;
+      next = c.saturating_sub-here.ensures ∙ closed-byte text (k - 1) k c.loop-k.next c.loop-k.after opening hk under (ap comment_byte_kind c.in-40.is ∙ comment_mark-40) v.next v.after;
       after = v.next ∙ sym (closed-quoted text (k - 1) k hk under);
       few = omega arith;
       few_after = omega arith;
@@ -54,7 +54,7 @@ loop-k-preserved-in-92 c =
     let v = c.loop-k.invariant in record {
       place = omega arith;
       known = closings-pushed text c.loop-k.closed.items c.push.new.self.items (k - 1) k c.loop-k.next hk under v.known v.next c.in_ok-push.ensures.items;
-      next = closed-byte text (k - 1) k c.loop-k.next c.loop-k.after escape hk under (ap comment_mark c.in-92.is ∙ comment_mark-92) v.next v.after;
+      next = closed-byte text (k - 1) k c.loop-k.next c.loop-k.after escape hk under (ap comment_byte_kind c.in-92.is ∙ comment_mark-92) v.next v.after;
       after = v.next ∙ sym (closed-quoted text (k - 1) k hk under);
       few = omega arith;
       few_after = omega arith;

@@ -1,20 +1,20 @@
 use Rattle.std.proofs.Common.{◌≡◌, ℕ, ◌+◌, ◌<◌, ◌≤◌, ◌∙◌, arith, length, refl, List, drop, Option, Some, None, Result, Ok, Err, IfOk, IfSome, IfNone}
 use Rattle.civil_time.specs.declared.refusal.Memory.{Memory}
-use Rattle.mail_core.specs.MsgIds.{Id}
-use Rattle.mail_core.specs.Reading.{IsTaken}
+use Rattle.mail_core.specs.MsgIds.{MessageId}
+use Rattle.mail_core.specs.Reading.{AppendsReadId}
 use Rattle.mail_core.proofs.SideLemmas.{id-quoted, id-plain, id-short}
 use Rattle.mail_core.proofs.id_reading.push_id.Goals as goal
 
 -- what is taken from a later place
-later : (r : Result (Option ℕ) Memory) (low high : ℕ) (x y : Option (Id × List ℕ)) (before after : List Id) (text : List ℕ) → low ≤ high → y ≡ x
-    → IfOk r (λ read. IfSome read (λ end. IsTaken before after x text high end))
-    → IfOk r (λ read. IfSome read (λ end. IsTaken before after y text low end))
+later : (r : Result (Option ℕ) Memory) (low high : ℕ) (x y : Option (MessageId × List ℕ)) (before after : List MessageId) (text : List ℕ) → low ≤ high → y ≡ x
+    → IfOk r (λ read. IfSome read (λ end. AppendsReadId before after x text high end))
+    → IfOk r (λ read. IfSome read (λ end. AppendsReadId before after y text low end))
 later (Ok (Some end)) low high x y before after text le e h = record { id = h.id; later = omega (arith, h.later, le); inside = h.inside; is = e ∙ h.is; added = h.added }
 later (Ok None) low high x y before after text le e h = tt
 later (Err f) low high x y before after text le e h = tt
 
 -- nothing is taken there
-nothing : (r : Result (Option ℕ) Memory) (x y : Option (Id × List ℕ)) (before after : List Id) → y ≡ x
+nothing : (r : Result (Option ℕ) Memory) (x y : Option (MessageId × List ℕ)) (before after : List MessageId) → y ≡ x
     → IfOk r (λ read. IfNone read ((x ≡ None) × (after ≡ before))) → IfOk r (λ read. IfNone read ((y ≡ None) × (after ≡ before)))
 nothing (Ok (Some end)) x y before after e h = tt
 nothing (Ok None) x y before after e h = (e ∙ h.0, h.1)

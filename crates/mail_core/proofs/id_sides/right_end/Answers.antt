@@ -1,5 +1,5 @@
 use Rattle.std.proofs.Common.{◌≡◌, ◌<◌, sym, arith, drop, None, ◌⊎◌, inl, inr}
-use Rattle.mail_core.specs.MsgIds.{right_at}
+use Rattle.mail_core.specs.MsgIds.{nonempty_id_right}
 use Rattle.mail_core.proofs.SideLemmas.{right_at-found, right_at-none, right_at-nothing}
 use Rattle.mail_core.proofs.id_sides.right_end.Goals as goal
 
@@ -21,6 +21,6 @@ returns-then-not-right_byte c = (
 pub returns : goal.returns
 returns c = go (let x : (c.args.from < c.loop-at.at) ⊎ (c.loop-at.at ≡ c.args.from) = grind arith in x)
   where
-    go : (c.args.from < c.loop-at.at) ⊎ (c.loop-at.at ≡ c.args.from) → right_at (drop c.args.from c.args.text.now) ≡ None
+    go : (c.args.from < c.loop-at.at) ⊎ (c.loop-at.at ≡ c.args.from) → nonempty_id_right (drop c.args.from c.args.text.now) ≡ None
     go (inl lt) = right_at-none c.args.text.now c.args.from c.loop-at.at lt c.loop-at.invariant.place c.loop-at.invariant.run (λ g. absurd (let over = c.loop-at-test.false in omega (arith, g, over)))
     go (inr e) = right_at-nothing c.args.text.now c.args.from (λ g. absurd (let over = c.loop-at-test.false in omega (arith, g, over, e)))

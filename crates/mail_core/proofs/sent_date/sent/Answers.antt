@@ -1,6 +1,6 @@
 use Rattle.std.proofs.Common.{◌≡◌, ◌∙◌, ap, arith, rules, ℤ, pos, neg_ℤ, ◌+ℤ◌, ◌*ℤ◌, ◌≤ℤ◌, to_z, of_z, w64, w32, FitsSigned}
 use Rattle.std.proofs.lemmas.Int.{ints}
-use Rattle.mail_core.specs.Tokens.{tokens_of}
+use Rattle.mail_core.specs.DateTokens.{tokens_of}
 use Rattle.mail_core.proofs.SentLemmas.{sent-some}
 use Rattle.mail_core.proofs.sent_date.sent.Goals as goal
 

@@ -3,8 +3,8 @@ use Rattle.std.specs.List.{prefix_len}
 use Rattle.std.specs.Char.{is_ascii_alphabetic}
 use Rattle.std.proofs.lemmas.List.{nil_from_length}
 use Rattle.civil_time.specs.Digits.{is_digit}
-use Rattle.mail_core.specs.Tokens.{tokens_of}
-use Rattle.mail_core.specs.Tokens.Token.{digits, letters}
+use Rattle.mail_core.specs.DateTokens.{tokens_of}
+use Rattle.mail_core.specs.DateTokens.Token.{digits, letters}
 use Rattle.mail_core.proofs.CommentLemmas.{not_equal}
 use Rattle.mail_core.proofs.TokenLemmas.{tokens-nil, tokens-white, tokens-digits, tokens-letters, tokens-sign, tokens-open, tokens-comment}
 use Rattle.mail_core.proofs.tokens.next_token.Goals as goal

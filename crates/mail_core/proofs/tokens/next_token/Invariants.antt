@@ -1,5 +1,5 @@
 use Rattle.std.proofs.Common.{◌≡◌, length}
-use Rattle.mail_core.specs.Tokens.{tokens_of}
+use Rattle.mail_core.specs.DateTokens.{tokens_of}
 use Rattle.mail_core.proofs.tokens.next_token.Given as goal
 
 abbrev pub invariant-loop-first : goal.invariant-loop-first

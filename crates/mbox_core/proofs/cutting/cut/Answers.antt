@@ -1,4 +1,4 @@
-use Rattle.mbox_items.specs.Division.{is_blank}
+use Rattle.mbox_items.specs.Division.{is_blank_line}
 use Rattle.std.proofs.Common.{◌≡◌, ◌≤◌, length, ℕ, ◌+◌, Bool, true, false, not, ◌==◌, List, drop, arith, ap, ◌∙◌, sym, refl, Some, None, length-drop}
 use Rattle.std.proofs.lemmas.List.{take_rest}
 use Rattle.mail_core.specs.Lines.{content}
@@ -34,7 +34,7 @@ pub returns-in-None-clause-preamble : goal.returns-in-None-clause-preamble
 returns-in-None-clause-preamble c =
     let here = take_rest c.args.bytes.now c.loop-at.at in
     let says : separator_of (content c.split_at.result.0.now) ≡ None = ap separator_of (sym c.line_content-content.ensures) ∙ sym c.in-None.ensures.value in
-    let blank : is_blank c.split_at.result.0.now ≡ c.is_empty.result = ap (λ x. length x == 0) (sym c.line_content-content.ensures) ∙ sym c.is_empty.ensures in
+    let blank : is_blank_line c.split_at.result.0.now ≡ c.is_empty.result = ap (λ x. length x == 0) (sym c.line_content-content.ensures) ∙ sym c.is_empty.ensures in
     preamble_here c.args.bytes.now c.loop-at.at c.line_end-len.result c.split_at.result.0.now (rw here at c.split_at.ensures.front)
     (fits c.line_end-len.result c.loop-at.at c.args.bytes.now (rw here at c.line_end-len.ensures.within) (omega arith)) (rw here at c.line_end-len.ensures.cuts)
     c.loop-at.invariant (blank ∙ c.if-not-is_empty.true) says
@@ -42,7 +42,7 @@ returns-in-None-clause-preamble c =
 pub loop-at-preserved : goal.loop-at-preserved
 loop-at-preserved c =
     let here = take_rest c.args.bytes.now c.loop-at.at in
-    let blank : is_blank c.split_at.result.0.now ≡ c.is_empty.result = ap (λ x. length x == 0) (sym c.line_content-content.ensures) ∙ sym c.is_empty.ensures in
+    let blank : is_blank_line c.split_at.result.0.now ≡ c.is_empty.result = ap (λ x. length x == 0) (sym c.line_content-content.ensures) ∙ sym c.is_empty.ensures in
     blanks_more c.args.bytes.now c.loop-at.at c.line_end-len.result c.split_at.result.0.now (rw here at c.split_at.ensures.front)
     (fits c.line_end-len.result c.loop-at.at c.args.bytes.now (rw here at c.line_end-len.ensures.within) (omega arith)) (rw here at c.line_end-len.ensures.cuts)
     c.loop-at.invariant (blank ∙ c.if-not-is_empty.false)

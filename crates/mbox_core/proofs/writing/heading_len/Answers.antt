@@ -1,6 +1,6 @@
 use Rattle.std.proofs.Common.{◌≡◌, [], ◌∷◌, ◌++◌, length, arith, ap, ◌∙◌, sym, subst, codes, length-append}
 use Rattle.mbox_items.specs.Senders.{sender_text}
-use Rattle.mbox_items.specs.Separator.{Envelope, spaced}
+use Rattle.mbox_items.specs.Separator.{Envelope, joined_by_spaces}
 use Rattle.mbox_items.specs.Written.{IsEnvelope}
 use Rattle.mbox_items.proofs.SenderLemmas.{envelope_is}
 use Rattle.mbox_core.proofs.WrittenLaws.{heading_length}
@@ -17,7 +17,8 @@ pub returns-in-At : goal.returns-in-At
 returns-in-At c =
     let is : IsEnvelope c.args.envelope.now =
     subst IsEnvelope c.envelope.view_is (envelope_is c.envelope.inside.sender c.envelope.inside.arrival c.envelope.invariant.0 c.envelope.invariant.1) in
-    let sender : c.args.envelope.now.sender ≡ spaced (c.in-At.left.now ∷ codes "at" ∷ c.in-At.right.now ∷ []) = sym (ap (λ (e : Envelope). e.sender) c.envelope.view_is) ∙ ap sender_text c.in-At.is in
+    let sender : c.args.envelope.now.sender ≡ joined_by_spaces (c.in-At.left.now ∷ codes "at" ∷ c.in-At.right.now ∷ []) = sym (ap (λ (e : Envelope). e.sender) c.envelope.view_is) ∙ ap
+    sender_text c.in-At.is in
     omega (
       arith,
       heading_length c.args.envelope.now is,

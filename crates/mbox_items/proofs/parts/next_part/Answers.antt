@@ -3,7 +3,7 @@ use Rattle.std.proofs.lemmas.List.{take-take, drop_all}
 use Rattle.memchr.specs.Find.{OccursAt, NoneBefore, Nowhere}
 use Rattle.mail_core.specs.Lines.{lines, content}
 use Rattle.mbox_items.specs.Separator.{Envelope, separator_of}
-use Rattle.mbox_items.specs.Division.{is_blank, items_after}
+use Rattle.mbox_items.specs.Division.{is_blank_line, items_after_separator}
 use Rattle.mbox_items.proofs.PartLemmas.{text_here, items_here}
 use Rattle.mbox_items.proofs.FastLemmas.{mark, calm_start, calm_next, front_on, found_state, Refused, no_mark, mark_lf, none_at_all, text_all, items_all}
 use Rattle.mbox_items.proofs.parts.next_part.Goals.{then-is_empty+in_default, else-is_empty}
@@ -40,8 +40,8 @@ none_here bytes here at e h k o = let K : List ℕ → Type 0 = λ x. OccursAt x
 none_end : (bytes : List ℕ) (at : ℕ) → length bytes ≤ at → (k : ℕ) → ¬ OccursAt (drop at bytes) mark k
 none_end bytes at h k o = let K : List ℕ → Type 0 = λ x. OccursAt x mark k in no_mark k (subst K (drop_all at bytes h) o)
 
-after_none : (o : Option Envelope) (rest : List ℕ) → o ≡ None → items_after o rest ≡ []
-after_none o rest e = ap (λ x. items_after x rest) e
+after_none : (o : Option Envelope) (rest : List ℕ) → o ≡ None → items_after_separator o rest ≡ []
+after_none o rest e = ap (λ x. items_after_separator x rest) e
 
 pub returns-in-None-clause-text : goal.returns-in-None-clause-text
 returns-in-None-clause-text c = c.last_part.ensures.text
@@ -64,17 +64,18 @@ returns-in-Some-separator-clause-text c =
     let at = c.loop-at.at + (c.in-Some.lf + 1) in
     let f = found bytes c.split_at.result.1.now c.loop-at.at c.in-Some.lf c.split_at.ensures.back c.loop-at.invariant.0 c.in-Some.ensures in
     let line = c.split_at-in-loop-at-2.result.1.now in
-    let e = last_is bytes c.split_at-in-loop-at.result.0.now line at c.last_line-last.result c.split_at-in-loop-at.ensures.front c.split_at-in-loop-at-2.ensures.back c.last_line-last.ensures.cuts in
-    let blank : is_blank line ≡ true = ap (λ x. length x == 0) (sym c.line_content-before.ensures) ∙ sym c.is_empty.ensures ∙ c.if-is_empty.true in
-    let low : c.last_line-last.result ≤ at = omega (arith, c.last_line-last.ensures.within, c.split_at-in-loop-at.ensures.front_len) in
-    let s = found_state bytes line at c.last_line-last.result (front_on bytes c.loop-at.at c.in-Some.lf c.loop-at.invariant.1 f.fits f.here_lf f.none) e blank low in
+    let e = last_is bytes c.split_at-in-loop-at.result.0.now line at c.last_line_start-last.result c.split_at-in-loop-at.ensures.front c.split_at-in-loop-at-2.ensures.back
+    c.last_line_start-last.ensures.cuts in
+    let blank : is_blank_line line ≡ true = ap (λ x. length x == 0) (sym c.line_content-before.ensures) ∙ sym c.is_empty.ensures ∙ c.if-is_empty.true in
+    let low : c.last_line_start-last.result ≤ at = omega (arith, c.last_line_start-last.ensures.within, c.split_at-in-loop-at.ensures.front_len) in
+    let s = found_state bytes line at c.last_line_start-last.result (front_on bytes c.loop-at.at c.in-Some.lf c.loop-at.invariant.1 f.fits f.here_lf f.none) e blank low in
     let rest = c.split_at-in-loop-at.ensures.back in
     let says : separator_of (content c.split_at-then-is_empty.result.0.now) ≡ Some c.in-Some-separator.envelope = ap separator_of (sym c.line_content-content.ensures)
     ∙ sym c.in-Some-separator.ensures.value in
-    c.split_at-in-loop-at-2.ensures.front ∙ ap (take c.last_line-last.result) c.split_at-in-loop-at.ensures.front ∙ take-take c.last_line-last.result at bytes low
+    c.split_at-in-loop-at-2.ensures.front ∙ ap (take c.last_line_start-last.result) c.split_at-in-loop-at.ensures.front ∙ take-take c.last_line_start-last.result at bytes low
     ∙ text_here bytes at c.line_end-len.result c.split_at-then-is_empty.result.0.now (rw rest at c.split_at-then-is_empty.ensures.front)
     (omega (arith, c.line_end-len.ensures.within, c.split_at-in-loop-at.ensures.back_len)) (rw rest at c.line_end-len.ensures.cuts)
-    c.last_line-last.result c.in-Some-separator.envelope s says
+    c.last_line_start-last.result c.in-Some-separator.envelope s says
 
 pub returns-in-Some-separator-clause-items : goal.returns-in-Some-separator-clause-items
 returns-in-Some-separator-clause-items c =
@@ -82,16 +83,17 @@ returns-in-Some-separator-clause-items c =
     let at = c.loop-at.at + (c.in-Some.lf + 1) in
     let f = found bytes c.split_at.result.1.now c.loop-at.at c.in-Some.lf c.split_at.ensures.back c.loop-at.invariant.0 c.in-Some.ensures in
     let line = c.split_at-in-loop-at-2.result.1.now in
-    let e = last_is bytes c.split_at-in-loop-at.result.0.now line at c.last_line-last.result c.split_at-in-loop-at.ensures.front c.split_at-in-loop-at-2.ensures.back c.last_line-last.ensures.cuts in
-    let blank : is_blank line ≡ true = ap (λ x. length x == 0) (sym c.line_content-before.ensures) ∙ sym c.is_empty.ensures ∙ c.if-is_empty.true in
-    let low : c.last_line-last.result ≤ at = omega (arith, c.last_line-last.ensures.within, c.split_at-in-loop-at.ensures.front_len) in
-    let s = found_state bytes line at c.last_line-last.result (front_on bytes c.loop-at.at c.in-Some.lf c.loop-at.invariant.1 f.fits f.here_lf f.none) e blank low in
+    let e = last_is bytes c.split_at-in-loop-at.result.0.now line at c.last_line_start-last.result c.split_at-in-loop-at.ensures.front c.split_at-in-loop-at-2.ensures.back
+    c.last_line_start-last.ensures.cuts in
+    let blank : is_blank_line line ≡ true = ap (λ x. length x == 0) (sym c.line_content-before.ensures) ∙ sym c.is_empty.ensures ∙ c.if-is_empty.true in
+    let low : c.last_line_start-last.result ≤ at = omega (arith, c.last_line_start-last.ensures.within, c.split_at-in-loop-at.ensures.front_len) in
+    let s = found_state bytes line at c.last_line_start-last.result (front_on bytes c.loop-at.at c.in-Some.lf c.loop-at.invariant.1 f.fits f.here_lf f.none) e blank low in
     let rest = c.split_at-in-loop-at.ensures.back in
     let says : separator_of (content c.split_at-then-is_empty.result.0.now) ≡ Some c.in-Some-separator.envelope = ap separator_of (sym c.line_content-content.ensures)
     ∙ sym c.in-Some-separator.ensures.value in
     let h = items_here bytes at c.line_end-len.result c.split_at-then-is_empty.result.0.now (rw rest at c.split_at-then-is_empty.ensures.front)
     (omega (arith, c.line_end-len.ensures.within, c.split_at-in-loop-at.ensures.back_len)) (rw rest at c.line_end-len.ensures.cuts)
-    c.last_line-last.result c.in-Some-separator.envelope s says in
+    c.last_line_start-last.result c.in-Some-separator.envelope s says in
     rw (c.split_at-then-is_empty.ensures.back, rest) h
 
 pub loop-at-preserved : goal.loop-at-preserved
@@ -100,8 +102,9 @@ loop-at-preserved c =
     let at = c.loop-at.at + (c.in-Some.lf + 1) in
     let f = found bytes c.split_at.result.1.now c.loop-at.at c.in-Some.lf c.split_at.ensures.back c.loop-at.invariant.0 c.in-Some.ensures in
     let line = c.split_at-in-loop-at-2.result.1.now in
-    let e = last_is bytes c.split_at-in-loop-at.result.0.now line at c.last_line-last.result c.split_at-in-loop-at.ensures.front c.split_at-in-loop-at-2.ensures.back c.last_line-last.ensures.cuts in
-    let says : is_blank line ≡ c.is_empty.result = ap (λ x. length x == 0) (sym c.line_content-before.ensures) ∙ sym c.is_empty.ensures in
+    let e = last_is bytes c.split_at-in-loop-at.result.0.now line at c.last_line_start-last.result c.split_at-in-loop-at.ensures.front c.split_at-in-loop-at-2.ensures.back
+    c.last_line_start-last.ensures.cuts in
+    let says : is_blank_line line ≡ c.is_empty.result = ap (λ x. length x == 0) (sym c.line_content-before.ensures) ∙ sym c.is_empty.ensures in
     let rest = c.split_at-in-loop-at.ensures.back in
     let refused : Refused line (lines (drop at bytes)) = elim c.if-is_empty.branch [
       | then-is_empty+in_default w ↦ inr (
@@ -112,4 +115,4 @@ loop-at-preserved c =
       )
       | else-is_empty w ↦ inl (says ∙ w.if-is_empty.false)
     ] in
-    (f.fits, calm_next bytes line at c.last_line-last.result (front_on bytes c.loop-at.at c.in-Some.lf c.loop-at.invariant.1 f.fits f.here_lf f.none) e refused)
+    (f.fits, calm_next bytes line at c.last_line_start-last.result (front_on bytes c.loop-at.at c.in-Some.lf c.loop-at.invariant.1 f.fits f.here_lf f.none) e refused)

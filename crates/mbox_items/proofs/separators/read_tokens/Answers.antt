@@ -1,5 +1,5 @@
 use Rattle.std.proofs.Common.{◌≡◌, ◌∷◌, [], ap, ◌∙◌, sym}
-use Rattle.mbox_items.specs.Separator.{tokens, envelope_of, arrival_of, sent_by_one, sent_by_two}
+use Rattle.mbox_items.specs.Separator.{tokens, envelope_of, arrival_of, envelope_of_one_token, envelope_of_two_tokens}
 use Rattle.mbox_items.proofs.SeparatorLemmas.{chain_1, chain_2, chain_3, chain_4, chain_5, chain_6, chain_7, chain_8, chain_9, few_0, few_1}
 use Rattle.mbox_items.proofs.SeparatorLemmas.{few_2, few_3, few_4, few_5, six, seven, eight, nine, many, empty_from, some_from}
 use Rattle.mbox_items.proofs.separators.read_tokens.Goals as goal
@@ -34,7 +34,7 @@ returns-in_err-sixth c = c.from_residual-in_err-sixth.ensures ∙ sym (ap envelo
 
 pub returns-in_default : goal.returns-in_default
 returns-in_default c =
-    c.by_one.ensures ∙ ap (λ when. sent_by_one c.in_ok-first.first.now when) c.read_arrival-arrival.ensures
+    c.by_one.ensures ∙ ap (λ when. envelope_of_one_token c.in_ok-first.first.now when) c.read_arrival-arrival.ensures
     ∙ sym (ap envelope_of (chain_6 c.args.text.now c.in_ok-first.text.now c.in_ok-second.text.now c.in_ok-third.text.now c.in_ok-fourth.text.now c.in_ok-fifth.text.now
     c.in_ok-sixth.text.now c.in_ok-first.first.now c.in_ok-second.second.now c.in_ok-third.third.now c.in_ok-fourth.fourth.now c.in_ok-fifth.fifth.now
     c.in_ok-sixth.sixth.now _ c.in_ok-first.ensures c.in_ok-second.ensures c.in_ok-third.ensures c.in_ok-fourth.ensures c.in_ok-fifth.ensures c.in_ok-sixth.ensures
@@ -42,7 +42,7 @@ returns-in_default c =
 
 pub returns-in_default-first_token : goal.returns-in_default-first_token
 returns-in_default-first_token c =
-    c.by_one-in_default-first_token.ensures ∙ ap (λ when. sent_by_one c.in_ok-first.first.now when)
+    c.by_one-in_default-first_token.ensures ∙ ap (λ when. envelope_of_one_token c.in_ok-first.first.now when)
     (c.read_arrival-arrival-in_default-first_token.ensures ∙ ap (λ east. arrival_of c.in_ok-second.second.now c.in_ok-third.third.now c.in_ok-fourth.fourth.now
     c.in_ok-fifth.fifth.now east c.in-Some.seventh.now) c.zone.ensures.value)
     ∙ sym (ap envelope_of (chain_7 c.args.text.now c.in_ok-first.text.now c.in_ok-second.text.now c.in_ok-third.text.now c.in_ok-fourth.text.now c.in_ok-fifth.text.now
@@ -53,7 +53,7 @@ returns-in_default-first_token c =
 
 pub returns-in_default-first_token-2 : goal.returns-in_default-first_token-2
 returns-in_default-first_token-2 c =
-    c.by_two.ensures ∙ ap (λ when. sent_by_two c.in_ok-first.first.now c.in_ok-second.second.now c.in_ok-third.third.now when) c.read_arrival-arrival-in_default-first_token-2.ensures
+    c.by_two.ensures ∙ ap (λ when. envelope_of_two_tokens c.in_ok-first.first.now c.in_ok-second.second.now c.in_ok-third.third.now when) c.read_arrival-arrival-in_default-first_token-2.ensures
     ∙ sym (ap envelope_of (chain_8 c.args.text.now c.in_ok-first.text.now c.in_ok-second.text.now c.in_ok-third.text.now c.in_ok-fourth.text.now c.in_ok-fifth.text.now
     c.in_ok-sixth.text.now c.in-Some.text.now c.in-Some-first_token.text.now c.in_ok-first.first.now c.in_ok-second.second.now c.in_ok-third.third.now
     c.in_ok-fourth.fourth.now c.in_ok-fifth.fifth.now c.in_ok-sixth.sixth.now c.in-Some.seventh.now c.in-Some-first_token.eighth.now _ c.in_ok-first.ensures
@@ -77,7 +77,7 @@ pub returns : goal.returns
 returns c =
     let none = empty_from c.first_token-10.result (tokens c.in-Some-first_token-2.text.now ≡ []) (λ p. tokens c.in-Some-first_token-2.text.now ≡ p.0.now ∷ tokens p.1.now)
     c.first_token-10.ensures (sym c.is_some.ensures ∙ c.if-is_some.false) in
-    c.by_two-2.ensures ∙ ap (λ when. sent_by_two c.in_ok-first.first.now c.in_ok-second.second.now c.in_ok-third.third.now when)
+    c.by_two-2.ensures ∙ ap (λ when. envelope_of_two_tokens c.in_ok-first.first.now c.in_ok-second.second.now c.in_ok-third.third.now when)
     (c.read_arrival-arrival-2.ensures ∙ ap (λ east. arrival_of c.in_ok-fourth.fourth.now c.in_ok-fifth.fifth.now c.in_ok-sixth.sixth.now c.in-Some.seventh.now
     east c.in-Some-first_token-2.ninth.now) c.zone-2.ensures.value)
     ∙ sym (ap envelope_of (chain_9 c.args.text.now c.in_ok-first.text.now c.in_ok-second.text.now c.in_ok-third.text.now c.in_ok-fourth.text.now c.in_ok-fifth.text.now

@@ -1,6 +1,6 @@
 use Rattle.std.proofs.Common.{◌≡◌, ◌∙◌, ◌<◌, ap, arith, ℕ, ℤ, pos, ◌+ℤ◌, ◌-ℤ◌, ◌*ℤ◌, to_z, of_z, w32, w64, FitsSigned}
 use Rattle.std.proofs.lemmas.Int.{ints}
-use Rattle.civil_time.specs.Calendar.{instant_at}
+use Rattle.civil_time.specs.Calendar.{checked_instant}
 use Rattle.mbox_items.proofs.SeparatorLemmas.{instant_is}
 use Rattle.mbox_items.proofs.tokens.read_instant.Goals as goal
 
@@ -13,5 +13,5 @@ fits64 day seconds east d s e = omega (arith, ints, d, s, e)
 pub returns : goal.returns
 returns c =
     c.new.ensures
-    ∙ ap instant_at (fits64 c.args.day c.args.seconds c.args.east c.ranges.day c.requires c.ranges.east)
+    ∙ ap checked_instant (fits64 c.args.day c.args.seconds c.args.east c.ranges.day c.requires c.ranges.east)
     ∙ instant_is c.args.day c.args.seconds c.args.east

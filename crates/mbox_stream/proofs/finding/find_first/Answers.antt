@@ -2,7 +2,7 @@ use Rattle.std.proofs.Common.{◌≡◌, ◌≤◌, [], length, drop, ℕ, ◌==
 use Rattle.std.proofs.lemmas.List.{drop_all}
 use Rattle.mail_core.specs.Lines.{content}
 use Rattle.mbox_core.specs.Separator.{separator_of}
-use Rattle.mbox_core.specs.Division.{is_blank}
+use Rattle.mbox_core.specs.Division.{is_blank_line}
 use Rattle.mbox_stream.specs.Stream.{settled_bytes}
 use Rattle.mbox_stream.proofs.WindowLemmas.{settled_nil}
 use Rattle.mbox_stream.proofs.FindLemmas.{found_line, found_no_line}
@@ -42,12 +42,12 @@ returns-in-None-separator-clause-faulty c =
     let line = c.split_at-in-loop-at.result.0.now in
     let l = found_line c.args.bytes.now c.split_at.result.1.now line c.loop-at.at c.in-Some.end c.split_at.ensures.back c.split_at-in-loop-at.ensures.front c.in-Some.ensures in
     let says : separator_of (content line) ≡ None = ap separator_of (sym c.line_content-content.ensures) ∙ sym c.in-None-separator.ensures.value in
-    let blank : is_blank line ≡ c.is_empty.result = ap (λ x. length x == 0) (sym c.line_content-content.ensures) ∙ sym c.is_empty.ensures in
+    let blank : is_blank_line line ≡ c.is_empty.result = ap (λ x. length x == 0) (sym c.line_content-content.ensures) ∙ sym c.is_empty.ensures in
     faulty c.args.bytes.now c.loop-at.at c.in-Some.end c.loop-at.invariant line l.is l.long l.alone l.ended (blank ∙ c.if-not-is_empty.true) says
 
 pub loop-at-preserved : goal.loop-at-preserved
 loop-at-preserved c =
     let line = c.split_at-in-loop-at.result.0.now in
     let l = found_line c.args.bytes.now c.split_at.result.1.now line c.loop-at.at c.in-Some.end c.split_at.ensures.back c.split_at-in-loop-at.ensures.front c.in-Some.ensures in
-    let blank : is_blank line ≡ c.is_empty.result = ap (λ x. length x == 0) (sym c.line_content-content.ensures) ∙ sym c.is_empty.ensures in
+    let blank : is_blank_line line ≡ c.is_empty.result = ap (λ x. length x == 0) (sym c.line_content-content.ensures) ∙ sym c.is_empty.ensures in
     blanks_more c.args.bytes.now c.loop-at.at c.in-Some.end c.loop-at.invariant line l.is l.long l.alone l.ended (blank ∙ c.if-not-is_empty.false)

@@ -1,6 +1,6 @@
 use Rattle.std.proofs.Common.{◌≡◌, ◌<◌, ◌≤◌, ◌+◌, ◌-◌, length, max, ℕ, List, arith, refl, subst, rules}
 use Rattle.mbox_core.specs.Separator.{Envelope}
-use Rattle.mbox_stream.specs.Window.{IsHeading, IsText}
+use Rattle.mbox_stream.specs.Window.{SeparatesAfterBlankLine, IsNonSeparatingLine}
 use Rattle.mbox_stream.proofs.FindLemmas.{found_mark, found_none, none_more, open_more, found_line, found_no_line, text_looked, next_found}
 use Rattle.mbox_stream.proofs.finding.find_next.Goals as goal
 
@@ -39,7 +39,7 @@ returns-in-Some-heading_of-clause-next c =
     let l = found_line bytes c.split_at-in-loop-at.result.1.now line (p + 1) c.in-Some-memchr.end c.split_at-in-loop-at.ensures.back c.split_at-in-loop-at-2.ensures.front c.in-Some-memchr.ensures in
     let text = c.in-Some-heading_of.heading.text.now in
     let next : Envelope = c.in-Some-heading_of.heading.envelope in
-    let H : List ℕ → Type 0 = λ x. IsHeading x line text next in
+    let H : List ℕ → Type 0 = λ x. SeparatesAfterBlankLine x line text next in
     next_found bytes c.loop-at.at c.loop-at.invariant p m c.in-Some-memchr.end (p + 1 + (c.in-Some-memchr.end + 1)) line l.is l.long refl l.alone l.ended
     text next (subst H c.split_at-in-loop-at.ensures.front c.in-Some-heading_of.ensures.some)
 
@@ -50,6 +50,6 @@ loop-at-preserved c =
     let p = c.loop-at.at + c.in-Some.lf in
     let line = c.split_at-in-loop-at-2.result.0.now in
     let l = found_line bytes c.split_at-in-loop-at.result.1.now line (p + 1) c.in-Some-memchr.end c.split_at-in-loop-at.ensures.back c.split_at-in-loop-at-2.ensures.front c.in-Some-memchr.ensures in
-    let T : List ℕ → Type 0 = λ x. IsText x line in
+    let T : List ℕ → Type 0 = λ x. IsNonSeparatingLine x line in
     text_looked bytes c.loop-at.at c.loop-at.invariant p m c.in-Some-memchr.end (p + 1 + (c.in-Some-memchr.end + 1)) line l.is l.long refl l.alone l.ended
     (subst T c.split_at-in-loop-at.ensures.front c.in_default.ensures.none)

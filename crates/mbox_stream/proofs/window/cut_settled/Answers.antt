@@ -3,7 +3,7 @@ use Rattle.mbox_core.specs.Division.{Item}
 use Rattle.mbox_core.specs.Separator.{Envelope}
 use Rattle.mbox_items.proofs.SplitLemmas.{one}
 use Rattle.mbox_stream.specs.Stream.{IsBeginning, settled_items}
-use Rattle.mbox_stream.specs.Window.{IsWindow, IsNext}
+use Rattle.mbox_stream.specs.Window.{IsOpenMessageWindow, CutsAtFirstSeparator}
 use Rattle.mbox_stream.proofs.KeptLemmas.{looked_start, window_next, window_begin, begin_self, begin_more, start_next}
 use Rattle.mbox_stream.proofs.window.cut_settled.Goals as goal
 
@@ -27,11 +27,11 @@ loop-from-preserved c =
     let taken : List Item = c.args.taken.now.items in
     let waiting : List Item = c.loop-from.waiting.items in
     let e : Envelope = c.loop-from.head.envelope in
-    let N : List ℕ → Type 0 = λ x. IsNext x len text next in
+    let N : List ℕ → Type 0 = λ x. CutsAtFirstSeparator x len text next in
     let n = subst N c.split_at.ensures.back c.in-Next.ensures.next in
     let w = window_next e next c.args.stream.now.bytes bytes text start len taken waiting c.loop-from.invariant.window n in
-    let W : Envelope → Type 0 = λ x. IsWindow x c.args.stream.now.bytes (drop (start + len) bytes) (taken ++ (waiting ++ one e text ∷ [])) in
-    let I : List Item → Type 0 = λ x. IsWindow c.in-Ok.opened.envelope c.args.stream.now.bytes (drop (start + len) bytes) (taken ++ x) in
+    let W : Envelope → Type 0 = λ x. IsOpenMessageWindow x c.args.stream.now.bytes (drop (start + len) bytes) (taken ++ (waiting ++ one e text ∷ [])) in
+    let I : List Item → Type 0 = λ x. IsOpenMessageWindow c.in-Ok.opened.envelope c.args.stream.now.bytes (drop (start + len) bytes) (taken ++ x) in
     let G : List Item → Type 0 = λ x. IsBeginning c.args.waiting.now.items x in
     record {
       low = start_next bytes text start len next c.loop-from.invariant.low n;

@@ -2,7 +2,7 @@ use Rattle.std.proofs.Common.{◌≡◌, ◌++◌, [], length, ℕ, List, arith,
 use Rattle.mbox_core.specs.Division.{Item}
 use Rattle.memchr.specs.Find.{Nowhere, Passes, is_byte}
 use Rattle.mbox_stream.specs.Stream.{settled_bytes}
-use Rattle.mbox_stream.specs.Kept.{IsKept}
+use Rattle.mbox_stream.specs.Kept.{IsWindowAtPlace}
 use Rattle.mbox_stream.specs.declared.window.Place.{Place}
 use Rattle.mbox_stream.proofs.WindowLemmas.{settled_none}
 use Rattle.mbox_stream.proofs.KeptLemmas.{kept_short, kept_on, settled_on}
@@ -31,5 +31,5 @@ settle_message-requires-clause-looked c =
     let items : List Item = c.args.taken.now.items ++ c.args.waiting.now.items in
     let k = kept_on c.args.window.place c.args.window.bytes.items c.extend_from_slice.new.self.items c.args.stream.now.bytes c.requires.0 c.args.piece.now items
     c.requires.1 c.in-Ok.ensures.items c.requires.2 in
-    let K : Place → Type 0 = λ p. IsKept p c.extend_from_slice.new.self.items c.args.stream.now.bytes items in
+    let K : Place → Type 0 = λ p. IsWindowAtPlace p c.extend_from_slice.new.self.items c.args.stream.now.bytes items in
     (subst K c.in-Message.is k).1

@@ -2,12 +2,12 @@ use Rattle.std.proofs.Common.{◌∙◌, rules, tests}
 use Rattle.std.proofs.lemmas.Iterator.{YieldsList-from_slice}
 use Rattle.std.proofs.lemmas.Iterator.Search.{all_from_yields_List}
 use Rattle.toml.specs.View.{view}
-use Rattle.policy_core.specs.Written.{is_table}
+use Rattle.policy_core.specs.Written.{is_table_value}
 use Rattle.policy_core.proofs.ListLemmas.{list_all-map}
 use Rattle.policy_core.proofs.reading.are_tables.Goals as goal
 
 pub returns : goal.returns
 returns c =
-    all_from_yields_List (λ v. is_table (view v)) _ _ _ c.all.ensures.ran (YieldsList-from_slice c.args.values.now (cc))
+    all_from_yields_List (λ v. is_table_value (view v)) _ _ _ c.all.ensures.ran (YieldsList-from_slice c.args.values.now (cc))
     (λ x b q k. search (rules, tests))
-    ∙ list_all-map view is_table c.args.values.now
+    ∙ list_all-map view is_table_value c.args.values.now

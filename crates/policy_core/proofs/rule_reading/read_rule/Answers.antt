@@ -1,6 +1,6 @@
 use Rattle.std.proofs.Common.{refl, sym, ap, map, ◌∙◌}
 use Rattle.std.proofs.lemmas.Result.{err_from_is_err_and}
-use Rattle.policy_core.specs.Stated.{stated}
+use Rattle.policy_core.specs.Stated.{stated_condition}
 use Rattle.policy_core.specs.Written.{has_no_day, rule_refusal, rule_of}
 use Rattle.policy_core.proofs.TreeLemmas.{rule_rest}
 use Rattle.policy_core.proofs.rule_reading.read_rule.Goals as goal
@@ -30,12 +30,12 @@ returns-in_err-conditions c =
 pub returns-then-has_no_day : goal.returns-then-has_no_day
 returns-then-has_no_day c = λ _.
     rule_rest c.args.number _ _ _ _ (sym c.if-not-has_rule_keys.ensures) c.in_ok-name.ensures.0 c.in_ok-allows.ensures.0 c.in_ok-conditions.ensures
-    (c.if-has_no_day.ensures ∙ ap (λ conditions. has_no_day (map stated conditions)) c.deref.ensures.value)
+    (c.if-has_no_day.ensures ∙ ap (λ conditions. has_no_day (map stated_condition conditions)) c.deref.ensures.value)
 
 pub returns : goal.returns
 unfolding rule_of
 returns c = (
   rule_rest c.args.number _ _ _ _ (sym c.if-not-has_rule_keys.ensures) c.in_ok-name.ensures.0 c.in_ok-allows.ensures.0 c.in_ok-conditions.ensures
-      (c.if-has_no_day.ensures ∙ ap (λ conditions. has_no_day (map stated conditions)) c.deref.ensures.value),
+      (c.if-has_no_day.ensures ∙ ap (λ conditions. has_no_day (map stated_condition conditions)) c.deref.ensures.value),
   rw (c.in_ok-name.ensures.1, c.in_ok-allows.ensures.1, c.in_ok-conditions.ensures.1) refl,
 )

@@ -1,6 +1,6 @@
 use Rattle.std.proofs.Common.{◌≡◌, Ok}
 use Rattle.policy_core.specs.Written.{written_policy}
-use Rattle.sift_run.specs.declared.faults.RunFault.TheVariants.{Policy}
+use Rattle.sift_run.specs.declared.faults.CommandError.TheVariants.{Policy}
 use Rattle.sift_run.proofs.ResultLemmas.{ok_as}
 use Rattle.sift_run.proofs.policies.read_policy.Goals as goal
 

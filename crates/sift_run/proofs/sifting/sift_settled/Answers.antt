@@ -6,9 +6,9 @@ pub loop-reads-init : goal.loop-reads-init
 loop-reads-init g c = record {
   so_far = so_far_start _ _ _ _ c.args.cutter.now c.requires.0 c.requires.1;
   reads = omega arith;
-  read_well = refl;
+  no_read_failed = refl;
   ends = refl;
-  wrote_well = refl;
+  no_write_failed = refl;
 }
 
 pub returns-in-Err-clause-stopped : goal.returns-in-Err-clause-stopped
@@ -20,8 +20,8 @@ returns-in-Err-clause-stopped g c =
       unread = unread_fault _ _ _ _ _ _ _ _ s _ r.0 _ r.1 r.2 c.in-Err.fault c.in-Err.ensures.fault.0
           (λ h. c.read_from.ensures.closed.0 (c.in-Err.is ∙ ap Err h) s.goes_on)
           (λ h. (c.read_from.ensures.none (inr (c.in-Err.is ∙ ap Err h))).0);
-      of_read = of_read_fault c.read_from.result c.in-Err.fault _ _ _ c.in-Err.is i.read_well c.read_from.ensures.faults;
-      of_write = i.wrote_well;
+      matches_read_failures = of_read_fault c.read_from.result c.in-Err.fault _ _ _ c.in-Err.is i.no_read_failed c.read_from.ensures.faults;
+      matches_write_failures = i.no_write_failed;
     }
 
 pub returns-in-Err-write_waiting-clause-stopped : goal.returns-in-Err-write_waiting-clause-stopped
@@ -32,11 +32,11 @@ returns-in-Err-write_waiting-clause-stopped g c =
     let w = c.in-Err-write_waiting.ensures in
     record {
       unread = tt;
-      of_read = search rules;
-      of_write = (
+      matches_read_failures = search rules;
+      matches_write_failures = (
         part_open _ _ _ _ _ _ _ _ s _ r.0 _ r.1 r.2 c.read_from.new.self _ _ _ refl c.read_from.ensures.taken c.in-Ok-true.ensures.open c.read_from.ensures.given
             w.some w.fault c.saturating_add.ensures,
-        omega (arith, i.wrote_well, w.cause),
+        omega (arith, i.no_write_failed, w.cause),
       );
     }
 
@@ -51,7 +51,7 @@ loop-reads-preserved g c =
           (w.taken.0 ∙ ap (λ x. x ++ c.read_from.new.self.waiting) c.read_from.ensures.taken) w.taken.1
           (c.write_waiting.ensures.phase ∙ c.in-Ok-true.ensures.open) c.write_waiting.ensures.given w.ok w.count c.saturating_add-before.ensures;
       reads = omega (arith, i.reads, c.read_from.ensures.some (c.in-Ok-true.is ∙ ap Ok c.in-Ok-true.field-0-test), ap length w.stream);
-      read_well = search rules;
+      no_read_failed = search rules;
       ends = search rules;
-      wrote_well = w.quiet ∙ i.wrote_well;
+      no_write_failed = w.quiet ∙ i.no_write_failed;
     }

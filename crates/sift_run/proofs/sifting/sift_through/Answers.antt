@@ -10,19 +10,19 @@ returns-in-Err-finish-clause-stopped g c =
       unread = end_fault _ _ _ _ _ _ c.sift_settled.new.cutter _ s _ [] c.finish.new.self.stream (sym (append-nil _)) (c.finish.ensures.stream ∙ sym (append-nil _))
           fault c.in-Err-finish.ensures.fault.0
           (λ h. c.finish.ensures.closed.0 (c.in-Err-finish.is ∙ ap Err h) s.goes_on);
-      of_read = of_read_end _ fault _ _ c.in-Err-finish.ensures.fault.0 c.in-Ok.ensures.ended.1;
-      of_write = c.in-Ok.ensures.ended.2;
+      matches_read_failures = of_read_end _ fault _ _ c.in-Err-finish.ensures.fault.0 c.in-Ok.ensures.ended.1;
+      matches_write_failures = c.in-Ok.ensures.ended.2;
     }
 
 pub returns-in-Ok-write_waiting-clause-done : goal.returns-in-Ok-write_waiting-clause-done
 returns-in-Ok-write_waiting-clause-done g c =
     let s = c.in-Ok.ensures.ok in
     record {
-      sifts = told_end _ _ _ _ _ _ c.sift_settled.new.cutter _ s _ [] c.finish.new.self.stream (sym (append-nil _)) (c.finish.ensures.stream ∙ sym (append-nil _))
+      filters_transcript = told_end _ _ _ _ _ _ c.sift_settled.new.cutter _ s _ [] c.finish.new.self.stream (sym (append-nil _)) (c.finish.ensures.stream ∙ sym (append-nil _))
           c.finish.new.self _ refl c.finish.ensures.taken c.in-Ok-finish.ensures.finished c.finish.ensures.given c.in-Ok-write_waiting.ensures.ok;
       ended = c.in-Ok.ensures.ended.0;
-      read_well = c.in-Ok.ensures.ended.1;
-      wrote_well = c.in-Ok-write_waiting.ensures.quiet ∙ c.in-Ok.ensures.ended.2;
+      no_read_failed = c.in-Ok.ensures.ended.1;
+      no_write_failed = c.in-Ok-write_waiting.ensures.quiet ∙ c.in-Ok.ensures.ended.2;
     }
 
 pub returns-in-Err-write_waiting-clause-stopped : goal.returns-in-Err-write_waiting-clause-stopped
@@ -31,8 +31,8 @@ returns-in-Err-write_waiting-clause-stopped g c =
     let w = c.in-Err-write_waiting.ensures in
     record {
       unread = tt;
-      of_read = c.in-Ok.ensures.ended.1;
-      of_write = (
+      matches_read_failures = c.in-Ok.ensures.ended.1;
+      matches_write_failures = (
         part_end _ _ _ _ _ _ c.sift_settled.new.cutter _ s _ [] c.finish.new.self.stream (sym (append-nil _)) (c.finish.ensures.stream ∙ sym (append-nil _))
             c.finish.new.self _ _ _ refl c.finish.ensures.taken c.in-Ok-finish.ensures.finished c.finish.ensures.given w.fault c.saturating_add.ensures,
         omega (arith, c.in-Ok.ensures.ended.2, w.cause),

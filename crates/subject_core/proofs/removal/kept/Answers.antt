@@ -1,12 +1,12 @@
 use Rattle.std.proofs.Common.{◌∙◌, sym, ap, ◌+◌, ◌-◌, ◌<◌, ◌≤◌, length, arith, ◌||◌}
-use Rattle.subject_core.specs.Removal.{left}
+use Rattle.subject_core.specs.Removal.{stripped_subject}
 use Rattle.subject_core.proofs.Parts.{whole, part_is}
 use Rattle.subject_core.proofs.Loops.{turn_same, turn_done, turn_pair, turn_less, turn_part, pair_less, pair_part, marked-none}
-use Rattle.subject_core.specs.BaseSubject.{rest_of}
+use Rattle.subject_core.specs.BaseSubject.{after_all_removals}
 use Rattle.subject_core.proofs.removal.kept.Goals as goal
 
 pub loop-inner-init : goal.loop-inner-init
-loop-inner-init c = record { same = sym (marked-none (rest_of c.args.text.now)); part = whole c.args.text.now }
+loop-inner-init c = record { same = sym (marked-none (after_all_removals c.args.text.now)); part = whole c.args.text.now }
 
 pub returns-in_default-clause-same : goal.returns-in_default-clause-same
 returns-in_default-clause-same c =
@@ -19,7 +19,7 @@ returns-in_default-clause-same c =
     let m = c.loop-inner.reply || (p || q) in
     turn_done t begun m (turn_same t rest ended begun c.loop-inner.reply p q c.loop-inner.invariant.same c.without_trailers-ended.ensures c.without_fronts-begun.ensures)
     c.without_fronts-begun.ensures.no_trailer c.without_fronts-begun.ensures.none c.in_default.ensures
-    ∙ ap (left m) (sym (part_is t begun (c.loop-inner.from + (length ended - length begun))
+    ∙ ap (stripped_subject m) (sym (part_is t begun (c.loop-inner.from + (length ended - length begun))
     (turn_part t rest ended begun c.loop-inner.from p q c.loop-inner.invariant.part c.without_trailers-ended.ensures c.without_fronts-begun.ensures)))
 
 pub loop-inner-smaller : goal.loop-inner-smaller

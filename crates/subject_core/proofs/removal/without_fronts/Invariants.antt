@@ -1,11 +1,11 @@
 use Rattle.std.proofs.Common.{◌≡◌, ℕ, List, ◌++◌, length, None}
 use Rattle.subject_core.specs.Removal.{without_trailer}
-use Rattle.subject_core.specs.BaseSubject.{marked, rest_of}
+use Rattle.subject_core.specs.BaseSubject.{with_earlier_reply, after_all_removals}
 use Rattle.subject_core.proofs.removal.without_fronts.Given as goal
 
 abbrev pub invariant-loop-shorter : goal.invariant-loop-shorter
 invariant-loop-shorter l = record {
-  same : rest_of l.text ≡ marked l.reply (rest_of l.rest);
+  same : after_all_removals l.text ≡ with_earlier_reply l.reply (after_all_removals l.rest);
   within : (leader : List ℕ) × (l.text ≡ leader ++ l.rest);
   no_trailer : without_trailer l.rest ≡ None;
 }

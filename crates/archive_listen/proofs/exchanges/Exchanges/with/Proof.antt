@@ -17,7 +17,7 @@ use denote.Triple.Walked.{Stays, says, stay_none_ref, Goes-none_ref, ends_at}
 use Rattle.archive_listen.specs.Connections.{exchange}
 use Rattle.archive_listen.specs.declared.exchanges.Exchanges.{Exchanges}
 use Rattle.archive_listen.specs.contracts.exchanges.Exchanges.{the_row as R}
-use Rattle.byte_device.specs.contracts.told.Told.{the_row as T}
+use Rattle.byte_device.specs.contracts.told.Transcript.{the_row as T}
 use Rattle.archive_listen.specs.contracts.exchanges.Exchanges.with as f
 use Rattle.archive_listen.proofs.exchanges.Exchanges.with.Statement.{statement}
 use Rattle.archive_listen.proofs.exchanges.Exchanges.with.Code as code

@@ -1,21 +1,23 @@
 use Rattle.std.proofs.Common.{◌≡◌, rules}
-use Rattle.archive_listen.specs.Connections.{telling}
-use Rattle.archive_serve.specs.Pages.{outcome_of}
+use Rattle.archive_listen.specs.Connections.{connection_transcript}
+use Rattle.archive_serve.specs.Pages.{connection_result_of}
 use Rattle.archive_serve.proofs.KeptLemmas.{answers_kept}
 use Rattle.archive_serve.proofs.pages.PageServiceServiceStore.answer.Goals.{in-Ok, in-Err-Read, in-Err-Write, in-Err-Broken}
 use Rattle.archive_serve.proofs.pages.PageServiceServiceStore.answer.Goals as goal
 
 pub returns : goal.returns
 returns g c =
-    let answer = c.answer_kept-answered in
-    let ends : c.match-answered.result ≡ outcome_of answer.result = elim c.match-answered.branch [
+    let answer = c.answer_cached-answered in
+    let ends : c.match-answered.result ≡ connection_result_of answer.result = elim c.match-answered.branch [
       | in-Ok w ↦ search rules
       | in-Err-Read w ↦ search rules
       | in-Err-Write w ↦ search rules
       | in-Err-Broken w ↦ search rules
     ] in
     rw (← c.self.view_is) (answers_kept g.S.Store c.self.inside.pages answer.new.pages c.args.state.now answer.new.store
-    (telling (g.R.Source.told c.args.input.now) (g.R.Source.ends c.args.input.now) (g.R.Source.failures c.args.input.now) (g.W.Sink.told c.args.output.now) (g.W.Sink.failures c.args.output.now))
-    (telling (g.R.Source.told answer.new.input) (g.R.Source.ends answer.new.input) (g.R.Source.failures answer.new.input) (g.W.Sink.told answer.new.output) (g.W.Sink.failures answer.new.output))
+    (connection_transcript (g.R.Source.told c.args.input.now) (g.R.Source.ends c.args.input.now) (g.R.Source.failures c.args.input.now) (g.W.Sink.told c.args.output.now)
+    (g.W.Sink.failures c.args.output.now))
+    (connection_transcript (g.R.Source.told answer.new.input) (g.R.Source.ends answer.new.input) (g.R.Source.failures answer.new.input) (g.W.Sink.told answer.new.output)
+    (g.W.Sink.failures answer.new.output))
     answer.result c.match-answered.result ends answer.ensures.answered answer.ensures.keeps answer.ensures.ends.stays answer.ensures.ends.quiet answer.ensures.ends.cause
     answer.ensures.caused answer.ensures.unrouted)

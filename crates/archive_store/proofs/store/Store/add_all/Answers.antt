@@ -1,12 +1,12 @@
 use Rattle.std.proofs.Common.{rules, arith, refl, sym, ◌∙◌, None}
 use Rattle.sqlite.specs.Held.{state}
 use Rattle.archive_tables.specs.Tables.{archive_of}
-use Rattle.archive_port.specs.Replies.{refusal}
+use Rattle.archive_port.specs.Replies.{refusal_of_fault}
 use Rattle.archive_store.proofs.BatchLemmas.{counted_at, none_added, first_taken}
 use Rattle.archive_store.proofs.FindLemmas.{is_listed, not_counted}
 use Rattle.archive_tables.proofs.LastLemmas.{lasts_then}
 use Rattle.std.proofs.Common.{inl, inr, take}
-use Rattle.archive_machine.specs.Runs.{taken}
+use Rattle.archive_model.specs.Runs.{taken}
 use Rattle.archive_store.proofs.RunLemmas.{run_nothing}
 use Rattle.archive_store.proofs.CrashLemmas.{added_crash, asked_safe, broken_crash, stays_safe}
 use Rattle.archive_port.specs.declared.faults.StoreFault.TheVariants as faults
@@ -17,7 +17,7 @@ pub returns-in-Err-clause-step : goal.returns-in-Err-clause-step
 returns-in-Err-clause-step g c = λ clean kept.
     let first = state g.S.Store c.args.self.now.conn in
     let now = state g.S.Store c.count.new.self.conn in
-    none_added (refusal c.in-Err.fault) first now c.args.list.now c.args.items.now (not_counted first first now c.args.list.now (refusal c.in-Err.fault) refl
+    none_added (refusal_of_fault c.in-Err.fault) first now c.args.list.now c.args.items.now (not_counted first first now c.args.list.now (refusal_of_fault c.in-Err.fault) refl
     (c.in-Err.ensures.same clean kept) (c.in-Err.ensures.answer clean kept))
 
 pub loop-done-init : goal.loop-done-init

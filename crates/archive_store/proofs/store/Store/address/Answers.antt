@@ -2,12 +2,12 @@ use Rattle.std.proofs.Common.{◌≡◌, ◌∷◌, [], sym, subst, ◌∙◌, �
 use Rattle.std.specs.Prelude.{find, option_map, string_bytes, IsUtf8}
 use Rattle.std.specs.Option.{IsSomeAnd}
 use Rattle.sqlite.specs.Held.{state}
-use Rattle.archive_machine.specs.Records.{Archive}
-use Rattle.archive_machine.specs.Commands.{no_person}
-use Rattle.archive_machine.specs.Questions.{is_address_of, address_of, person_refusal}
+use Rattle.archive_model.specs.Records.{Archive}
+use Rattle.archive_model.specs.Commands.{no_person}
+use Rattle.archive_model.specs.Questions.{is_address_of, address_of, person_refusal}
 use Rattle.archive_tables.specs.Tables.{archive_of}
-use Rattle.archive_tables.specs.Calls.{IsCaused}
-use Rattle.archive_port.specs.Wanting.{IsWant}
+use Rattle.archive_tables.specs.Calls.{IsMemoryOrDiskError}
+use Rattle.archive_port.specs.Wanting.{IsMemoryRefusal}
 use Rattle.archive_port.proofs.WantLemmas.{raises_after}
 use Rattle.archive_store.proofs.ReadingLemmas.{is_person}
 use Rattle.archive_store.proofs.CauseLemmas.{by_error, by_address}
@@ -30,7 +30,7 @@ returns-clause-ends g c = record {
   was_open = open_last g.S.Store c.args.self.now.conn c.has_person-known.new.conn c.find_address-found.new.conn c.find_address-found.result c.pass-2.result
       c.pass-2.ensures.passed c.has_person-known.ensures.ends.lasts c.find_address-found.ensures.ends.lasts c.find_address-found.ensures.ends.was_open;
   kind = kind_last c.pass-2.result (no_person ∷ []) c.pass-2.ensures.kind;
-  counted = raises_after IsWant _ _ _ c.pass-2.result c.in_ok-pass.ensures.counted.0.0 c.pass-2.ensures.counted.0;
+  counted = raises_after IsMemoryRefusal _ _ _ c.pass-2.result c.in_ok-pass.ensures.counted.0.0 c.pass-2.ensures.counted.0;
   caused = λ clean kept free.
       let person = c.args.person.now in
       let old = state g.S.Store c.args.self.now.conn in
@@ -41,7 +41,7 @@ returns-clause-ends g c = record {
       let has = passed_over c.has_person-known.ensures c.in_ok-pass.ensures.passed (found.ends.lasts.returned clean) kept in
       blamed_last c.find_address-found.result c.pass-2.result _ _ c.pass-2.ensures.passed (found.caused clean has.1.0 (lasts.limit ∙ free))
       (λ e why it.
-      let here = subst (λ (a : Archive). IsCaused mid new e ⊎ IsSomeAnd (find (is_address_of person) a.addresses) (λ x. ¬ IsUtf8 x.address)) (archive_stays has.1.1) why in
+      let here = subst (λ (a : Archive). IsMemoryOrDiskError mid new e ⊎ IsSomeAnd (find (is_address_of person) a.addresses) (λ x. ¬ IsUtf8 x.address)) (archive_stays has.1.1) why in
       by_address old mid new e (find (is_address_of person) (archive_of old).addresses) lasts here it);
 }
 

@@ -3,44 +3,44 @@ use Rattle.std.specs.Prelude.{OnOk}
 use Rattle.sqlite.specs.Held.{state}
 use Rattle.sqlite.specs.State.{HasCleanDisk}
 use Rattle.sqlite_disk.specs.Disk.{MoreFaults}
-use Rattle.archive_database.specs.Adopting.{MayBeTaken, IsNotTaken}
+use Rattle.archive_database.specs.Adopting.{MayBeAdopted, IsAdoptionRefused}
 use Rattle.std.proofs.Common.{None}
 use Rattle.archive_store.proofs.AdoptLemmas.{refused_by, has_version}
 use Rattle.archive_store.proofs.CauseLemmas.{is_database}
 use Rattle.archive_store.proofs.CrashLemmas.{adopts_as, adopts_at, none_held}
-use Rattle.archive_store.proofs.store.Store.adopt.Goals.{then-has_nothing, else-has_nothing}
+use Rattle.archive_store.proofs.store.Store.adopt.Goals.{then-is_empty_database, else-is_empty_database}
 use Rattle.archive_store.proofs.store.Store.adopt.Goals as goal
 
 pub returns-in-Ok-clause-adopted : goal.returns-in-Ok-clause-adopted
 returns-in-Ok-clause-adopted g c =
-    elim c.if-has_nothing.branch [
-      | then-has_nothing w ↦ record {
+    elim c.if-is_empty_database.branch [
+      | then-is_empty_database w ↦ record {
         made = search rules;
         found = search rules;
         brought = search rules;
-        objects = inl (c.has_nothing.ensures.0 w.if-has_nothing.true);
+        objects = inl (c.is_empty_database.ensures.0 w.if-is_empty_database.true);
         version = search rules;
         rows = search rules;
         returned = search rules;
-        crash = adopts_as g.S.Store c.args.connection w.make_tables-done.new.conn c.if-has_nothing.conn c.set_step_limit.new.self None w.conn-is c.set_step_limit.ensures
+        crash = adopts_as g.S.Store c.args.connection w.make_tables-done.new.conn c.if-is_empty_database.conn c.set_step_limit.new.self None w.conn-is c.set_step_limit.ensures
             (record {
               made = w.make_tables-done.ensures.crash;
               brought = λ number known held. absurd
-                  (none_held number (state g.S.Store c.args.connection) (c.has_nothing.ensures.0 w.if-has_nothing.true) held);
+                  (none_held number (state g.S.Store c.args.connection) (c.is_empty_database.ensures.0 w.if-is_empty_database.true) held);
             });
         lasts = search rules;
         unlimited = search rules;
       }
-      | else-has_nothing w ↦ record {
+      | else-is_empty_database w ↦ record {
         made = search rules;
         found = search rules;
         brought = search rules;
-        objects = subst (λ r. OnOk r (MayBeTaken (state g.S.Store c.args.connection).now.schema)) (sym w.done-is ∙ c.in-Ok.is) w.take_over-done.ensures.objects;
+        objects = subst (λ r. OnOk r (MayBeAdopted (state g.S.Store c.args.connection).now.schema)) (sym w.done-is ∙ c.in-Ok.is) w.migrate_tables-done.ensures.objects;
         version = search rules;
         rows = search rules;
         returned = search rules;
-        crash = adopts_as g.S.Store c.args.connection w.take_over-done.new.conn c.if-has_nothing.conn c.set_step_limit.new.self None w.conn-is c.set_step_limit.ensures
-            (record { made = λ empty. absurd (let is = c.has_nothing.ensures.1 empty in let none = w.if-has_nothing.false in cc); brought = w.take_over-done.ensures.crash });
+        crash = adopts_as g.S.Store c.args.connection w.migrate_tables-done.new.conn c.if-is_empty_database.conn c.set_step_limit.new.self None w.conn-is c.set_step_limit.ensures
+            (record { made = λ empty. absurd (let is = c.is_empty_database.ensures.1 empty in let none = w.if-is_empty_database.false in cc); brought = w.migrate_tables-done.ensures.crash });
         lasts = search rules;
         unlimited = search rules;
       }
@@ -48,47 +48,47 @@ returns-in-Ok-clause-adopted g c =
 
 pub returns-in-Err-clause-refused : goal.returns-in-Err-clause-refused
 returns-in-Err-clause-refused g c =
-    elim c.if-has_nothing.branch [
-      | then-has_nothing w ↦ record {
+    elim c.if-is_empty_database.branch [
+      | then-is_empty_database w ↦ record {
         left = search rules;
         undone = search rules;
-        as_before = search rules;
+        rows_restored = search rules;
         foreign = search rules;
         why = search rules;
         caused = λ clean idle understood free store.
             let old = state g.S.Store c.args.connection in
             let clean_1 = subst (λ h. HasCleanDisk (state g.S.Store h)) w.conn-is clean in
-            let premise = c.has_nothing.ensures.0 w.if-has_nothing.true in
+            let premise = c.is_empty_database.ensures.0 w.if-is_empty_database.true in
             let why = refused_by old (state g.S.Store w.make_tables-done.new.conn) _ c.in-Err.fault _ (sym w.done-is ∙ c.in-Err.is)
             (w.make_tables-done.ensures.ends.caused clean_1 (idle, premise) free) (is_database _ (search rules)) in
-            subst (λ h. MoreFaults old.faults (state g.S.Store h).faults ⊎ IsNotTaken old.now) (sym w.conn-is) (elim why [ inl more ↦ inl more | inr refused ↦ absurd refused ]);
+            subst (λ h. MoreFaults old.faults (state g.S.Store h).faults ⊎ IsAdoptionRefused old.now) (sym w.conn-is) (elim why [ inl more ↦ inl more | inr refused ↦ absurd refused ]);
         fault = search rules;
         returned = search rules;
-        crash = adopts_at g.S.Store c.args.connection w.make_tables-done.new.conn c.if-has_nothing.conn w.conn-is
+        crash = adopts_at g.S.Store c.args.connection w.make_tables-done.new.conn c.if-is_empty_database.conn w.conn-is
             (record {
               made = w.make_tables-done.ensures.crash;
               brought = λ number known held. absurd
-                  (none_held number (state g.S.Store c.args.connection) (c.has_nothing.ensures.0 w.if-has_nothing.true) held);
+                  (none_held number (state g.S.Store c.args.connection) (c.is_empty_database.ensures.0 w.if-is_empty_database.true) held);
             });
         lasts = search rules;
       }
-      | else-has_nothing w ↦ record {
+      | else-is_empty_database w ↦ record {
         left = search rules;
         undone = search rules;
-        as_before = search rules;
+        rows_restored = search rules;
         foreign = search rules;
         why = search rules;
         caused = λ clean idle understood free store.
             let old = state g.S.Store c.args.connection in
             let clean_1 = subst (λ h. HasCleanDisk (state g.S.Store h)) w.conn-is clean in
-            let premise = has_version (λ empty. let is = c.has_nothing.ensures.1 empty in let none = w.if-has_nothing.false in cc) understood in
-            let why = refused_by old (state g.S.Store w.take_over-done.new.conn) _ c.in-Err.fault _ (sym w.done-is ∙ c.in-Err.is)
-            (w.take_over-done.ensures.ends.caused clean_1 (idle, premise) free) (is_database _ (search rules)) in
-            subst (λ h. MoreFaults old.faults (state g.S.Store h).faults ⊎ IsNotTaken old.now) (sym w.conn-is) why;
+            let premise = has_version (λ empty. let is = c.is_empty_database.ensures.1 empty in let none = w.if-is_empty_database.false in cc) understood in
+            let why = refused_by old (state g.S.Store w.migrate_tables-done.new.conn) _ c.in-Err.fault _ (sym w.done-is ∙ c.in-Err.is)
+            (w.migrate_tables-done.ensures.ends.caused clean_1 (idle, premise) free) (is_database _ (search rules)) in
+            subst (λ h. MoreFaults old.faults (state g.S.Store h).faults ⊎ IsAdoptionRefused old.now) (sym w.conn-is) why;
         fault = search rules;
         returned = search rules;
-        crash = adopts_at g.S.Store c.args.connection w.take_over-done.new.conn c.if-has_nothing.conn w.conn-is
-            (record { made = λ empty. absurd (let is = c.has_nothing.ensures.1 empty in let none = w.if-has_nothing.false in cc); brought = w.take_over-done.ensures.crash });
+        crash = adopts_at g.S.Store c.args.connection w.migrate_tables-done.new.conn c.if-is_empty_database.conn w.conn-is
+            (record { made = λ empty. absurd (let is = c.is_empty_database.ensures.1 empty in let none = w.if-is_empty_database.false in cc); brought = w.migrate_tables-done.ensures.crash });
         lasts = search rules;
       }
     ]

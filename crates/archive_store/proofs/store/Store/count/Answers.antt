@@ -1,10 +1,10 @@
 use Rattle.std.proofs.Common.{rules, ◌≡◌, ◌∷◌, [], length, sym, ◌∙◌}
 use Rattle.sqlite.specs.Held.{state}
-use Rattle.archive_machine.specs.Commands.{no_list}
-use Rattle.archive_machine.specs.Questions.{list_refusal, messages_in}
+use Rattle.archive_model.specs.Commands.{no_list}
+use Rattle.archive_model.specs.Questions.{list_refusal, messages_in}
 use Rattle.archive_tables.specs.Tables.{archive_of}
 use Rattle.archive_tables.proofs.RunLemmas.{on_fault}
-use Rattle.archive_port.specs.Wanting.{IsWant}
+use Rattle.archive_port.specs.Wanting.{IsMemoryRefusal}
 use Rattle.archive_store.proofs.ReadingLemmas.{is_there}
 use Rattle.archive_store.proofs.CauseLemmas.{more_since}
 use Rattle.archive_port.proofs.WantLemmas.{raises_after}
@@ -40,7 +40,7 @@ returns-clause-ends g c = record {
   lasts = search rules;
   was_open = search rules;
   kind = search rules;
-  counted = raises_after IsWant _ _ _ c.pass.result c.in_ok-has_list.ensures.ends.counted.0 c.pass.ensures.counted.0;
+  counted = raises_after IsMemoryRefusal _ _ _ c.pass.result c.in_ok-has_list.ensures.ends.counted.0 c.pass.ensures.counted.0;
   caused = λ clean kept free.
       let has = c.in_ok-has_list.ensures.answer (c.count_messages-count.ensures.ends.lasts.returned clean) kept in
       let old = state g.S.Store c.args.self.now.conn in

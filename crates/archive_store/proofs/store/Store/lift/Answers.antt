@@ -1,5 +1,5 @@
 use Rattle.std.proofs.Common.{refl}
-use Rattle.archive_machine.specs.Commands.{lift, was_there}
+use Rattle.archive_model.specs.Commands.{lift, was_there}
 use Rattle.archive_store.proofs.CarryLemmas.{called}
 use Rattle.archive_store.proofs.store.Store.lift.Goals as goal
 

@@ -1,7 +1,7 @@
 use Rattle.std.proofs.Common.{rules, refl, ◌∙◌, inl, inr, Err}
 use Rattle.std.specs.Prelude.{IsUtf8}
 use Rattle.sqlite.specs.Held.{state}
-use Rattle.archive_machine.proofs.OrderLemmas.{names_are}
+use Rattle.archive_model.proofs.OrderLemmas.{names_are}
 use Rattle.archive_tables.specs.Tables.{archive_of}
 use Rattle.std.proofs.lemmas.List.Sorted.{All-permutation}
 use Rattle.archive_store.proofs.PassLemmas.{passed_answer, passed_unanswered}

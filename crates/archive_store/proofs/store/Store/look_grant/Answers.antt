@@ -1,4 +1,4 @@
-use Rattle.archive_machine.specs.Machine.{nothing}
+use Rattle.archive_model.specs.Machine.{no_command_facts}
 use Rattle.archive_store.proofs.CarryLemmas.{looks_then, looks_say, looks_stop}
 use Rattle.archive_store.proofs.store.Store.look_grant.Goals as goal
 
@@ -15,4 +15,4 @@ returns-in_err-grant g c = looks_stop g.S.Store c.from_residual-in_err-grant.res
 
 pub returns : goal.returns
 returns g c = looks_say g.S.Store (looks_then g.S.Store (looks_then g.S.Store c.in_ok-is_known.ensures c.in_ok-is_there.ensures) c.in_ok-grant.ensures)
-    (λ a it. λ i. record nothing { person = it.0.0 i; list = it.0.1 i; grant = it.1 i })
+    (λ a it. λ i. record no_command_facts { person = it.0.0 i; list = it.0.1 i; grant = it.1 i })

@@ -1,6 +1,6 @@
 use Rattle.std.proofs.Common.{◌∙◌, ap}
-use Rattle.archive_machine.specs.Questions.{message_of}
-use Rattle.archive_store.specs.Carrying.{found_marks}
+use Rattle.archive_model.specs.Questions.{message_of}
+use Rattle.archive_store.specs.Carrying.{facts_from_marks_row}
 use Rattle.archive_store.proofs.CarryLemmas.{looks_then, looks_say, looks_stop, message_found}
 use Rattle.archive_store.proofs.store.Store.look_message.Goals as goal
 
@@ -13,4 +13,4 @@ returns-in_err-marks g c = looks_stop g.S.Store c.from_residual-in_err-marks.res
 
 pub returns : goal.returns
 returns g c = looks_say g.S.Store (looks_then g.S.Store c.in_ok-is_there.ensures c.in_ok-marks.ensures)
-    (λ a it. c.found_by.ensures ∙ ap (λ list. found_marks list c.in_ok-marks.marks) it.0 ∙ ap (found_marks _) it.1 ∙ message_found _ (message_of a c.args.list.now c.args.key.now))
+    (λ a it. c.found_by.ensures ∙ ap (λ list. facts_from_marks_row list c.in_ok-marks.marks) it.0 ∙ ap (facts_from_marks_row _) it.1 ∙ message_found _ (message_of a c.args.list.now c.args.key.now))

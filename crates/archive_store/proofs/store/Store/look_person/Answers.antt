@@ -1,4 +1,4 @@
-use Rattle.archive_machine.specs.Machine.{nothing}
+use Rattle.archive_model.specs.Machine.{no_command_facts}
 use Rattle.archive_store.proofs.CarryLemmas.{looks_then, looks_say, looks_stop}
 use Rattle.archive_store.proofs.store.Store.look_person.Goals as goal
 
@@ -10,4 +10,4 @@ returns-in_err-is_taken g c = looks_stop g.S.Store c.from_residual-in_err-is_tak
     (looks_then g.S.Store c.in_ok-is_known.ensures c.in_err-is_taken.ensures) c.from_residual-in_err-is_taken.ensures.1
 
 pub returns : goal.returns
-returns g c = looks_say g.S.Store (looks_then g.S.Store c.in_ok-is_known.ensures c.in_ok-is_taken.ensures) (λ a it. λ i. record nothing { person = it.0 i; token = it.1 i })
+returns g c = looks_say g.S.Store (looks_then g.S.Store c.in_ok-is_known.ensures c.in_ok-is_taken.ensures) (λ a it. λ i. record no_command_facts { person = it.0 i; token = it.1 i })

@@ -1,8 +1,8 @@
 use Rattle.std.proofs.Common.{◌≡◌, true, sym, ◌∙◌, rules}
 use Rattle.std.specs.Prelude.{⊤, find, option_map}
 use Rattle.sqlite.specs.Held.{state}
-use Rattle.archive_machine.specs.Records.{ListOption}
-use Rattle.archive_machine.specs.Questions.{has_list, is_option_of}
+use Rattle.archive_model.specs.Records.{ListOption}
+use Rattle.archive_model.specs.Questions.{has_list, is_option_of}
 use Rattle.archive_tables.specs.Tables.{archive_of}
 use Rattle.archive_store.proofs.StepLemmas.{begins, asks}
 use Rattle.archive_store.proofs.ReadingLemmas.{is_there, merge_is}

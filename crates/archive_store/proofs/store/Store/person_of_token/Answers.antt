@@ -1,7 +1,7 @@
 use Rattle.std.proofs.Common.{rules}
 use Rattle.std.specs.Prelude.{bytes_eq, find}
 use Rattle.sqlite.specs.Held.{state}
-use Rattle.archive_machine.specs.Records.{Person}
+use Rattle.archive_model.specs.Records.{Person}
 use Rattle.archive_tables.specs.Tables.{archive_of}
 use Rattle.archive_tables.proofs.LastLemmas.{lasts_same}
 use Rattle.archive_store.proofs.PassLemmas.{open_last}

@@ -2,9 +2,9 @@ use Rattle.std.proofs.Common.{rules, ◌∷◌, [], ◌≡◌, Some, Err, sym, a
 use Rattle.std.specs.Prelude.{option_map}
 use Rattle.std.specs.Option.{IsSomeAnd}
 use Rattle.sqlite.specs.Held.{state}
-use Rattle.archive_machine.specs.Commands.{no_list}
-use Rattle.archive_machine.specs.Questions.{message_of}
-use Rattle.archive_tables.specs.Rows.{message_in}
+use Rattle.archive_model.specs.Commands.{no_list}
+use Rattle.archive_model.specs.Questions.{message_of}
+use Rattle.archive_tables.specs.Rows.{message_from_result_row}
 use Rattle.archive_tables.specs.Tables.{archive_of}
 use Rattle.archive_port.specs.Messages.{IsReadable}
 use Rattle.archive_store.proofs.ReadingLemmas.{is_there}
@@ -36,11 +36,11 @@ returns-in_ok-pass_fault-in-Some-clause-answer g c = λ clean kept.
     let a = archive_of (state g.S.Store c.args.self.now.conn) in
     let has = c.in_ok-has_list.ensures.answer (c.message-found.ensures.ends.lasts.returned clean) kept in
     let q = passed_answer c.message-found.ensures c.in_ok-row.ensures.passed clean has.0.0 in
-    let read = rw c.in_ok-pass_fault-in-Some.ensures.passed at c.read_or_fail.ensures.read in (
+    let read = rw c.in_ok-pass_fault-in-Some.ensures.passed at c.checked_message.ensures.read in (
       (q.1, q.2 ∙ has.0.1),
       is_there list a (sym c.if-not-branch.false ∙ has.2),
       ap Some (read list)
-          ∙ ap (option_map (message_in list)) (sym c.in-Some.is) ∙ q.0 ∙ ap (λ a. message_of a list c.as_str.result.now) has.0.1 ∙ ap (message_of a list) c.as_str.ensures,
+          ∙ ap (option_map (message_from_result_row list)) (sym c.in-Some.is) ∙ q.0 ∙ ap (λ a. message_of a list c.as_str.result.now) has.0.1 ∙ ap (message_of a list) c.as_str.ensures,
     )
 
 pub returns-in-None-clause-answer : goal.returns-in-None-clause-answer
@@ -51,7 +51,7 @@ returns-in-None-clause-answer g c = λ clean kept.
     let q = passed_answer c.message-found.ensures c.in_ok-row.ensures.passed clean has.0.0 in (
       (q.1, q.2 ∙ has.0.1),
       is_there list a (sym c.if-not-branch.false ∙ has.2),
-      ap (option_map (message_in list)) (sym c.in-None.is) ∙ q.0 ∙ ap (λ a. message_of a list c.as_str.result.now) has.0.1 ∙ ap (message_of a list) c.as_str.ensures,
+      ap (option_map (message_from_result_row list)) (sym c.in-None.is) ∙ q.0 ∙ ap (λ a. message_of a list c.as_str.result.now) has.0.1 ∙ ap (message_of a list) c.as_str.ensures,
     )
 
 pub returns-in_err-pass_fault-in-Some-clause-answer : goal.returns-in_err-pass_fault-in-Some-clause-answer
@@ -90,9 +90,9 @@ returns-in_err-pass_fault-in-Some-clause-ends g c = record {
       let a = archive_of (state g.S.Store c.args.self.now.conn) in
       let has = c.in_ok-has_list.ensures.answer (c.message-found.ensures.ends.lasts.returned clean) kept in
       let q = passed_answer c.message-found.ensures c.in_ok-row.ensures.passed clean has.0.0 in
-      let found : Some (message_in list c.in-Some.row) ≡ message_of a list c.args.key.now =
-      ap (option_map (message_in list)) (sym c.in-Some.is) ∙ q.0 ∙ ap (λ a. message_of a list c.as_str.result.now) has.0.1 ∙ ap (message_of a list) c.as_str.ensures in
+      let found : Some (message_from_result_row list c.in-Some.row) ≡ message_of a list c.args.key.now =
+      ap (option_map (message_from_result_row list)) (sym c.in-Some.is) ∙ q.0 ∙ ap (λ a. message_of a list c.as_str.result.now) has.0.1 ∙ ap (message_of a list) c.as_str.ensures in
       passed_on c.from_residual-in_err-pass_fault-in-Some.result c.in_err-pass_fault-in-Some.field-0.0 _ c.from_residual-in_err-pass_fault-in-Some.ensures.1
-      (blames_read c.read_or_fail.result (Err c.in_err-pass_fault-in-Some.field-0.0) _ c.in_err-pass_fault-in-Some.ensures.passed c.read_or_fail.ensures.unread
+      (blames_read c.checked_message.result (Err c.in_err-pass_fault-in-Some.field-0.0) _ c.in_err-pass_fault-in-Some.ensures.passed c.checked_message.ensures.unread
       (λ e unread is. inr (subst (λ o. IsSomeAnd o (λ m. ¬ IsReadable m)) found (unread.1 list))));
 }

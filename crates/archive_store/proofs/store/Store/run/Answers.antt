@@ -1,19 +1,19 @@
 use Rattle.std.proofs.Common.{rules, vec_len, ◌≡◌, ◌++◌, ◌∷◌, [], ◌+◌, map, length, length-append, take, refl, ap, sym, subst, ◌∙◌, arith}
 use Rattle.std.proofs.lemmas.List.{length-map, take_all}
 use Rattle.sqlite.specs.Held.{state}
-use Rattle.archive_machine.specs.Runs.{run}
+use Rattle.archive_model.specs.Runs.{run}
 use Rattle.archive_tables.specs.Tables.{archive_of}
-use Rattle.archive_port.specs.Commands.{command_of}
-use Rattle.archive_store.specs.Running.{answer_of, RanAll}
+use Rattle.archive_port.specs.Commands.{spec_command}
+use Rattle.archive_store.specs.CommandRuns.{outcome_reply, HasRunAllCommands}
 use Rattle.archive_store.proofs.RunLemmas.{run_nothing, ran_none, ran_next, ran_stop, first_commands, stops_run}
 use Rattle.archive_tables.proofs.LastLemmas.{lasts_then, lasts_same}
 use Rattle.std.proofs.Common.{◌⊎◌, inl, inr}
 use Rattle.sqlite_disk.specs.Disk.{MoreFaults}
 use Rattle.sqlite.specs.Effect.{Database}
-use Rattle.archive_store.specs.Refusals.{StopsRun}
+use Rattle.archive_store.specs.Refusals.{RowsRefuseNextCommand}
 use Rattle.archive_store.proofs.CauseLemmas.{more_since}
 use Rattle.archive_store.proofs.StopLemmas.{left_or_failed}
-use Rattle.archive_machine.specs.Machine.{step}
+use Rattle.archive_model.specs.Machine.{step}
 use Rattle.archive_store.proofs.RunLemmas.{next_archive}
 use Rattle.archive_store.proofs.CrashLemmas.{answered_safe, broken_run, ran_crash}
 use Rattle.archive_port.specs.declared.faults.StoreFault.TheVariants as faults
@@ -27,7 +27,7 @@ loop-command-init g c =
     let first = state g.S.Store c.args.self.now.conn in (
       ap length c.in-Ok.ensures.items,
       (λ clean. clean),
-      (λ clean kept. subst (λ outcomes. RanAll first (run (archive_of first) []) first outcomes) (sym c.in-Ok.ensures.items) (ran_none first kept)),
+      (λ clean kept. subst (λ outcomes. HasRunAllCommands first (run (archive_of first) []) first outcomes) (sym c.in-Ok.ensures.items) (ran_none first kept)),
       lasts_same _,
       omega arith,
       (λ clean kept safe. safe),
@@ -36,7 +36,7 @@ loop-command-init g c =
 pub returns-clause-step : goal.returns-clause-step
 returns-clause-step g c = λ clean kept.
     let first = state g.S.Store c.args.self.now.conn in
-    subst (λ commands. RanAll first (run (archive_of first) (map command_of commands)) (state g.S.Store c.loop-command.self.conn) c.loop-command.outcomes.items)
+    subst (λ commands. HasRunAllCommands first (run (archive_of first) (map spec_command commands)) (state g.S.Store c.loop-command.self.conn) c.loop-command.outcomes.items)
     (take_all c.loop-command.command-index c.args.commands.now c.loop-command-test.false) (c.loop-command.invariant.2 clean kept)
 
 pub returns-in-Err-carry_out-clause-step : goal.returns-in-Err-carry_out-clause-step
@@ -44,7 +44,7 @@ returns-in-Err-carry_out-clause-step g c = λ clean kept up.
     let first = state g.S.Store c.args.self.now.conn in
     let before = c.loop-command.invariant.2 (c.carry_out.ensures.ends.lasts.returned clean) kept in
     let at = c.loop-command.command-index in
-    let stopped = ran_stop first (state g.S.Store c.loop-command.self.conn) (state g.S.Store c.carry_out.new.self.conn) (map command_of (take at c.args.commands.now))
+    let stopped = ran_stop first (state g.S.Store c.loop-command.self.conn) (state g.S.Store c.carry_out.new.self.conn) (map spec_command (take at c.args.commands.now))
     c.loop-command.outcomes.items before (c.in-Err-carry_out.ensures.step clean before.0) up in
     let len : vec_len c.loop-command.outcomes ≡ length c.loop-command.outcomes.items = search rules in
     (stopped.0, stopped.1 ∙ ap (λ commands. (run (archive_of first) commands).archive) (sym (first_commands c.args.commands.now c.len.result at (c.len.ensures ∙ len ∙ c.loop-command.invariant.0))))
@@ -69,7 +69,7 @@ loop-command-preserved g c =
           let was = c.carry_out.ensures.ends.lasts.returned clean in
           let ran = c.loop-command.invariant.2 was kept in
           answered_safe g.S.Store c.loop-command.self.conn c.carry_out.new.self.conn (λ db up may. g.met.S.Store.settled c.carry_out.new.self.conn.store db up may)
-          (λ a. step a (command_of c.command-item.result)) (answer_of o) c.in-Ok-carry_out.ensures.told (c.in-Ok-carry_out.ensures.step clean ran.0)
+          (λ a. step a (spec_command c.command-item.result)) (outcome_reply o) c.in-Ok-carry_out.ensures.told (c.in-Ok-carry_out.ensures.step clean ran.0)
           (c.carry_out.ensures.crash ran.0) clean (c.loop-command.invariant.5 was kept safe)),
     )
 
@@ -136,7 +136,7 @@ returns-in-Err-carry_out-clause-ends g c = record {
       let lasts = c.carry_out.ensures.ends.lasts in
       let before = c.loop-command.invariant.2 (lasts.returned clean) kept in
       let len : vec_len c.loop-command.outcomes ≡ length c.loop-command.outcomes.items = search rules in
-      let Stops : Database → Type 0 = StopsRun (map command_of c.args.commands.now) c.len.result in
+      let Stops : Database → Type 0 = RowsRefuseNextCommand (map spec_command c.args.commands.now) c.len.result in
       let why : MoreFaults mid.faults new.faults ⊎ Stops new.now = elim (c.in-Err-carry_out.ensures.ends.caused clean before.0 (c.loop-command.invariant.3.limit ∙ free) it) [
         | inl more ↦ inl more
         | inr refused ↦ left_or_failed mid new Stops lasts clean before.0.is_open (λ up. (c.in-Err-carry_out.ensures.step clean before.0 up).1)
@@ -149,16 +149,16 @@ returns-in-Err-carry_out-clause-ends g c = record {
 -- ---- what a stop leaves
 
 pub returns-in-Err-clause-crash : goal.returns-in-Err-clause-crash
-returns-in-Err-clause-crash g c = broken_run g.S.Store c.args.self.now.conn c.args.self.now.conn (map command_of c.args.commands.now) _ 0 (omega arith) (omega arith)
+returns-in-Err-clause-crash g c = broken_run g.S.Store c.args.self.now.conn c.args.self.now.conn (map spec_command c.args.commands.now) _ 0 (omega arith) (omega arith)
     (λ clean kept safe db may.
     let first = state g.S.Store c.args.self.now.conn in
     (archive_of first, (0, omega arith, omega arith, run_nothing (archive_of first)), safe db may))
 
 pub returns-clause-crash : goal.returns-clause-crash
-returns-clause-crash g c = ran_crash g.S.Store c.args.self.now.conn c.loop-command.self.conn (map command_of c.args.commands.now) c.loop-command.outcomes
+returns-clause-crash g c = ran_crash g.S.Store c.args.self.now.conn c.loop-command.self.conn (map spec_command c.args.commands.now) c.loop-command.outcomes
     (λ clean kept.
     let first = state g.S.Store c.args.self.now.conn in
-    (subst (λ commands. RanAll first (run (archive_of first) (map command_of commands)) (state g.S.Store c.loop-command.self.conn) c.loop-command.outcomes.items)
+    (subst (λ commands. HasRunAllCommands first (run (archive_of first) (map spec_command commands)) (state g.S.Store c.loop-command.self.conn) c.loop-command.outcomes.items)
     (take_all c.loop-command.command-index c.args.commands.now c.loop-command-test.false) (c.loop-command.invariant.2 clean kept)).1)
     c.loop-command.invariant.5
 
@@ -171,8 +171,8 @@ returns-in-Err-carry_out-clause-crash g c =
     let done = c.len.result in
     let len : vec_len c.loop-command.outcomes ≡ length c.loop-command.outcomes.items = search rules in
     let done_is : done ≡ at = c.len.ensures ∙ len ∙ c.loop-command.invariant.0 in
-    let told = length-map c.args.commands.now command_of in
-    broken_run g.S.Store c.args.self.now.conn c.carry_out.new.self.conn (map command_of c.args.commands.now) _ (done + 1) (omega arith)
+    let told = length-map c.args.commands.now spec_command in
+    broken_run g.S.Store c.args.self.now.conn c.carry_out.new.self.conn (map spec_command c.args.commands.now) _ (done + 1) (omega arith)
     (omega (arith, done_is, told, c.loop-command-test.true)) (λ clean kept safe db may.
     let was = c.carry_out.ensures.ends.lasts.returned clean in
     let before = c.loop-command.invariant.2 was kept in
@@ -183,7 +183,7 @@ returns-in-Err-carry_out-clause-crash g c =
         c.loop-command.invariant.5 was kept safe db earlier,
       )
       | inr next ↦ (
-        (step (archive_of mid) (command_of d)).0,
+        (step (archive_of mid) (spec_command d)).0,
         (
           done + 1,
           omega arith,
@@ -206,8 +206,8 @@ returns-in-Err-push-clause-crash g c =
     let done = c.len-done.result + 1 in
     let len : vec_len c.loop-command.outcomes ≡ length outcomes = search rules in
     let done_is : c.len-done.result ≡ at = c.len-done.ensures ∙ len ∙ c.loop-command.invariant.0 in
-    let told = length-map c.args.commands.now command_of in
-    broken_run g.S.Store c.args.self.now.conn c.carry_out.new.self.conn (map command_of c.args.commands.now) _ done (omega arith)
+    let told = length-map c.args.commands.now spec_command in
+    broken_run g.S.Store c.args.self.now.conn c.carry_out.new.self.conn (map spec_command c.args.commands.now) _ done (omega arith)
     (omega (arith, done_is, told, c.loop-command-test.true)) (λ clean kept safe db may.
     let was = c.carry_out.ensures.ends.lasts.returned clean in
     let before = c.loop-command.invariant.2 was kept in
@@ -215,7 +215,7 @@ returns-in-Err-push-clause-crash g c =
     let ran = ran_next first mid new c.args.commands.now at c.command-item.result outcomes (outcomes ++ o ∷ []) o before
     c.in-Ok-carry_out.ensures.told steps (omega (arith, c.loop-command-test.true)) c.command-item.is refl in
     let last = answered_safe g.S.Store c.loop-command.self.conn c.carry_out.new.self.conn (λ db up may. g.met.S.Store.settled c.carry_out.new.self.conn.store db up may)
-    (λ a. step a (command_of c.command-item.result)) (answer_of o) c.in-Ok-carry_out.ensures.told steps
+    (λ a. step a (spec_command c.command-item.result)) (outcome_reply o) c.in-Ok-carry_out.ensures.told steps
     (c.carry_out.ensures.crash before.0) clean (c.loop-command.invariant.5 was kept safe) in (
       archive_of new,
       (

@@ -2,10 +2,10 @@ use Rattle.std.proofs.Common.{rules, ◌∷◌, [], Err, refl, sym, ap, ◌∙�
 use Rattle.std.specs.Prelude.{map, filter}
 use Rattle.std.proofs.lemmas.Int.{to_z-of_z}
 use Rattle.sqlite.specs.Held.{state}
-use Rattle.archive_machine.specs.Commands.{no_list, no_person}
-use Rattle.archive_machine.specs.Records.{Archive}
-use Rattle.archive_machine.specs.Questions.{has_list, is_grant_of}
-use Rattle.archive_tables.specs.Rows.{grant_shown}
+use Rattle.archive_model.specs.Commands.{no_list, no_person}
+use Rattle.archive_model.specs.Records.{Archive}
+use Rattle.archive_model.specs.Questions.{has_list, is_grant_of}
+use Rattle.archive_tables.specs.Rows.{grant_result_row}
 use Rattle.archive_tables.specs.Tables.{archive_of}
 use Rattle.archive_tables.proofs.LastLemmas.{lasts_then}
 use Rattle.archive_store.proofs.RankLemmas.{standing_is, is_answered}
@@ -81,7 +81,7 @@ returns-in-Some-clause-answer g c = λ clean kept.
       is_answered person list a (sym c.if-not-branch.false ∙ known.0) (sym c.if-not-branch-2.false ∙ has.2 ∙ ap (λ a. has_list a list) known.2),
       c.in-Some.ensures.some ∙ to_z-of_z w64 c.in_ok-rank.rank (record { sfits = assumption fits }) ∙ standing_is person list c.args.day day c.in_ok-rank.rank a
           (to_z-of_z w64 c.day_number.result (record { sfits = c.day_number.type_inv }) ∙ c.day_number.ensures)
-          (ranked (filter (is_grant_of person list) a.grants) (c.deref.ensures.value ∙ found.0 ∙ ap (λ (a : Archive). map grant_shown (filter (is_grant_of person list) a.grants)) same)),
+          (ranked (filter (is_grant_of person list) a.grants) (c.deref.ensures.value ∙ found.0 ∙ ap (λ (a : Archive). map grant_result_row (filter (is_grant_of person list) a.grants)) same)),
     )
 
 pub returns-clause-answer : goal.returns-clause-answer
@@ -154,7 +154,7 @@ returns-in_err-rank-clause-ends g c = record {
       passed_on c.from_residual-in_err-rank.result c.in_err-rank.field-0.0 _ c.from_residual-in_err-rank.ensures.1
       (blamed_last c.highest_rank.result (Err c.in_err-rank.field-0.0) _ _ c.in_err-rank.ensures.passed c.highest_rank.ensures.fault
       (λ e wants it. want_is_not e (wants (filter (is_grant_of person list) a.grants) (c.deref.ensures.value ∙ found.0
-      ∙ ap (λ (a : Archive). map grant_shown (filter (is_grant_of person list) a.grants)) (has.0.1 ∙ known.2))) it));
+      ∙ ap (λ (a : Archive). map grant_result_row (filter (is_grant_of person list) a.grants)) (has.0.1 ∙ known.2))) it));
 }
 
 pub returns-clause-ends : goal.returns-clause-ends
@@ -177,7 +177,8 @@ returns-clause-ends g c = record {
       inr (λ standing same. c.in-None.ensures.none refl standing (same ∙ sym (to_z-of_z w64 c.in_ok-rank.rank (record { sfits = assumption fits })
       ∙ standing_is person list c.args.day day c.in_ok-rank.rank a
       (to_z-of_z w64 c.day_number.result (record { sfits = c.day_number.type_inv }) ∙ c.day_number.ensures)
-      (ranked (filter (is_grant_of person list) a.grants) (c.deref.ensures.value ∙ found.0 ∙ ap (λ (a : Archive). map grant_shown (filter (is_grant_of person list) a.grants)) (has.0.1 ∙ known.2))))));
+      (ranked (filter (is_grant_of person list) a.grants) (c.deref.ensures.value ∙ found.0 ∙ ap (λ (a : Archive). map grant_result_row (filter (is_grant_of person list) a.grants))
+      (has.0.1 ∙ known.2))))));
 }
 
 -- ---- how it ends

@@ -1,9 +1,9 @@
 use Rattle.std.proofs.Common.{ap, sym, ◌∙◌, rules, inl}
 use Rattle.std.specs.Prelude.{◌≡◌, Some, None, slice_get, option_map, find}
-use Rattle.archive_machine.specs.Records.{Address}
-use Rattle.archive_machine.specs.Questions.{is_address_of}
+use Rattle.archive_model.specs.Records.{Address}
+use Rattle.archive_model.specs.Questions.{is_address_of}
 use Rattle.archive_tables.specs.Tables.{archive_of}
-use Rattle.archive_tables.specs.Rows.{name_shown}
+use Rattle.archive_tables.specs.Rows.{name_result_row}
 use Rattle.archive_tables.proofs.CauseLemmas.{read_fails_by, stays_rests}
 use Rattle.sqlite.specs.Held.{state}
 use Rattle.archive_tables.proofs.SelectLemmas.{first_found, none_found}
@@ -40,7 +40,7 @@ returns-in_err-read_name-in-Some g c =
     (λ clean behind k. stays_rests behind old new (found c.args.person.now old new k rows (rw c.params-to_sql.ensures at (c.in_ok-rows.ensures.ok clean))).1)
     (λ clean k free.
     let found = found c.args.person.now old new k rows (rw c.params-to_sql.ensures at (c.in_ok-rows.ensures.ok clean)) in
-    let it = first_found (is_address_of c.args.person.now) (λ (a : Address). name_shown a.address) _ rows found.0 c.in-Some.row.now first in
+    let it = first_found (is_address_of c.args.person.now) (λ (a : Address). name_result_row a.address) _ rows found.0 c.in-Some.row.now first in
     read_fails_by old new (λ (a : Address). a.address) (find (is_address_of c.args.person.now) (archive_of old).addresses) it.0 error it.1
     (c.in_err-read_name-in-Some.ensures.fault it.0.address it.2))
 
@@ -53,7 +53,7 @@ returns-in-Some g c =
     asks_answers _ _ asks c.query_all.result c.query_all.ensures.survives c.query_all.ensures.ok c.query_all.ensures.err _ rows c.in_ok-rows.ensures.ok
     (λ clean behind k.
     let found = found c.args.person.now old new k rows (rw c.params-to_sql.ensures at (c.in_ok-rows.ensures.ok clean)) in
-    let it = first_found (is_address_of c.args.person.now) (λ (a : Address). name_shown a.address) _ rows found.0 c.in-Some.row.now first in
+    let it = first_found (is_address_of c.args.person.now) (λ (a : Address). name_result_row a.address) _ rows found.0 c.in-Some.row.now first in
     (ap Some (c.in_ok-read_name-in-Some.ensures.read it.0.address it.2) ∙ sym (ap (option_map (λ (a : Address). a.address)) it.1), found.1))
 
 pub returns : goal.returns
@@ -65,4 +65,4 @@ returns g c =
     asks_answers _ _ asks c.query_all.result c.query_all.ensures.survives c.query_all.ensures.ok c.query_all.ensures.err _ rows c.in_ok-rows.ensures.ok
     (λ clean behind k.
     let found = found c.args.person.now old new k rows (rw c.params-to_sql.ensures at (c.in_ok-rows.ensures.ok clean)) in
-    (sym (ap (option_map (λ (a : Address). a.address)) (none_found (is_address_of c.args.person.now) (λ (a : Address). name_shown a.address) _ rows found.0 first)), found.1))
+    (sym (ap (option_map (λ (a : Address). a.address)) (none_found (is_address_of c.args.person.now) (λ (a : Address). name_result_row a.address) _ rows found.0 first)), found.1))

@@ -6,10 +6,10 @@ use Rattle.sqlite.specs.Effect.{Database}
 use Rattle.sqlite.specs.Order.{Row}
 use Rattle.sqlite.specs.Held.{state}
 use Rattle.sqlite.specs.State.{State, Shown, FailsToQuery}
-use Rattle.archive_tables.specs.Tables.{IsHeld, IsKept}
-use Rattle.archive_tables.specs.Rows.{place_shown}
+use Rattle.archive_tables.specs.Tables.{IsOpenArchive, IsArchiveAtRest}
+use Rattle.archive_tables.specs.Rows.{rowid_result_row}
 use Rattle.archive_tables.specs.Listed.{all_places}
-use Rattle.archive_tables.specs.Calls.{StaysOver, RestsOver, IsCaused}
+use Rattle.archive_tables.specs.Calls.{LeavesRowsUnchanged, FaultKeepsRowsOrRollsBack, IsMemoryOrDiskError}
 use Rattle.archive_tables.proofs.ListedLemmas.{places_text, all_found, none_found, none_found_caused}
 use Rattle.archive_tables.proofs.EndLemmas.{asks_rows_shows}
 use Rattle.sqlite_tied.specs.Compute.{everything}
@@ -22,14 +22,14 @@ asks : IsQuestionText (first (codes "SELECT pos FROM message ORDER BY list, pos"
 unfolding first everything
 asks = tt
 
-found : (behind : Option Database) (old new : State) (r : Result (Vec Row Global) Error) → IsHeld behind old
+found : (behind : Option Database) (old new : State) (r : Result (Vec Row Global) Error) → IsOpenArchive behind old
     → IfOk r (λ rows. Shown places_text [] old new rows.items) → IfErr r (FailsToQuery places_text [] old new)
-    → MatchResult r (λ rows. (rows.items ≡ map place_shown (all_places old.now.trees)) × StaysOver behind old new) (λ _. RestsOver behind old new)
+    → MatchResult r (λ rows. (rows.items ≡ map rowid_result_row (all_places old.now.trees)) × LeavesRowsUnchanged behind old new) (λ _. FaultKeepsRowsOrRollsBack behind old new)
 found behind old new (Ok rows) k ok err = all_found old new k rows.items ok
 found behind old new (Err e) k ok err = none_found old new k e err
 
-why : (old new : State) (r : Result (Vec Row Global) Error) → IsKept old → old.step_limit ≡ None
-    → IfErr r (FailsToQuery places_text [] old new) → IfErr r (λ e. IsCaused old new e ⊎ ⊥)
+why : (old new : State) (r : Result (Vec Row Global) Error) → IsArchiveAtRest old → old.step_limit ≡ None
+    → IfErr r (FailsToQuery places_text [] old new) → IfErr r (λ e. IsMemoryOrDiskError old new e ⊎ ⊥)
 why old new (Ok rows) k free err = tt
 why old new (Err e) k free err = inl (none_found_caused old new k e err free)
 

@@ -8,9 +8,9 @@ use Rattle.sqlite.specs.Effect.{Database}
 use Rattle.sqlite.specs.Order.{Row}
 use Rattle.sqlite.specs.Held.{state}
 use Rattle.sqlite.specs.State.{State, Shown, FailsToQuery}
-use Rattle.archive_tables.specs.Tables.{IsHeld, IsKept}
-use Rattle.archive_tables.specs.Listed.{filed_at, filed_shown}
-use Rattle.archive_tables.specs.Calls.{StaysOver, RestsOver, IsCaused}
+use Rattle.archive_tables.specs.Tables.{IsOpenArchive, IsArchiveAtRest}
+use Rattle.archive_tables.specs.Listed.{filed_at, indexed_result_row}
+use Rattle.archive_tables.specs.Calls.{LeavesRowsUnchanged, FaultKeepsRowsOrRollsBack, IsMemoryOrDiskError}
 use Rattle.archive_tables.proofs.ListedLemmas.{filed_text, filed_found, not_filed, not_filed_caused}
 use Rattle.archive_tables.proofs.EndLemmas.{asks_rows_shows}
 use Rattle.sqlite_tied.specs.Compute.{everything}
@@ -23,14 +23,15 @@ asks : IsQuestionText (first (codes "SELECT list, key, sender, arrival, text, se
 unfolding first everything
 asks = tt
 
-found : (behind : Option Database) (old new : State) (place : ℤ) (r : Result (Vec Row Global) Error) → IsHeld behind old
+found : (behind : Option Database) (old new : State) (place : ℤ) (r : Result (Vec Row Global) Error) → IsOpenArchive behind old
     → IfOk r (λ rows. Shown filed_text (Int place ∷ []) old new rows.items) → IfErr r (FailsToQuery filed_text (Int place ∷ []) old new)
-    → MatchResult r (λ rows. (slice_get rows.items 0 ≡ option_map filed_shown (filed_at old.now.trees place)) × StaysOver behind old new) (λ _. RestsOver behind old new)
+    → MatchResult r (λ rows. (slice_get rows.items 0 ≡ option_map indexed_result_row (filed_at old.now.trees place)) × LeavesRowsUnchanged behind old new)
+    (λ _. FaultKeepsRowsOrRollsBack behind old new)
 found behind old new place (Ok rows) k ok err = filed_found old new k place rows.items ok
 found behind old new place (Err e) k ok err = not_filed old new k place e err
 
-why : (old new : State) (place : ℤ) (r : Result (Vec Row Global) Error) → IsKept old → old.step_limit ≡ None
-    → IfErr r (FailsToQuery filed_text (Int place ∷ []) old new) → IfErr r (λ e. IsCaused old new e ⊎ ⊥)
+why : (old new : State) (place : ℤ) (r : Result (Vec Row Global) Error) → IsArchiveAtRest old → old.step_limit ≡ None
+    → IfErr r (FailsToQuery filed_text (Int place ∷ []) old new) → IfErr r (λ e. IsMemoryOrDiskError old new e ⊎ ⊥)
 why old new place (Ok rows) k free err = tt
 why old new place (Err e) k free err = inl (not_filed_caused old new k place e err free)
 

@@ -7,9 +7,9 @@ use Rattle.sqlite.specs.Effect.{Database}
 use Rattle.sqlite.specs.Order.{Row}
 use Rattle.sqlite.specs.Held.{state}
 use Rattle.sqlite.specs.State.{State, Shown, FailsToQuery}
-use Rattle.archive_tables.specs.Tables.{IsHeld, IsKept, archive_of}
-use Rattle.archive_tables.specs.Rows.{grant_shown}
-use Rattle.archive_tables.specs.Calls.{StaysOver, RestsOver, IsCaused}
+use Rattle.archive_tables.specs.Tables.{IsOpenArchive, IsArchiveAtRest, archive_of}
+use Rattle.archive_tables.specs.Rows.{grant_result_row}
+use Rattle.archive_tables.specs.Calls.{LeavesRowsUnchanged, FaultKeepsRowsOrRollsBack, IsMemoryOrDiskError}
 use Rattle.archive_tables.proofs.GrantLemmas.{both_text, of_person, not_of_person, not_of_person_caused}
 use Rattle.archive_tables.proofs.EndLemmas.{asks_shows}
 use Rattle.sqlite_tied.specs.Compute.{everything}
@@ -22,15 +22,15 @@ asks : IsQuestionText (first (codes "SELECT kind, from_day, until_day FROM grant
 unfolding first everything
 asks = tt
 
-asked : (behind : Option Database) (old new : State) (person list : List ℕ) (r : Result (Vec Row Global) Error) → IsHeld behind old
+asked : (behind : Option Database) (old new : State) (person list : List ℕ) (r : Result (Vec Row Global) Error) → IsOpenArchive behind old
     → IfOk r (λ rows. Shown both_text (Text person ∷ Text list ∷ []) old new rows.items) → IfErr r (FailsToQuery both_text (Text person ∷ Text list ∷ []) old new)
-    → MatchResult r (λ rows. (rows.items ≡ map grant_shown (filter (λ g. bytes_eq g.person person && bytes_eq g.list list) (archive_of old).grants)) × StaysOver behind old new)
-    (λ _. RestsOver behind old new)
+    → MatchResult r (λ rows. (rows.items ≡ map grant_result_row (filter (λ g. bytes_eq g.person person && bytes_eq g.list list) (archive_of old).grants)) × LeavesRowsUnchanged behind old new)
+    (λ _. FaultKeepsRowsOrRollsBack behind old new)
 asked behind old new person list (Ok rows) k ok err = of_person old new person list k rows.items ok
 asked behind old new person list (Err e) k ok err = not_of_person old new person list k e err
 
-why : (old new : State) (person list : List ℕ) (r : Result (Vec Row Global) Error) → IsKept old → old.step_limit ≡ None
-    → IfErr r (FailsToQuery both_text (Text person ∷ Text list ∷ []) old new) → IfErr r (λ e. IsCaused old new e ⊎ ⊥)
+why : (old new : State) (person list : List ℕ) (r : Result (Vec Row Global) Error) → IsArchiveAtRest old → old.step_limit ≡ None
+    → IfErr r (FailsToQuery both_text (Text person ∷ Text list ∷ []) old new) → IfErr r (λ e. IsMemoryOrDiskError old new e ⊎ ⊥)
 why old new person list (Ok rows) k free err = tt
 why old new person list (Err e) k free err = inl (not_of_person_caused old new person list k e err free)
 

@@ -9,9 +9,9 @@ use Rattle.sqlite.specs.Effect.{Database}
 use Rattle.sqlite.specs.Order.{Row}
 use Rattle.sqlite.specs.Held.{state}
 use Rattle.sqlite.specs.State.{State, Shown, FailsToQuery}
-use Rattle.archive_tables.specs.Tables.{IsHeld, IsKept, archive_of}
-use Rattle.archive_tables.specs.Rows.{name_shown}
-use Rattle.archive_tables.specs.Calls.{StaysOver, RestsOver, IsCaused}
+use Rattle.archive_tables.specs.Tables.{IsOpenArchive, IsArchiveAtRest, archive_of}
+use Rattle.archive_tables.specs.Rows.{name_result_row}
+use Rattle.archive_tables.specs.Calls.{LeavesRowsUnchanged, FaultKeepsRowsOrRollsBack, IsMemoryOrDiskError}
 use Rattle.archive_tables.proofs.NamesLemmas.{names_text, names_found, names_not_found, names_not_found_caused}
 use Rattle.archive_tables.proofs.EndLemmas.{asks_shows}
 use Rattle.sqlite_tied.specs.Compute.{everything}
@@ -24,15 +24,15 @@ asks : IsQuestionText (first (codes "SELECT name FROM list ORDER BY name"))
 unfolding first everything
 asks = tt
 
-asked : (behind : Option Database) (old new : State) (r : Result (Vec Row Global) Error) → IsHeld behind old
+asked : (behind : Option Database) (old new : State) (r : Result (Vec Row Global) Error) → IsOpenArchive behind old
     → IfOk r (λ rows. Shown names_text [] old new rows.items) → IfErr r (FailsToQuery names_text [] old new)
-    → MatchResult r (λ rows. ((names : List (List ℕ)) × (rows.items ≡ map name_shown names) × IsPermutation (archive_of old).lists names × IsSorted (slice_cmp nat_cmp) names)
-    × StaysOver behind old new) (λ _. RestsOver behind old new)
+    → MatchResult r (λ rows. ((names : List (List ℕ)) × (rows.items ≡ map name_result_row names) × IsPermutation (archive_of old).lists names × IsSorted (slice_cmp nat_cmp) names)
+    × LeavesRowsUnchanged behind old new) (λ _. FaultKeepsRowsOrRollsBack behind old new)
 asked behind old new (Ok rows) k ok err = names_found old new k rows.items ok
 asked behind old new (Err e) k ok err = names_not_found old new k e err
 
-why : (old new : State) (r : Result (Vec Row Global) Error) → IsKept old → old.step_limit ≡ None
-    → IfErr r (FailsToQuery names_text [] old new) → IfErr r (λ e. IsCaused old new e ⊎ ⊥)
+why : (old new : State) (r : Result (Vec Row Global) Error) → IsArchiveAtRest old → old.step_limit ≡ None
+    → IfErr r (FailsToQuery names_text [] old new) → IfErr r (λ e. IsMemoryOrDiskError old new e ⊎ ⊥)
 why old new (Ok rows) k free err = tt
 why old new (Err e) k free err = inl (names_not_found_caused old new k e err free)
 

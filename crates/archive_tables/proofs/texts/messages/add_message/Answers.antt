@@ -5,19 +5,19 @@ use Rattle.archive_tables.proofs.MessageLemmas.{tries_to_add}
 use Rattle.sqlite_tied.specs.Compute.{everything}
 use Rattle.sqlite_resolve.specs.Compile.{first}
 use Rattle.archive_tables.proofs.LastLemmas.{IsOurText}
-use Rattle.archive_machine.specs.Records.{Message, Filing}
-use Rattle.archive_tables.specs.Rows.{new_message}
+use Rattle.archive_model.specs.Records.{Message, IndexColumns}
+use Rattle.archive_tables.specs.Rows.{unmarked_message}
 use Rattle.sqlite.specs.Listing.{understood}
-use Rattle.archive_tables.specs.Statements.{adding_message}
+use Rattle.archive_tables.specs.Statements.{insert_message_statement}
 use Rattle.archive_tables.proofs.RefusalLemmas.{Knows}
 use Rattle.archive_tables.proofs.EndLemmas.{write_whole}
 use Rattle.archive_tables.proofs.texts.messages.add_message.Goals as goal
 
-knows : (m : Message) (f : Filing) → Knows (adding_message m f)
+knows : (m : Message) (f : IndexColumns) → Knows (insert_message_statement m f)
 unfolding understood everything
 knows m f = record { fits = (refl, refl); plain = (refl, refl); writes = tt }
 
-ours : (m : Message) (f : Filing) → IsOurText (first (adding_message m f).sql)
+ours : (m : Message) (f : IndexColumns) → IsOurText (first (insert_message_statement m f).sql)
 unfolding first everything
 ours m f = tt
 
@@ -26,11 +26,11 @@ returns g c =
     let number = c.params-to_sql-4.ensures ∙ ap Int (to_z-of_z w64 c.args.arrival c.ranges.arrival) in
     let date = c.params-to_sql-6.ensures ∙ ap Int (to_z-of_z w64 c.args.sent c.ranges.sent) in
     let month = c.params-to_sql-7.ensures ∙ ap Int (to_z-of_z w64 c.args.month c.ranges.month) in
-    write_whole (adding_message (new_message c.args.list.now c.args.key.now c.args.sender.now c.args.arrival c.args.text.now)
+    write_whole (insert_message_statement (unmarked_message c.args.list.now c.args.key.now c.args.sender.now c.args.arrival c.args.text.now)
     (record { sent = c.args.sent; month = c.args.month; author = c.args.author.now })) _ _
-    (knows (new_message c.args.list.now c.args.key.now c.args.sender.now c.args.arrival c.args.text.now)
+    (knows (unmarked_message c.args.list.now c.args.key.now c.args.sender.now c.args.arrival c.args.text.now)
     (record { sent = c.args.sent; month = c.args.month; author = c.args.author.now }))
-    (ours (new_message c.args.list.now c.args.key.now c.args.sender.now c.args.arrival c.args.text.now) (record { sent = c.args.sent; month = c.args.month; author = c.args.author.now }))
+    (ours (unmarked_message c.args.list.now c.args.key.now c.args.sender.now c.args.arrival c.args.text.now) (record { sent = c.args.sent; month = c.args.month; author = c.args.author.now }))
     (tries_to_add c.args.list.now c.args.key.now c.args.sender.now c.args.arrival c.args.text.now (record { sent = c.args.sent; month = c.args.month; author = c.args.author.now })) c.execute.result
     (rw (c.params-to_sql.ensures, c.params-to_sql-2.ensures, c.params-to_sql-3.ensures, number, c.params-to_sql-5.ensures, date, month, c.params-to_sql-8.ensures)
     at c.execute.ensures.survives) (λ clean. rw (

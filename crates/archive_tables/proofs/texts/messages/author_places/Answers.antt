@@ -7,9 +7,9 @@ use Rattle.sqlite.specs.Effect.{Database}
 use Rattle.sqlite.specs.Order.{Row}
 use Rattle.sqlite.specs.Held.{state}
 use Rattle.sqlite.specs.State.{State, Shown, FailsToQuery}
-use Rattle.archive_tables.specs.Tables.{IsHeld, IsKept}
-use Rattle.archive_tables.specs.Rows.{author_places, place_shown}
-use Rattle.archive_tables.specs.Calls.{StaysOver, RestsOver, IsCaused}
+use Rattle.archive_tables.specs.Tables.{IsOpenArchive, IsArchiveAtRest}
+use Rattle.archive_tables.specs.Rows.{author_places, rowid_result_row}
+use Rattle.archive_tables.specs.Calls.{LeavesRowsUnchanged, FaultKeepsRowsOrRollsBack, IsMemoryOrDiskError}
 use Rattle.archive_tables.proofs.FiledLemmas.{author_text, author_found, no_author, no_author_caused}
 use Rattle.archive_tables.proofs.EndLemmas.{asks_rows_shows}
 use Rattle.sqlite_tied.specs.Compute.{everything}
@@ -22,14 +22,14 @@ asks : IsQuestionText (first (codes "SELECT pos FROM message WHERE list = ?1 AND
 unfolding first everything
 asks = tt
 
-found : (behind : Option Database) (old new : State) (list it : List ℕ) (r : Result (Vec Row Global) Error) → IsHeld behind old
+found : (behind : Option Database) (old new : State) (list it : List ℕ) (r : Result (Vec Row Global) Error) → IsOpenArchive behind old
     → IfOk r (λ rows. Shown author_text (Text list ∷ Blob it ∷ []) old new rows.items) → IfErr r (FailsToQuery author_text (Text list ∷ Blob it ∷ []) old new)
-    → MatchResult r (λ rows. (rows.items ≡ map place_shown (author_places old.now.trees list it)) × StaysOver behind old new) (λ _. RestsOver behind old new)
+    → MatchResult r (λ rows. (rows.items ≡ map rowid_result_row (author_places old.now.trees list it)) × LeavesRowsUnchanged behind old new) (λ _. FaultKeepsRowsOrRollsBack behind old new)
 found behind old new list it (Ok rows) k ok err = author_found old new k list it rows.items ok
 found behind old new list it (Err e) k ok err = no_author old new k list it e err
 
-why : (old new : State) (list it : List ℕ) (r : Result (Vec Row Global) Error) → IsKept old → old.step_limit ≡ None
-    → IfErr r (FailsToQuery author_text (Text list ∷ Blob it ∷ []) old new) → IfErr r (λ e. IsCaused old new e ⊎ ⊥)
+why : (old new : State) (list it : List ℕ) (r : Result (Vec Row Global) Error) → IsArchiveAtRest old → old.step_limit ≡ None
+    → IfErr r (FailsToQuery author_text (Text list ∷ Blob it ∷ []) old new) → IfErr r (λ e. IsMemoryOrDiskError old new e ⊎ ⊥)
 why old new list it (Ok rows) k free err = tt
 why old new list it (Err e) k free err = inl (no_author_caused old new k list it e err free)
 

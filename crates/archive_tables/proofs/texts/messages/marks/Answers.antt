@@ -1,7 +1,7 @@
 use Rattle.std.proofs.Common.{ap, sym, ◌∙◌, rules, inl}
 use Rattle.std.specs.Prelude.{◌≡◌, Some, None, slice_get, option_map}
-use Rattle.archive_machine.specs.Questions.{is_message}
-use Rattle.archive_tables.specs.Rows.{marks_shown, marks_of}
+use Rattle.archive_model.specs.Questions.{is_message_at_key}
+use Rattle.archive_tables.specs.Rows.{marks_result_row, decoded_marks}
 use Rattle.archive_tables.proofs.CauseLemmas.{stays_rests}
 use Rattle.sqlite.specs.Held.{state}
 use Rattle.archive_tables.proofs.SelectLemmas.{first_found, none_found}
@@ -38,7 +38,7 @@ returns-in_err-read_marks-in-Some g c =
     (λ clean behind k. stays_rests behind old new (marks old new c.args.list.now k c.args.key.now rows (rw (c.params-to_sql.ensures, c.params-to_sql-2.ensures) at (c.in_ok-rows.ensures.ok clean))).1)
     (λ clean k free.
     let found = marks old new c.args.list.now k c.args.key.now rows (rw (c.params-to_sql.ensures, c.params-to_sql-2.ensures) at (c.in_ok-rows.ensures.ok clean)) in
-    let it = first_found (is_message c.args.list.now c.args.key.now) marks_shown _ rows found.0 c.in-Some.row.now first in
+    let it = first_found (is_message_at_key c.args.list.now c.args.key.now) marks_result_row _ rows found.0 c.in-Some.row.now first in
     inl (inl (c.in_err-read_marks-in-Some.ensures.fault it.0 it.2)))
 
 pub returns-in-Some : goal.returns-in-Some
@@ -50,8 +50,8 @@ returns-in-Some g c =
     asks_answers _ _ asks c.query_all.result c.query_all.ensures.survives c.query_all.ensures.ok c.query_all.ensures.err _ rows c.in_ok-rows.ensures.ok
     (λ clean behind k.
     let found = marks old new c.args.list.now k c.args.key.now rows (rw (c.params-to_sql.ensures, c.params-to_sql-2.ensures) at (c.in_ok-rows.ensures.ok clean)) in
-    let it = first_found (is_message c.args.list.now c.args.key.now) marks_shown _ rows found.0 c.in-Some.row.now first in
-    (ap Some (c.in_ok-read_marks-in-Some.ensures.read it.0 it.2) ∙ sym (ap (option_map marks_of) it.1), found.1))
+    let it = first_found (is_message_at_key c.args.list.now c.args.key.now) marks_result_row _ rows found.0 c.in-Some.row.now first in
+    (ap Some (c.in_ok-read_marks-in-Some.ensures.read it.0 it.2) ∙ sym (ap (option_map decoded_marks) it.1), found.1))
 
 pub returns : goal.returns
 returns g c =
@@ -62,4 +62,4 @@ returns g c =
     asks_answers _ _ asks c.query_all.result c.query_all.ensures.survives c.query_all.ensures.ok c.query_all.ensures.err _ rows c.in_ok-rows.ensures.ok
     (λ clean behind k.
     let found = marks old new c.args.list.now k c.args.key.now rows (rw (c.params-to_sql.ensures, c.params-to_sql-2.ensures) at (c.in_ok-rows.ensures.ok clean)) in
-    (sym (ap (option_map marks_of) (none_found (is_message c.args.list.now c.args.key.now) marks_shown _ rows found.0 first)), found.1))
+    (sym (ap (option_map decoded_marks) (none_found (is_message_at_key c.args.list.now c.args.key.now) marks_result_row _ rows found.0 first)), found.1))

@@ -3,9 +3,9 @@ use Rattle.std.proofs.lemmas.Int.{to_z-of_z}
 use Rattle.std.specs.Prelude.{◌≡◌, Some, None, slice_get, option_map}
 use Rattle.sqlite.specs.declared.types.Value.TheVariants.{Int}
 use Rattle.sqlite.specs.Held.{state}
-use Rattle.archive_machine.specs.Filing.{Filed}
-use Rattle.archive_tables.specs.Tables.{Numbered}
-use Rattle.archive_tables.specs.Rows.{dated_marks_shown, dated_marks_of}
+use Rattle.archive_model.specs.Filing.{IndexedMessage}
+use Rattle.archive_tables.specs.Tables.{NumberedRecord}
+use Rattle.archive_tables.specs.Rows.{dated_marks_result_row, decoded_dated_marks}
 use Rattle.archive_tables.proofs.SelectLemmas.{first_found, none_found}
 use Rattle.archive_tables.proofs.WalkLemmas.{marks_found, marks_at_rests, no_marks_at, no_marks_at_caused, is_at}
 use Rattle.archive_tables.proofs.EndLemmas.{asks_rows_answers, asks_rows_fails}
@@ -42,7 +42,7 @@ returns-in_err-read_dated_marks-in-Some g c =
     (λ clean behind k. marks_at_rests old new k c.args.place rows (rw number at (c.in_ok-rows.ensures.ok clean)))
     (λ clean k free.
     let found = marks_found old new k c.args.place rows (rw number at (c.in_ok-rows.ensures.ok clean)) in
-    let it = first_found (is_at c.args.place) (λ (r : Numbered Filed). dated_marks_shown r.it.0) _ rows found.0 c.in-Some.row.now first in
+    let it = first_found (is_at c.args.place) (λ (r : NumberedRecord IndexedMessage). dated_marks_result_row r.it.0) _ rows found.0 c.in-Some.row.now first in
     inl (inl (c.in_err-read_dated_marks-in-Some.ensures.fault it.0.it.0 it.2)))
 
 pub returns-in-Some : goal.returns-in-Some
@@ -55,8 +55,11 @@ returns-in-Some g c =
     asks_rows_answers _ _ asks c.query_all.result c.query_all.ensures.survives c.query_all.ensures.ok c.query_all.ensures.err _ rows c.in_ok-rows.ensures.ok
     (λ clean behind k.
     let found = marks_found old new k c.args.place rows (rw number at (c.in_ok-rows.ensures.ok clean)) in
-    let it = first_found (is_at c.args.place) (λ (r : Numbered Filed). dated_marks_shown r.it.0) _ rows found.0 c.in-Some.row.now first in
-    (ap Some (c.in_ok-read_dated_marks-in-Some.ensures.read it.0.it.0 it.2) ∙ sym (ap (λ o. option_map dated_marks_of (option_map (λ (r : Numbered Filed). r.it.0) o)) it.1), found.1))
+    let it = first_found (is_at c.args.place) (λ (r : NumberedRecord IndexedMessage). dated_marks_result_row r.it.0) _ rows found.0 c.in-Some.row.now first in (
+      ap Some (c.in_ok-read_dated_marks-in-Some.ensures.read it.0.it.0 it.2) ∙ sym (ap (λ o. option_map decoded_dated_marks (option_map (λ (r : NumberedRecord IndexedMessage). r.it.0) o))
+          it.1),
+      found.1,
+    ))
 
 pub returns : goal.returns
 returns g c =
@@ -68,7 +71,7 @@ returns g c =
     asks_rows_answers _ _ asks c.query_all.result c.query_all.ensures.survives c.query_all.ensures.ok c.query_all.ensures.err _ rows c.in_ok-rows.ensures.ok
     (λ clean behind k.
     let found = marks_found old new k c.args.place rows (rw number at (c.in_ok-rows.ensures.ok clean)) in (
-      sym (ap (λ o. option_map dated_marks_of (option_map (λ (r : Numbered Filed). r.it.0) o))
-          (none_found (is_at c.args.place) (λ (r : Numbered Filed). dated_marks_shown r.it.0) _ rows found.0 first)),
+      sym (ap (λ o. option_map decoded_dated_marks (option_map (λ (r : NumberedRecord IndexedMessage). r.it.0) o))
+          (none_found (is_at c.args.place) (λ (r : NumberedRecord IndexedMessage). dated_marks_result_row r.it.0) _ rows found.0 first)),
       found.1,
     ))

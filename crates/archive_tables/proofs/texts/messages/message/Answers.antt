@@ -1,8 +1,8 @@
 use Rattle.std.proofs.Common.{ap, sym, subst, ◌∙◌, rules, inl}
 use Rattle.std.proofs.lemmas.Bool.{and_parts}
 use Rattle.std.specs.Prelude.{◌≡◌, Some, None, slice_get, IsUtf8}
-use Rattle.archive_machine.specs.Questions.{is_message}
-use Rattle.archive_tables.specs.Rows.{message_shown, message_in}
+use Rattle.archive_model.specs.Questions.{is_message_at_key}
+use Rattle.archive_tables.specs.Rows.{message_result_row, message_from_result_row}
 use Rattle.archive_tables.proofs.CauseLemmas.{good_text_fails_by, stays_rests}
 use Rattle.sqlite.specs.Held.{state}
 use Rattle.archive_tables.proofs.SelectLemmas.{first_found, none_found, equal_words, first_part, found_passes}
@@ -39,8 +39,8 @@ returns-in_err-read_message-in-Some g c =
     (λ clean behind k. stays_rests behind old new (one old new c.args.list.now k c.args.key.now rows (rw (c.params-to_sql.ensures, c.params-to_sql-2.ensures) at (c.in_ok-rows.ensures.ok clean))).1)
     (λ clean k free.
     let found = one old new c.args.list.now k c.args.key.now rows (rw (c.params-to_sql.ensures, c.params-to_sql-2.ensures) at (c.in_ok-rows.ensures.ok clean)) in
-    let it = first_found (is_message c.args.list.now c.args.key.now) message_shown _ rows found.0 c.in-Some.row.now first in
-    let same = equal_words it.0.key c.args.key.now (and_parts _ _ (found_passes (is_message c.args.list.now c.args.key.now) _ it.0 it.1)).1 in
+    let it = first_found (is_message_at_key c.args.list.now c.args.key.now) message_result_row _ rows found.0 c.in-Some.row.now first in
+    let same = equal_words it.0.key c.args.key.now (and_parts _ _ (found_passes (is_message_at_key c.args.list.now c.args.key.now) _ it.0 it.1)).1 in
     inl (good_text_fails_by old new it.0.key error (subst IsUtf8 (sym same) c.utf8.key) (c.in_err-read_message-in-Some.ensures.fault it.0 it.2)))
 
 pub returns-in-Some : goal.returns-in-Some
@@ -52,9 +52,9 @@ returns-in-Some g c =
     asks_answers _ _ asks c.query_all.result c.query_all.ensures.survives c.query_all.ensures.ok c.query_all.ensures.err _ rows c.in_ok-rows.ensures.ok
     (λ clean behind k.
     let found = one old new c.args.list.now k c.args.key.now rows (rw (c.params-to_sql.ensures, c.params-to_sql-2.ensures) at (c.in_ok-rows.ensures.ok clean)) in
-    let it = first_found (is_message c.args.list.now c.args.key.now) message_shown _ rows found.0 c.in-Some.row.now first in
-    let same : it.0.list ≡ c.args.list.now = equal_words it.0.list c.args.list.now (first_part _ _ (found_passes (is_message c.args.list.now c.args.key.now) _ it.0 it.1)) in
-    (ap Some (ap (λ l. message_in l c.in_ok-read_message-in-Some.field-0) (sym same) ∙ c.in_ok-read_message-in-Some.ensures.read it.0 it.2) ∙ sym it.1, found.1))
+    let it = first_found (is_message_at_key c.args.list.now c.args.key.now) message_result_row _ rows found.0 c.in-Some.row.now first in
+    let same : it.0.list ≡ c.args.list.now = equal_words it.0.list c.args.list.now (first_part _ _ (found_passes (is_message_at_key c.args.list.now c.args.key.now) _ it.0 it.1)) in
+    (ap Some (ap (λ l. message_from_result_row l c.in_ok-read_message-in-Some.field-0) (sym same) ∙ c.in_ok-read_message-in-Some.ensures.read it.0 it.2) ∙ sym it.1, found.1))
 
 pub returns : goal.returns
 returns g c =
@@ -65,4 +65,4 @@ returns g c =
     asks_answers _ _ asks c.query_all.result c.query_all.ensures.survives c.query_all.ensures.ok c.query_all.ensures.err _ rows c.in_ok-rows.ensures.ok
     (λ clean behind k.
     let found = one old new c.args.list.now k c.args.key.now rows (rw (c.params-to_sql.ensures, c.params-to_sql-2.ensures) at (c.in_ok-rows.ensures.ok clean)) in
-    (sym (none_found (is_message c.args.list.now c.args.key.now) message_shown _ rows found.0 first), found.1))
+    (sym (none_found (is_message_at_key c.args.list.now c.args.key.now) message_result_row _ rows found.0 first), found.1))

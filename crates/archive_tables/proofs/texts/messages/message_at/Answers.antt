@@ -3,10 +3,10 @@ use Rattle.std.proofs.lemmas.Int.{to_z-of_z}
 use Rattle.std.specs.Prelude.{◌≡◌, Some, None, slice_get, option_map}
 use Rattle.sqlite.specs.declared.types.Value.TheVariants.{Int}
 use Rattle.sqlite.specs.Held.{state}
-use Rattle.archive_machine.specs.Records.{Message}
-use Rattle.archive_machine.specs.Filing.{Filed}
-use Rattle.archive_tables.specs.Tables.{Numbered}
-use Rattle.archive_tables.specs.Rows.{message_shown, message_at}
+use Rattle.archive_model.specs.Records.{Message}
+use Rattle.archive_model.specs.Filing.{IndexedMessage}
+use Rattle.archive_tables.specs.Tables.{NumberedRecord}
+use Rattle.archive_tables.specs.Rows.{message_result_row, message_at}
 use Rattle.archive_tables.proofs.SelectLemmas.{first_found, none_found}
 use Rattle.archive_tables.proofs.WalkLemmas.{at_found, at_rests, none_at, none_at_caused, is_at}
 use Rattle.archive_tables.proofs.CauseLemmas.{read_fails_by}
@@ -44,9 +44,9 @@ returns-in_err-read_message-in-Some g c =
     (λ clean behind k. at_rests old new k c.args.place rows (rw number at (c.in_ok-rows.ensures.ok clean)))
     (λ clean k free.
     let found = at_found old new k c.args.place rows (rw number at (c.in_ok-rows.ensures.ok clean)) in
-    let it = first_found (is_at c.args.place) (λ (r : Numbered Filed). message_shown r.it.0) _ rows found.0 c.in-Some.row.now first in
+    let it = first_found (is_at c.args.place) (λ (r : NumberedRecord IndexedMessage). message_result_row r.it.0) _ rows found.0 c.in-Some.row.now first in
     read_fails_by old new (λ (m : Message). m.key) (message_at old.now.trees c.args.place) it.0.it.0 error
-    (ap (option_map (λ (r : Numbered Filed). r.it.0)) it.1) (c.in_err-read_message-in-Some.ensures.fault it.0.it.0 it.2))
+    (ap (option_map (λ (r : NumberedRecord IndexedMessage). r.it.0)) it.1) (c.in_err-read_message-in-Some.ensures.fault it.0.it.0 it.2))
 
 pub returns-in-Some : goal.returns-in-Some
 returns-in-Some g c =
@@ -58,8 +58,8 @@ returns-in-Some g c =
     asks_rows_answers _ _ asks c.query_all.result c.query_all.ensures.survives c.query_all.ensures.ok c.query_all.ensures.err _ rows c.in_ok-rows.ensures.ok
     (λ clean behind k.
     let found = at_found old new k c.args.place rows (rw number at (c.in_ok-rows.ensures.ok clean)) in
-    let it = first_found (is_at c.args.place) (λ (r : Numbered Filed). message_shown r.it.0) _ rows found.0 c.in-Some.row.now first in
-    ((it.0.it.0, ap (option_map (λ (r : Numbered Filed). r.it.0)) it.1, c.in_ok-read_message-in-Some.ensures.read it.0.it.0 it.2), found.1))
+    let it = first_found (is_at c.args.place) (λ (r : NumberedRecord IndexedMessage). message_result_row r.it.0) _ rows found.0 c.in-Some.row.now first in
+    ((it.0.it.0, ap (option_map (λ (r : NumberedRecord IndexedMessage). r.it.0)) it.1, c.in_ok-read_message-in-Some.ensures.read it.0.it.0 it.2), found.1))
 
 pub returns : goal.returns
 returns g c =
@@ -70,5 +70,8 @@ returns g c =
     let number = c.params-to_sql.ensures ∙ ap Int (to_z-of_z w64 c.args.place c.ranges.place) in
     asks_rows_answers _ _ asks c.query_all.result c.query_all.ensures.survives c.query_all.ensures.ok c.query_all.ensures.err _ rows c.in_ok-rows.ensures.ok
     (λ clean behind k.
-    let found = at_found old new k c.args.place rows (rw number at (c.in_ok-rows.ensures.ok clean)) in
-    (ap (option_map (λ (r : Numbered Filed). r.it.0)) (none_found (is_at c.args.place) (λ (r : Numbered Filed). message_shown r.it.0) _ rows found.0 first), found.1))
+    let found = at_found old new k c.args.place rows (rw number at (c.in_ok-rows.ensures.ok clean)) in (
+      ap (option_map (λ (r : NumberedRecord IndexedMessage). r.it.0)) (none_found (is_at c.args.place) (λ (r : NumberedRecord IndexedMessage). message_result_row r.it.0) _ rows found.0
+          first),
+      found.1,
+    ))

@@ -7,9 +7,9 @@ use Rattle.sqlite.specs.Effect.{Database}
 use Rattle.sqlite.specs.Order.{Row}
 use Rattle.sqlite.specs.Held.{state}
 use Rattle.sqlite.specs.State.{State, Shown, FailsToQuery}
-use Rattle.archive_tables.specs.Tables.{IsHeld, IsKept}
-use Rattle.archive_tables.specs.Rows.{places_in, place_shown}
-use Rattle.archive_tables.specs.Calls.{StaysOver, RestsOver, IsCaused}
+use Rattle.archive_tables.specs.Tables.{IsOpenArchive, IsArchiveAtRest}
+use Rattle.archive_tables.specs.Rows.{message_rowids_in, rowid_result_row}
+use Rattle.archive_tables.specs.Calls.{LeavesRowsUnchanged, FaultKeepsRowsOrRollsBack, IsMemoryOrDiskError}
 use Rattle.archive_tables.proofs.WalkLemmas.{places_text, places_found, no_places, no_places_caused}
 use Rattle.archive_tables.proofs.EndLemmas.{asks_rows_shows}
 use Rattle.sqlite_tied.specs.Compute.{everything}
@@ -22,14 +22,14 @@ asks : IsQuestionText (first (codes "SELECT pos FROM message WHERE list = ?1 ORD
 unfolding first everything
 asks = tt
 
-found : (behind : Option Database) (old new : State) (list : List ℕ) (r : Result (Vec Row Global) Error) → IsHeld behind old
+found : (behind : Option Database) (old new : State) (list : List ℕ) (r : Result (Vec Row Global) Error) → IsOpenArchive behind old
     → IfOk r (λ rows. Shown places_text (Text list ∷ []) old new rows.items) → IfErr r (FailsToQuery places_text (Text list ∷ []) old new)
-    → MatchResult r (λ rows. (rows.items ≡ map place_shown (places_in old.now.trees list)) × StaysOver behind old new) (λ _. RestsOver behind old new)
+    → MatchResult r (λ rows. (rows.items ≡ map rowid_result_row (message_rowids_in old.now.trees list)) × LeavesRowsUnchanged behind old new) (λ _. FaultKeepsRowsOrRollsBack behind old new)
 found behind old new list (Ok rows) k ok err = places_found old new k list rows.items ok
 found behind old new list (Err e) k ok err = no_places old new k list e err
 
-why : (old new : State) (list : List ℕ) (r : Result (Vec Row Global) Error) → IsKept old → old.step_limit ≡ None
-    → IfErr r (FailsToQuery places_text (Text list ∷ []) old new) → IfErr r (λ e. IsCaused old new e ⊎ ⊥)
+why : (old new : State) (list : List ℕ) (r : Result (Vec Row Global) Error) → IsArchiveAtRest old → old.step_limit ≡ None
+    → IfErr r (FailsToQuery places_text (Text list ∷ []) old new) → IfErr r (λ e. IsMemoryOrDiskError old new e ⊎ ⊥)
 why old new list (Ok rows) k free err = tt
 why old new list (Err e) k free err = inl (no_places_caused old new k list e err free)
 

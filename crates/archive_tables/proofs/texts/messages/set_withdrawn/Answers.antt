@@ -6,27 +6,27 @@ use Rattle.sqlite_tied.specs.Compute.{everything}
 use Rattle.sqlite_resolve.specs.Compile.{first}
 use Rattle.archive_tables.proofs.LastLemmas.{IsOurText}
 use Rattle.std.specs.Prelude.{List, ℕ, ℤ, map, if◌then◌else◌}
-use Rattle.archive_machine.specs.Questions.{is_message}
+use Rattle.archive_model.specs.Questions.{is_message_at_key}
 use Rattle.sqlite.specs.Listing.{understood}
-use Rattle.archive_tables.specs.Statements.{withdrawing}
+use Rattle.archive_tables.specs.Statements.{set_withdrawn_statement}
 use Rattle.archive_tables.proofs.RefusalLemmas.{Knows}
 use Rattle.archive_tables.proofs.EndLemmas.{write_freely}
 use Rattle.archive_tables.proofs.texts.messages.set_withdrawn.Goals as goal
 
-knows : (list key : List ℕ) (by : ℤ) → Knows (withdrawing list key by)
+knows : (list key : List ℕ) (by : ℤ) → Knows (set_withdrawn_statement list key by)
 unfolding understood everything
 knows list key by = record { fits = (refl, refl); plain = (refl, refl); writes = tt }
 
-ours : (list key : List ℕ) (by : ℤ) → IsOurText (first (withdrawing list key by).sql)
+ours : (list key : List ℕ) (by : ℤ) → IsOurText (first (set_withdrawn_statement list key by).sql)
 unfolding first everything
 ours list key by = tt
 
 pub returns : goal.returns
 returns g c =
     let number = c.params-to_sql-3.ensures ∙ ap Int (to_z-of_z w64 c.args.by c.ranges.by) in
-    write_freely (withdrawing c.args.list.now c.args.key.now c.args.by) (λ a. record a {
+    write_freely (set_withdrawn_statement c.args.list.now c.args.key.now c.args.by) (λ a. record a {
       messages = map
-          (λ m. if is_message c.args.list.now c.args.key.now m then record m { withdrawn = c.args.by } else m) a.messages;
+          (λ m. if is_message_at_key c.args.list.now c.args.key.now m then record m { withdrawn = c.args.by } else m) a.messages;
     }) (knows c.args.list.now c.args.key.now c.args.by)
     (ours c.args.list.now c.args.key.now c.args.by)
     (tries_withdrawn c.args.list.now c.args.key.now c.args.by) c.execute.result

@@ -3,14 +3,14 @@ use Rattle.sqlite.specs.declared.error.Error.{Error}
 use Rattle.sqlite.specs.Effect.{Database}
 use Rattle.sqlite.specs.Held.{state}
 use Rattle.sqlite.specs.State.{State, Executes}
-use Rattle.archive_machine.specs.Records.{Archive}
+use Rattle.archive_model.specs.Records.{Archive}
 use Rattle.archive_tables.specs.Schema.{schema_2}
-use Rattle.archive_tables.specs.Making.{IsWithin, IsMoving}
+use Rattle.archive_tables.specs.Making.{IsInTransactionWithSchema, IsMigratingTables}
 use Rattle.archive_tables.proofs.MoveLemmas.{copies, copy_within, copy_text}
 use Rattle.sqlite_tied.specs.Compute.{everything}
 use Rattle.sqlite_resolve.specs.Compile.{first}
 use Rattle.archive_tables.proofs.LastLemmas.{IsOurText}
-use Rattle.archive_tables.specs.Statements.{copying_options}
+use Rattle.archive_tables.specs.Statements.{backfill_options_statement}
 use Rattle.archive_tables.proofs.RefusalLemmas.{KnowsIn}
 use Rattle.archive_tables.proofs.EndLemmas.{step_ends}
 use Rattle.sqlite.specs.Listing.{understood}
@@ -18,8 +18,8 @@ use Rattle.sqlite.proofs.Callers.{command_of}
 use Rattle.archive_tables.proofs.CrashLemmas.{EndsNothing, within_adds_nothing}
 use Rattle.archive_tables.proofs.texts.options.copy_options.Goals as goal
 
-moves : (old new : State) (before : Database) (said : ℤ) (archive : Archive) → IsMoving old before schema_2 said 1 archive → old.now.trees 13 ≡ [] → (r : Result ℕ Error)
-    → Executes copy_text [] old new r → OnOk r (IsMoving new before schema_2 said 2 archive)
+moves : (old new : State) (before : Database) (said : ℤ) (archive : Archive) → IsMigratingTables old before schema_2 said 1 archive → old.now.trees 13 ≡ [] → (r : Result ℕ Error)
+    → Executes copy_text [] old new r → OnOk r (IsMigratingTables new before schema_2 said 2 archive)
 moves old new before said archive k empty (Ok count) h = copies old new before said archive count k empty h
 moves old new before said archive k empty (Err e) h = tt
 
@@ -27,7 +27,8 @@ pub returns-clause-moved : goal.returns-clause-moved
 returns-clause-moved g c clean before said archive k empty = moves (state g.S.Store c.args.conn.now) (state g.S.Store c.execute.new.self) before said archive k
     empty c.execute.result (c.execute.ensures.runs clean)
 
-stays : (old new : State) (before : Database) → IsWithin old before schema_2 → (r : Result ℕ Error) → Executes copy_text [] old new r → OnOk r (IsWithin new before schema_2)
+stays : (old new : State) (before : Database) → IsInTransactionWithSchema old before schema_2 → (r : Result ℕ Error) → Executes copy_text [] old new r
+    → OnOk r (IsInTransactionWithSchema new before schema_2)
 stays old new before k (Ok count) h = copy_within old new before count k h
 stays old new before k (Err e) h = tt
 
@@ -38,12 +39,12 @@ ours : IsOurText (first copy_text)
 unfolding first everything
 ours = tt
 
-knows : KnowsIn schema_2 copying_options
+knows : KnowsIn schema_2 backfill_options_statement
 unfolding understood everything
 knows = record { fits = (refl, refl); plain = (refl, refl); writes = tt }
 
 pub returns-clause-ends : goal.returns-clause-ends
-returns-clause-ends g c = step_ends schema_2 copying_options _ c.execute.result knows ours c.execute.ensures.survives c.execute.ensures.runs
+returns-clause-ends g c = step_ends schema_2 backfill_options_statement _ c.execute.result knows ours c.execute.ensures.survives c.execute.ensures.runs
 
 goes_on : EndsNothing (command_of (understood schema_2 copy_text))
 unfolding understood everything

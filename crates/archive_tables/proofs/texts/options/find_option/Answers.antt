@@ -1,8 +1,8 @@
 use Rattle.std.proofs.Common.{ap, sym, ◌∙◌, rules, inl}
 use Rattle.std.specs.Prelude.{◌≡◌, Some, None, slice_get, option_map}
-use Rattle.archive_machine.specs.Records.{ListOption}
-use Rattle.archive_machine.specs.Questions.{is_option_of}
-use Rattle.archive_tables.specs.Rows.{merge_shown}
+use Rattle.archive_model.specs.Records.{ListOption}
+use Rattle.archive_model.specs.Questions.{is_option_of}
+use Rattle.archive_tables.specs.Rows.{merge_result_row}
 use Rattle.archive_tables.proofs.CauseLemmas.{stays_rests}
 use Rattle.sqlite.specs.Held.{state}
 use Rattle.archive_tables.proofs.SelectLemmas.{first_found, none_found}
@@ -39,7 +39,7 @@ returns-in_err-read_merge-in-Some g c =
     (λ clean behind k. stays_rests behind old new (found c.args.list.now old new k rows (rw c.params-to_sql.ensures at (c.in_ok-rows.ensures.ok clean))).1)
     (λ clean k free.
     let found = found c.args.list.now old new k rows (rw c.params-to_sql.ensures at (c.in_ok-rows.ensures.ok clean)) in
-    let it = first_found (is_option_of c.args.list.now) merge_shown _ rows found.0 c.in-Some.row.now first in
+    let it = first_found (is_option_of c.args.list.now) merge_result_row _ rows found.0 c.in-Some.row.now first in
     inl (inl (c.in_err-read_merge-in-Some.ensures.fault it.0 it.2)))
 
 pub returns-in-Some : goal.returns-in-Some
@@ -51,7 +51,7 @@ returns-in-Some g c =
     asks_answers _ _ asks c.query_all.result c.query_all.ensures.survives c.query_all.ensures.ok c.query_all.ensures.err _ rows c.in_ok-rows.ensures.ok
     (λ clean behind k.
     let found = found c.args.list.now old new k rows (rw c.params-to_sql.ensures at (c.in_ok-rows.ensures.ok clean)) in
-    let it = first_found (is_option_of c.args.list.now) merge_shown _ rows found.0 c.in-Some.row.now first in
+    let it = first_found (is_option_of c.args.list.now) merge_result_row _ rows found.0 c.in-Some.row.now first in
     (ap Some (c.in_ok-read_merge-in-Some.ensures.read it.0 it.2) ∙ sym (ap (option_map (λ (o : ListOption). o.merge)) it.1), found.1))
 
 pub returns : goal.returns
@@ -63,4 +63,4 @@ returns g c =
     asks_answers _ _ asks c.query_all.result c.query_all.ensures.survives c.query_all.ensures.ok c.query_all.ensures.err _ rows c.in_ok-rows.ensures.ok
     (λ clean behind k.
     let found = found c.args.list.now old new k rows (rw c.params-to_sql.ensures at (c.in_ok-rows.ensures.ok clean)) in
-    (sym (ap (option_map (λ (o : ListOption). o.merge)) (none_found (is_option_of c.args.list.now) merge_shown _ rows found.0 first)), found.1))
+    (sym (ap (option_map (λ (o : ListOption). o.merge)) (none_found (is_option_of c.args.list.now) merge_result_row _ rows found.0 first)), found.1))

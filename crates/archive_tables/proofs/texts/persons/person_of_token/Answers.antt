@@ -1,8 +1,8 @@
 use Rattle.std.proofs.Common.{ap, sym, ◌∙◌, rules, inl}
 use Rattle.std.specs.Prelude.{◌≡◌, Some, None, slice_get, option_map, bytes_eq, find}
-use Rattle.archive_machine.specs.Records.{Person}
+use Rattle.archive_model.specs.Records.{Person}
 use Rattle.archive_tables.specs.Tables.{archive_of}
-use Rattle.archive_tables.specs.Rows.{name_shown}
+use Rattle.archive_tables.specs.Rows.{name_result_row}
 use Rattle.archive_tables.proofs.CauseLemmas.{read_fails_by, stays_rests}
 use Rattle.sqlite.specs.Held.{state}
 use Rattle.archive_tables.proofs.SelectLemmas.{first_found, none_found}
@@ -39,7 +39,7 @@ returns-in_err-read_name-in-Some g c =
     (λ clean behind k. stays_rests behind old new (holders old new c.args.token.now k rows (rw c.params-to_sql.ensures at (c.in_ok-rows.ensures.ok clean))).1)
     (λ clean k free.
     let found = holders old new c.args.token.now k rows (rw c.params-to_sql.ensures at (c.in_ok-rows.ensures.ok clean)) in
-    let it = first_found (λ (p : Person). bytes_eq p.token c.args.token.now) (λ (p : Person). name_shown p.name) _ rows found.0 c.in-Some.row.now first in
+    let it = first_found (λ (p : Person). bytes_eq p.token c.args.token.now) (λ (p : Person). name_result_row p.name) _ rows found.0 c.in-Some.row.now first in
     read_fails_by old new (λ (p : Person). p.name) (find (λ (p : Person). bytes_eq p.token c.args.token.now) (archive_of old).persons) it.0 error it.1
     (c.in_err-read_name-in-Some.ensures.fault it.0.name it.2))
 
@@ -52,7 +52,7 @@ returns-in-Some g c =
     asks_answers _ _ asks c.query_all.result c.query_all.ensures.survives c.query_all.ensures.ok c.query_all.ensures.err _ rows c.in_ok-rows.ensures.ok
     (λ clean behind k.
     let found = holders old new c.args.token.now k rows (rw c.params-to_sql.ensures at (c.in_ok-rows.ensures.ok clean)) in
-    let it = first_found (λ (p : Person). bytes_eq p.token c.args.token.now) (λ (p : Person). name_shown p.name) _ rows found.0 c.in-Some.row.now first in
+    let it = first_found (λ (p : Person). bytes_eq p.token c.args.token.now) (λ (p : Person). name_result_row p.name) _ rows found.0 c.in-Some.row.now first in
     (ap Some (c.in_ok-read_name-in-Some.ensures.read it.0.name it.2) ∙ sym (ap (option_map (λ (p : Person). p.name)) it.1), found.1))
 
 pub returns : goal.returns
@@ -64,4 +64,4 @@ returns g c =
     asks_answers _ _ asks c.query_all.result c.query_all.ensures.survives c.query_all.ensures.ok c.query_all.ensures.err _ rows c.in_ok-rows.ensures.ok
     (λ clean behind k.
     let found = holders old new c.args.token.now k rows (rw c.params-to_sql.ensures at (c.in_ok-rows.ensures.ok clean)) in
-    (sym (ap (option_map (λ (p : Person). p.name)) (none_found (λ (p : Person). bytes_eq p.token c.args.token.now) (λ (p : Person). name_shown p.name) _ rows found.0 first)), found.1))
+    (sym (ap (option_map (λ (p : Person). p.name)) (none_found (λ (p : Person). bytes_eq p.token c.args.token.now) (λ (p : Person). name_result_row p.name) _ rows found.0 first)), found.1))

@@ -5,13 +5,13 @@ use Rattle.sqlite.specs.Effect.{Database}
 use Rattle.sqlite.specs.Held.{state}
 use Rattle.sqlite.specs.State.{State, Executes}
 use Rattle.archive_tables.specs.Schema.{archive_schema}
-use Rattle.archive_tables.specs.Making.{IsMaking, IsMade, empty_archive}
+use Rattle.archive_tables.specs.Making.{IsCreatingTables, IsReadyToCommit, empty_archive}
 use Rattle.archive_tables.specs.declared.texts.schema.TheConstants.{VERSION}
 use Rattle.archive_tables.proofs.MakeLemmas.{makes_whole, version_text}
 use Rattle.sqlite_tied.specs.Compute.{everything}
 use Rattle.sqlite_resolve.specs.Compile.{first}
 use Rattle.archive_tables.proofs.LastLemmas.{IsOurText}
-use Rattle.archive_tables.specs.Statements.{adding_version}
+use Rattle.archive_tables.specs.Statements.{insert_version_statement}
 use Rattle.archive_tables.proofs.RefusalLemmas.{KnowsIn}
 use Rattle.archive_tables.proofs.EndLemmas.{step_ends}
 use Rattle.sqlite.specs.Listing.{understood}
@@ -19,7 +19,8 @@ use Rattle.sqlite.proofs.Callers.{command_of}
 use Rattle.archive_tables.proofs.CrashLemmas.{EndsNothing, within_adds_nothing}
 use Rattle.archive_tables.proofs.texts.schema.add_version.Goals as goal
 
-done : (old new : State) (before : Database) → IsMaking old archive_schema before → (r : Result ℕ Error) → Executes version_text (Int VERSION ∷ []) old new r → OnOk r (IsMade new before empty_archive)
+done : (old new : State) (before : Database) → IsCreatingTables old archive_schema before → (r : Result ℕ Error) → Executes version_text (Int VERSION ∷ []) old new r
+    → OnOk r (IsReadyToCommit new before empty_archive)
 done old new before k (Ok count) h = makes_whole old new before count k h
 done old new before k (Err e) h = tt
 
@@ -31,12 +32,12 @@ ours : IsOurText (first version_text)
 unfolding first everything
 ours = tt
 
-knows : KnowsIn archive_schema adding_version
+knows : KnowsIn archive_schema insert_version_statement
 unfolding understood everything
 knows = record { fits = (refl, refl); plain = (refl, refl); writes = tt }
 
 pub returns-clause-ends : goal.returns-clause-ends
-returns-clause-ends g c = step_ends archive_schema adding_version _ c.execute.result knows ours (rw c.params-to_sql.ensures at c.execute.ensures.survives)
+returns-clause-ends g c = step_ends archive_schema insert_version_statement _ c.execute.result knows ours (rw c.params-to_sql.ensures at c.execute.ensures.survives)
     (λ clean. rw c.params-to_sql.ensures at (c.execute.ensures.runs clean))
 
 goes_on : EndsNothing (command_of (understood archive_schema version_text))

@@ -2,16 +2,16 @@ use Rattle.std.proofs.Common.{◌≡◌, inl, inr, ℕ, pos, None, [], Ok, Err, 
 use Rattle.sqlite.specs.declared.error.Error.{Error}
 use Rattle.sqlite.specs.Held.{state}
 use Rattle.sqlite.specs.State.{State, IsMisplaced, Executes}
-use Rattle.archive_tables.specs.Schema.{no_schema, schema_of}
-use Rattle.archive_tables.specs.Tables.{IsHeldAs, form_of, archive_by}
-use Rattle.archive_tables.specs.Making.{IsMaking, IsWithin, IsMoving}
+use Rattle.archive_tables.specs.Schema.{empty_schema, schema_of_version}
+use Rattle.archive_tables.specs.Tables.{IsOpenArchiveInFormat, format_of_version, archive_of_version}
+use Rattle.archive_tables.specs.Making.{IsCreatingTables, IsInTransactionWithSchema, IsMigratingTables}
 use Rattle.archive_tables.proofs.MakeLemmas.{begins, begin_text}
 use Rattle.archive_tables.proofs.HeldLemmas.{begins_over}
 use Rattle.archive_tables.proofs.MoveLemmas.{begins_moving, begins_within, begin_is, begin_plain}
 use Rattle.sqlite_tied.specs.Compute.{everything}
 use Rattle.sqlite_resolve.specs.Compile.{first}
 use Rattle.archive_tables.proofs.LastLemmas.{IsOurText}
-use Rattle.archive_tables.specs.Calls.{Ends}
+use Rattle.archive_tables.specs.Calls.{EndsConnectionCall}
 use Rattle.archive_tables.proofs.EndLemmas.{execute_ends, statement_stops}
 use Rattle.sqlite.specs.Command.TheVariants.{Begin}
 use Rattle.sqlite.specs.Schema.{Schema}
@@ -22,19 +22,19 @@ use Rattle.archive_tables.proofs.CrashLemmas.{transaction_adds}
 use Rattle.sqlite.proofs.Callers.{runs_as}
 use Rattle.archive_tables.proofs.texts.schema.begin.Goals as goal
 
-done : (old new : State) → old.now.schema ≡ no_schema → (r : Result ℕ Error) → Executes begin_text [] old new r → OnOk r (IsMaking new no_schema old.committed)
+done : (old new : State) → old.now.schema ≡ empty_schema → (r : Result ℕ Error) → Executes begin_text [] old new r → OnOk r (IsCreatingTables new empty_schema old.committed)
 done old new has (Ok count) h = begins old new count has h
 done old new has (Err e) h = tt
 
-moves : (old new : State) (number : ℕ) → IsHeldAs (form_of number) None old → (r : Result ℕ Error) → Executes begin_text [] old new r
-    → OnOk r (IsMoving new old.now (schema_of number) (pos number) number (archive_by number old.now.trees))
+moves : (old new : State) (number : ℕ) → IsOpenArchiveInFormat (format_of_version number) None old → (r : Result ℕ Error) → Executes begin_text [] old new r
+    → OnOk r (IsMigratingTables new old.now (schema_of_version number) (pos number) number (archive_of_version number old.now.trees))
 moves old new number k (Ok count) h = begins_moving old new number count k h
 moves old new number k (Err e) h = tt
 
 pub returns-clause-moving : goal.returns-clause-moving
 returns-clause-moving g c clean number k = moves (state g.S.Store c.args.conn.now) (state g.S.Store c.execute.new.self) number k c.execute.result (c.execute.ensures.runs clean)
 
-stays : (old new : State) (r : Result ℕ Error) → Executes begin_text [] old new r → OnOk r (IsWithin new old.committed old.now.schema)
+stays : (old new : State) (r : Result ℕ Error) → Executes begin_text [] old new r → OnOk r (IsInTransactionWithSchema new old.committed old.now.schema)
 stays old new (Ok count) h = begins_within old new count h
 stays old new (Err e) h = tt
 
@@ -68,7 +68,7 @@ pub returns-clause-ends : goal.returns-clause-ends
 returns-clause-ends g c =
     let old = state g.S.Store c.args.conn.now in
     let new = state g.S.Store c.execute.new.self in
-    let ends : Ends g.S.Store c.args.conn.now c.execute.new.self c.execute.result = execute_ends _ _ _ c.execute.result ours c.execute.ensures.survives c.execute.ensures.runs in
+    let ends : EndsConnectionCall g.S.Store c.args.conn.now c.execute.new.self c.execute.result = execute_ends _ _ _ c.execute.result ours c.execute.ensures.survives c.execute.ensures.runs in
     record {
       lasts = ends.lasts;
       was_open = ends.was_open;

@@ -3,15 +3,15 @@ use Rattle.sqlite.specs.declared.error.Error.{Error}
 use Rattle.sqlite.specs.Effect.{Database}
 use Rattle.sqlite.specs.Held.{state}
 use Rattle.sqlite.specs.State.{State, IsMisplaced, Executes}
-use Rattle.archive_tables.specs.Tables.{IsKept, archive_of}
-use Rattle.archive_tables.specs.Making.{IsMade}
-use Rattle.archive_machine.specs.Records.{Archive}
+use Rattle.archive_tables.specs.Tables.{IsArchiveAtRest, archive_of}
+use Rattle.archive_tables.specs.Making.{IsReadyToCommit}
+use Rattle.archive_model.specs.Records.{Archive}
 use Rattle.archive_tables.proofs.MakeLemmas.{commits, commit_text}
 use Rattle.archive_tables.proofs.HeldLemmas.{commits_over}
 use Rattle.sqlite_tied.specs.Compute.{everything}
 use Rattle.sqlite_resolve.specs.Compile.{first}
 use Rattle.archive_tables.proofs.LastLemmas.{IsOurText}
-use Rattle.archive_tables.specs.Calls.{Ends}
+use Rattle.archive_tables.specs.Calls.{EndsConnectionCall}
 use Rattle.archive_tables.proofs.EndLemmas.{execute_ends, statement_stops}
 use Rattle.sqlite.specs.Command.TheVariants.{Commit}
 use Rattle.sqlite.specs.Schema.{Schema}
@@ -22,8 +22,8 @@ use Rattle.archive_tables.proofs.CrashLemmas.{commit_adds}
 use Rattle.sqlite.proofs.Callers.{IsPlain, command_of, runs_as}
 use Rattle.archive_tables.proofs.texts.schema.commit.Goals as goal
 
-done : (old new : State) (before : Database) (archive : Archive) → IsMade old before archive → (r : Result ℕ Error) → Executes commit_text [] old new r
-    → OnOk r (IsKept new × (archive_of new ≡ archive))
+done : (old new : State) (before : Database) (archive : Archive) → IsReadyToCommit old before archive → (r : Result ℕ Error) → Executes commit_text [] old new r
+    → OnOk r (IsArchiveAtRest new × (archive_of new ≡ archive))
 done old new before archive k (Ok count) h = commits old new before archive count k h
 done old new before archive k (Err e) h = tt
 
@@ -62,7 +62,7 @@ pub returns-clause-ends : goal.returns-clause-ends
 returns-clause-ends g c =
     let old = state g.S.Store c.args.conn.now in
     let new = state g.S.Store c.execute.new.self in
-    let ends : Ends g.S.Store c.args.conn.now c.execute.new.self c.execute.result = execute_ends _ _ _ c.execute.result ours c.execute.ensures.survives c.execute.ensures.runs in
+    let ends : EndsConnectionCall g.S.Store c.args.conn.now c.execute.new.self c.execute.result = execute_ends _ _ _ c.execute.result ours c.execute.ensures.survives c.execute.ensures.runs in
     record {
       lasts = ends.lasts;
       was_open = ends.was_open;

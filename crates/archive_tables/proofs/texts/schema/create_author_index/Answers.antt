@@ -3,13 +3,13 @@ use Rattle.sqlite.specs.declared.error.Error.{Error}
 use Rattle.sqlite.specs.Effect.{Database}
 use Rattle.sqlite.specs.Held.{state}
 use Rattle.sqlite.specs.State.{State, Executes}
-use Rattle.archive_tables.specs.Schema.{with_month_index, schema_1, create_author_index}
-use Rattle.archive_tables.specs.Making.{IsMaking}
+use Rattle.archive_tables.specs.Schema.{schema_with_month_index, schema_1, create_author_index}
+use Rattle.archive_tables.specs.Making.{IsCreatingTables}
 use Rattle.archive_tables.proofs.MakeLemmas.{makes_author_index}
 use Rattle.sqlite_tied.specs.Compute.{everything}
 use Rattle.sqlite_resolve.specs.Compile.{first}
 use Rattle.archive_tables.proofs.LastLemmas.{IsOurText}
-use Rattle.archive_tables.specs.Statements.{indexing_authors}
+use Rattle.archive_tables.specs.Statements.{create_author_index_statement}
 use Rattle.archive_tables.proofs.RefusalLemmas.{KnowsIn}
 use Rattle.archive_tables.proofs.EndLemmas.{step_ends}
 use Rattle.sqlite.specs.Listing.{understood}
@@ -17,7 +17,8 @@ use Rattle.sqlite.proofs.Callers.{command_of}
 use Rattle.archive_tables.proofs.CrashLemmas.{EndsNothing, within_adds_nothing}
 use Rattle.archive_tables.proofs.texts.schema.create_author_index.Goals as goal
 
-done : (old new : State) (before : Database) → IsMaking old with_month_index before → (r : Result ℕ Error) → Executes create_author_index [] old new r → OnOk r (IsMaking new schema_1 before)
+done : (old new : State) (before : Database) → IsCreatingTables old schema_with_month_index before → (r : Result ℕ Error) → Executes create_author_index [] old new r
+    → OnOk r (IsCreatingTables new schema_1 before)
 done old new before k (Ok count) h = makes_author_index old new before count k h
 done old new before k (Err e) h = tt
 
@@ -28,17 +29,18 @@ ours : IsOurText (first create_author_index)
 unfolding first everything
 ours = tt
 
-knows : KnowsIn with_month_index indexing_authors
+knows : KnowsIn schema_with_month_index create_author_index_statement
 unfolding understood everything
 knows = record { fits = (refl, refl); plain = (refl, refl); writes = tt }
 
 pub returns-clause-ends : goal.returns-clause-ends
-returns-clause-ends g c = step_ends with_month_index indexing_authors _ c.execute.result knows ours c.execute.ensures.survives c.execute.ensures.runs
+returns-clause-ends g c = step_ends schema_with_month_index create_author_index_statement _ c.execute.result knows ours c.execute.ensures.survives c.execute.ensures.runs
 
-goes_on : EndsNothing (command_of (understood with_month_index create_author_index))
+goes_on : EndsNothing (command_of (understood schema_with_month_index create_author_index))
 unfolding understood everything
 goes_on = tt
 
 pub returns-clause-quiet : goal.returns-clause-quiet
 returns-clause-quiet g c before k clean db may =
-    within_adds_nothing create_author_index with_month_index _ refl goes_on _ before (state g.S.Store c.args.conn.now) (state g.S.Store c.execute.new.self) k c.execute.ensures.survives clean db may
+    within_adds_nothing create_author_index schema_with_month_index _ refl goes_on _ before (state g.S.Store c.args.conn.now) (state g.S.Store c.execute.new.self) k
+    c.execute.ensures.survives clean db may

@@ -8,11 +8,11 @@ use Rattle.sqlite.specs.Effect.{Database}
 use Rattle.sqlite.specs.Order.{Row}
 use Rattle.sqlite.specs.Held.{state}
 use Rattle.sqlite.specs.State.{State, Shown, FailsToQuery}
-use Rattle.archive_tables.specs.Tables.{IsHeld, IsKept, IsKnown, HasForm, form_of}
-use Rattle.archive_tables.specs.Rows.{versions_shown}
-use Rattle.archive_tables.specs.Making.{IsBackTo}
+use Rattle.archive_tables.specs.Tables.{IsOpenArchive, IsArchiveAtRest, IsKnownVersion, HasSchemaOfFormat, format_of_version}
+use Rattle.archive_tables.specs.Rows.{version_result_rows}
+use Rattle.archive_tables.specs.Making.{IsRolledBackIfOpen}
 use Rattle.archive_tables.specs.declared.texts.schema.TheConstants.{VERSION}
-use Rattle.archive_tables.specs.Calls.{StaysOver, RestsOver, IsCaused}
+use Rattle.archive_tables.specs.Calls.{LeavesRowsUnchanged, FaultKeepsRowsOrRollsBack, IsMemoryOrDiskError}
 use Rattle.archive_tables.proofs.VersionLemmas.{number_text, numbers_found, numbers_leave, no_numbers_leave, no_numbers_caused}
 use Rattle.archive_tables.proofs.VersionLemmas.{numbers_open, version_found, version_not_found, version_not_found_caused}
 use Rattle.archive_tables.proofs.EndLemmas.{asks_shows}
@@ -26,22 +26,23 @@ asks : IsQuestionText (first (codes "SELECT number FROM version ORDER BY rowid")
 unfolding first everything
 asks = tt
 
-asked : (behind : Option Database) (old new : State) (r : Result (Vec Row Global) Error) → IsHeld behind old → IfOk r (λ rows. Shown number_text [] old new rows.items)
+asked : (behind : Option Database) (old new : State) (r : Result (Vec Row Global) Error) → IsOpenArchive behind old → IfOk r (λ rows. Shown number_text [] old new rows.items)
     → IfErr r (FailsToQuery number_text [] old new)
-    → MatchResult r (λ rows. (rows.items ≡ (Int VERSION ∷ []) ∷ []) × StaysOver behind old new) (λ _. RestsOver behind old new)
+    → MatchResult r (λ rows. (rows.items ≡ (Int VERSION ∷ []) ∷ []) × LeavesRowsUnchanged behind old new) (λ _. FaultKeepsRowsOrRollsBack behind old new)
 asked behind old new (Ok rows) k ok err = version_found old new k rows.items ok
 asked behind old new (Err e) k ok err = version_not_found old new k e err
 
-why : (old new : State) (r : Result (Vec Row Global) Error) → IsKept old → old.step_limit ≡ None → IfErr r (FailsToQuery number_text [] old new) → IfErr r (λ e. IsCaused old new e ⊎ ⊥)
+why : (old new : State) (r : Result (Vec Row Global) Error) → IsArchiveAtRest old → old.step_limit ≡ None → IfErr r (FailsToQuery number_text [] old new)
+    → IfErr r (λ e. IsMemoryOrDiskError old new e ⊎ ⊥)
 why old new (Ok rows) k free err = tt
 why old new (Err e) k free err = inl (version_not_found_caused old new k e err free)
 
-module _ (old new : State) (number : ℕ) (known : IsKnown number) (o : HasForm (form_of number) old) where
-  numbered : (r : Result (Vec Row Global) Error) → IfOk r (λ rows. Shown number_text [] old new rows.items) → IfOk r (λ rows. IsPermutation (versions_shown old.now.trees) rows.items)
+module _ (old new : State) (number : ℕ) (known : IsKnownVersion number) (o : HasSchemaOfFormat (format_of_version number) old) where
+  numbered : (r : Result (Vec Row Global) Error) → IfOk r (λ rows. Shown number_text [] old new rows.items) → IfOk r (λ rows. IsPermutation (version_result_rows old.now.trees) rows.items)
   numbered (Ok rows) ok = numbers_found old new number known o rows.items ok
   numbered (Err e) ok = tt
 
-  leaves : (r : Result (Vec Row Global) Error) → IfOk r (λ rows. Shown number_text [] old new rows.items) → IfErr r (FailsToQuery number_text [] old new) → IsBackTo new old.now
+  leaves : (r : Result (Vec Row Global) Error) → IfOk r (λ rows. Shown number_text [] old new rows.items) → IfErr r (FailsToQuery number_text [] old new) → IsRolledBackIfOpen new old.now
   leaves (Ok rows) ok err = numbers_leave old new number known o rows.items ok
   leaves (Err e) ok err = no_numbers_leave old new number known o e err
 
@@ -49,7 +50,7 @@ module _ (old new : State) (number : ℕ) (known : IsKnown number) (o : HasForm 
   opened (Ok rows) ok = numbers_open old new number known o rows.items ok
   opened (Err e) ok = tt
 
-  no_numbers : old.step_limit ≡ None → (r : Result (Vec Row Global) Error) → IfErr r (FailsToQuery number_text [] old new) → IfErr r (IsCaused old new)
+  no_numbers : old.step_limit ≡ None → (r : Result (Vec Row Global) Error) → IfErr r (FailsToQuery number_text [] old new) → IfErr r (IsMemoryOrDiskError old new)
   no_numbers free (Ok rows) err = tt
   no_numbers free (Err e) err = no_numbers_caused old new number known o e err free
 

@@ -1,6 +1,6 @@
 use Rattle.std.proofs.Common.{◌≡◌, ℕ, ℤ, ◌+◌, ◌-◌, ◌*◌, ◌≤◌, ◌≤ℤ◌, pos, arith, w16, to_z, of_z, nat_abs, true, Some, refl, sym}
 use Rattle.std.proofs.lemmas.Int.{ints}
-use Rattle.civil_time.specs.Calendar.{day_number_of, is_in_month}
+use Rattle.civil_time.specs.Calendar.{checked_day_number, is_in_month}
 use Rattle.civil_time.proofs.MonthLemmas.{date_number, date_in_month, month_is}
 use Rattle.civil_time.proofs.months.Month.of_day.Goals as goal
 
@@ -8,7 +8,7 @@ use Rattle.civil_time.proofs.months.Month.of_day.Goals as goal
 year_is : (y : ℤ) → pos 1900 ≤ℤ y → y ≤ℤ pos 9998 → (to_z w16 (of_z w16 y) ≡ y) × (nat_abs y ≤ 9998)
 year_is y low high = (omega (arith, ints, low, high), omega (arith, ints, low, high))
 
-lies : (y : ℤ) (m d : ℕ) (z : ℤ) → day_number_of (nat_abs y) m d ≡ Some z → to_z w16 (of_z w16 y) ≡ y → is_in_month (12 * nat_abs (to_z w16 (of_z w16 y)) + (m - 1)) z ≡ true
+lies : (y : ℤ) (m d : ℕ) (z : ℤ) → checked_day_number (nat_abs y) m d ≡ Some z → to_z w16 (of_z w16 y) ≡ y → is_in_month (12 * nat_abs (to_z w16 (of_z w16 y)) + (m - 1)) z ≡ true
 lies y m d z h e = rw e (date_in_month (nat_abs y) m d (12 * nat_abs y + (m - 1)) z h refl)
 
 pub returns-clause-within : goal.returns-clause-within

@@ -1,6 +1,6 @@
 use Rattle.std.proofs.Common.{◌≡◌, ◌≤◌, ℕ, List, length, drop, length-drop, arith, ap, ◌∙◌, sym, subst}
 use Rattle.std.proofs.lemmas.List.{take_rest}
-use Rattle.mail_core.specs.Closings.{closings_of}
+use Rattle.mail_core.specs.Closings.{comment_closed_flags}
 use Rattle.mail_core.specs.declared.comments.Comments.TheInside.{Inside}
 use Rattle.mail_core.proofs.CommentTable.{closings-length, not_closed}
 use Rattle.mail_core.proofs.comments.Comments.end.Goals.{then-at-self+in_ok-self-inside, else-at-self, then-index, else-index}
@@ -8,7 +8,7 @@ use Rattle.mail_core.proofs.comments.Comments.end.Goals as goal
 
 -- the table reaches back to a place at least
 abbrev Reaches : List ℕ → ℕ → Inside → Type 0
-Reaches text at s = (s.text.now ≡ text) × (s.from ≤ at) × (s.closed.items ≡ closings_of (drop s.from text))
+Reaches text at s = (s.text.now ≡ text) × (s.from ≤ at) × (s.closed.items ≡ comment_closed_flags (drop s.from text))
 
 pub index-requires : goal.index-requires
 index-requires c =
@@ -18,12 +18,12 @@ index-requires c =
       | then-at-self+in_ok-self-inside w ↦ subst P (sym w.self-inside-is) (
         c.self.view_is,
         omega arith,
-        w.in_ok-self-inside.ensures ∙ ap closings_of (take_rest c.self.inside.text.now c.args.at) ∙ ap (λ (t : List ℕ). closings_of (drop c.args.at t)) c.self.view_is,
+        w.in_ok-self-inside.ensures ∙ ap comment_closed_flags (take_rest c.self.inside.text.now c.args.at) ∙ ap (λ (t : List ℕ). comment_closed_flags (drop c.args.at t)) c.self.view_is,
       )
       | else-at-self w ↦ subst P (sym w.self-inside-is) (
         c.self.view_is,
         w.if-at-self.false,
-        c.self.invariant.1 ∙ ap (λ (t : List ℕ). closings_of (drop c.self.inside.from t)) c.self.view_is,
+        c.self.invariant.1 ∙ ap (λ (t : List ℕ). comment_closed_flags (drop c.self.inside.from t)) c.self.view_is,
       )
     ]
     in
@@ -46,12 +46,12 @@ returns-clause-end c =
       | then-at-self+in_ok-self-inside w ↦ subst P (sym w.self-inside-is) (
         c.self.view_is,
         omega arith,
-        w.in_ok-self-inside.ensures ∙ ap closings_of (take_rest c.self.inside.text.now c.args.at) ∙ ap (λ (t : List ℕ). closings_of (drop c.args.at t)) c.self.view_is,
+        w.in_ok-self-inside.ensures ∙ ap comment_closed_flags (take_rest c.self.inside.text.now c.args.at) ∙ ap (λ (t : List ℕ). comment_closed_flags (drop c.args.at t)) c.self.view_is,
       )
       | else-at-self w ↦ subst P (sym w.self-inside-is) (
         c.self.view_is,
         w.if-at-self.false,
-        c.self.invariant.1 ∙ ap (λ (t : List ℕ). closings_of (drop c.self.inside.from t)) c.self.view_is,
+        c.self.invariant.1 ∙ ap (λ (t : List ℕ). comment_closed_flags (drop c.self.inside.from t)) c.self.view_is,
       )
     ]
     in

@@ -6,6 +6,6 @@ use Rattle.mbox_core.proofs.cutting.MessagesIterator.next.Goals as goal
 
 pub invariant_of-result : goal.invariant_of-result
 invariant_of-result c = (
-  c.is_complete-complete.ensures,
+  c.ends_with_newline-complete.ensures,
   subst (λ (x : List ℕ). NoneSeparates (lines (whole x))) (sym c.next_part-part.ensures.text) (whole_none _ (none_in_text c.self.inside.rest.now)),
 )

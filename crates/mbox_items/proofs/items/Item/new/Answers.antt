@@ -9,7 +9,7 @@ returns-then-is_some-clause-none c =
 
 pub invariant_of-result : goal.invariant_of-result
 invariant_of-result c = (
-  c.is_complete-complete.ensures,
+  c.ends_with_newline-complete.ensures,
   whole_none c.args.text.now (none_after c.next_part-part.result.next c.next_part-part.result.rest.now c.args.text.now c.next_part-part.ensures.items (sym c.is_some.ensures ∙ c.if-is_some.false)),
 )
 

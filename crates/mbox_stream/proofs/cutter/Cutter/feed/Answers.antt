@@ -1,9 +1,9 @@
 use Rattle.std.proofs.Common.{List, ◌++◌, sym, subst, Option}
 use Rattle.mbox_core.specs.Division.{Item}
-use Rattle.mbox_stream.specs.Cutter.{IsGiven}
-use Rattle.mbox_stream.specs.Held.{IsHeld}
+use Rattle.mbox_stream.specs.Cutter.{AreItemsGivenInPhase}
+use Rattle.mbox_stream.specs.Held.{HoldsUndecidedBytes}
 use Rattle.mbox_stream.specs.declared.window.Window.{Window}
-use Rattle.mbox_stream.specs.declared.cutter.Phase.{Phase}
+use Rattle.mbox_stream.specs.declared.cutter.CutterPhase.{CutterPhase}
 use Rattle.mbox_stream.proofs.KeptLemmas.{kept_given, kept_sound}
 use Rattle.mbox_stream.proofs.cutter.Cutter.feed.Goals as goal
 
@@ -14,9 +14,9 @@ invariant_of-self-in-Ok c =
     let stream = c.note.new.self.bytes in
     let place = c.in-Ok.window.place in
     let window = c.in-Ok.window.bytes.items in
-    let H : Option Window → Type 0 = λ w. IsHeld w c.self.inside.phase c.self.inside.stream.bytes before in
+    let H : Option Window → Type 0 = λ w. HoldsUndecidedBytes w c.self.inside.phase c.self.inside.stream.bytes before in
     let held = subst H (sym c.in-Some.ensures.value) c.self.invariant.1 in
-    let G : Phase → Type 0 = λ s. IsGiven s stream items in (
+    let G : CutterPhase → Type 0 = λ s. AreItemsGivenInPhase s stream items in (
       subst G (sym held.0)
           (kept_given place window stream items c.in-Ok.ensures.ok c.in-Ok.ensures.settled, kept_sound place window stream items c.in-Ok.ensures.ok c.in-Ok.ensures.settled),
       (held.0, c.in-Ok.ensures.ok, c.in-Ok.ensures.settled),
@@ -29,8 +29,8 @@ returns-in-Ok-clause-given c =
     let stream = c.note.new.self.bytes in
     let place = c.in-Ok.window.place in
     let window = c.in-Ok.window.bytes.items in
-    let H : Option Window → Type 0 = λ w. IsHeld w c.self.inside.phase c.self.inside.stream.bytes before in
+    let H : Option Window → Type 0 = λ w. HoldsUndecidedBytes w c.self.inside.phase c.self.inside.stream.bytes before in
     let held = subst H (sym c.in-Some.ensures.value) c.self.invariant.1 in
-    let G : Phase → Type 0 = λ s. IsGiven s stream items in
+    let G : CutterPhase → Type 0 = λ s. AreItemsGivenInPhase s stream items in
     subst G (sym held.0)
     (kept_given place window stream items c.in-Ok.ensures.ok c.in-Ok.ensures.settled, kept_sound place window stream items c.in-Ok.ensures.ok c.in-Ok.ensures.settled)

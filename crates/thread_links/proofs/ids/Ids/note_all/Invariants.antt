@@ -1,12 +1,12 @@
 use Rattle.std.proofs.Common.{List, take, ◌++◌}
 use Rattle.std.specs.HashMap.{get_by}
-use Rattle.mail_core.specs.MsgIds.{Id}
+use Rattle.mail_core.specs.MsgIds.{MessageId}
 use Rattle.thread_links.specs.declared.entry.Entry.{Entry}
 use Rattle.thread_links.specs.Containers.{same_id}
-use Rattle.thread_links.specs.Ids.{AreNoted}
+use Rattle.thread_links.specs.Ids.{NumbersContainers}
 use Rattle.thread_links.proofs.ids.Ids.note_all.Given as goal
 
 -- the ids so far are noted
 abbrev pub invariant-loop-at : goal.invariant-loop-at
-invariant-loop-at l = (entries : List Entry) (refs : List Id) → AreNoted entries refs l.fn.self.count (λ other. get_by (same_id other) l.fn.self.numbers)
-    → AreNoted entries (refs ++ take l.at l.ids) l.self.count (λ other. get_by (same_id other) l.self.numbers)
+invariant-loop-at l = (entries : List Entry) (refs : List MessageId) → NumbersContainers entries refs l.fn.self.count (λ other. get_by (same_id other) l.fn.self.numbers)
+    → NumbersContainers entries (refs ++ take l.at l.ids) l.self.count (λ other. get_by (same_id other) l.self.numbers)

@@ -1,0 +1,139 @@
+-- Messages that are withheld again by the marks that are kept of them.
+use Rattle.std.proofs.Common.{◌≡◌, refl, sym, ap, ◌∙◌, subst, inl, inr, ℕ, zero, suc, ◌≤◌, Bool, true, false, cond, List, [], ◌∷◌, ◌++◌, drop, Option, Some, None, Result, Ok, Err}
+use Rattle.std.specs.Prelude.{◌&&◌, ◌⊎◌, find, option_map, bytes_eq, IfErr}
+use Rattle.std.proofs.lemmas.Bool.{and_parts}
+use Rattle.std.proofs.lemmas.Slice.Eq.{bytes_eq-Decides}
+use Rattle.sqlite.specs.Store.{Ghosts}
+use Rattle.policy_core.specs.Verdict.{denied}
+use Rattle.archive_model.specs.Records.{Archive, Message}
+use Rattle.archive_model.specs.Questions.{message_of}
+use Rattle.archive_store.specs.Held.{memory_refusal_count}
+use Rattle.archive_store.specs.Told.{AnswersFromStoreUnder, StoreHasCleanDisk, HoldsTables, IsOpen, StaysOpenUnlessDiskFails, archive_in}
+use Rattle.archive_store.specs.declared.store.Store.{Store}
+use Rattle.archive_results.specs.Access.{Ask, Asked, MessageFacts, ReaderFacts, asked_under_ruling, asked_for_key, asked_of_message, denied_by, message_facts, reader_facts, ruling_on}
+use Rattle.archive_desk.specs.Asking.{DeterminesVerdicts}
+use Rattle.archive_desk.specs.Causes.{IsMessageUnreadable, IsReaderUnreadable}
+use Rattle.archive_desk.specs.Ending.{EndsDeskCall, EndsDeskQuestion}
+use Rattle.archive_desk.specs.Faults.{IsAskFault, RefusalReason, ask_reason, list_reason, refusal_reason}
+use Rattle.archive_desk.specs.Holding.{AnswersFromStoreTables, RelatesTableArchives}
+use Rattle.archive_desk.specs.declared.faults.DeskError.{DeskError}
+use Rattle.archive_desk.proofs.AskLemmas.{no_such_list}
+use Rattle.archive_desk.proofs.CallLemmas.{asks_last, calls_after}
+use Rattle.archive_desk.proofs.EndLemmas.{ask_after}
+use Rattle.archive_desk.proofs.MarkLemmas.{asked_alike}
+use Rattle.archive_cache.specs.Coherence.{IsCacheCoherent, AreWithheldCoherent, AreCoherent, IsWithheldCoherent, KeepsCacheCoherent}
+use Rattle.archive_cache.specs.Views.{IsCacheBounded, CachesWithheldMessage, CachedView, CacheState, WithheldMessage, is_withheld_message, cached_message_facts}
+
+-- ---- marks that are kept
+
+module _ (a : Archive) where
+  -- fewer
+  marked_later : (n : ℕ) (ws : List WithheldMessage) → AreWithheldCoherent a ws → AreWithheldCoherent a (drop n ws)
+  marked_later zero ws h = h
+  marked_later (suc n) [] h = tt
+  marked_later (suc n) (w ∷ ws) h = marked_later n ws h.1
+
+  -- and one more
+  marked_more : (ws : List WithheldMessage) (w : WithheldMessage) → AreWithheldCoherent a ws → IsWithheldCoherent a w → AreWithheldCoherent a (ws ++ w ∷ [])
+  marked_more [] w h is = (is, tt)
+  marked_more (x ∷ xs) w h is = (h.0, marked_more xs w h.1 is)
+
+  pub marked_on : (old new : List WithheldMessage) (w : WithheldMessage) → CachesWithheldMessage old new w → IsWithheldCoherent a w → AreWithheldCoherent a old → AreWithheldCoherent a new
+  marked_on old new w (n, inl more) is h = subst (AreWithheldCoherent a) (sym more) (marked_more (drop n old) w (marked_later n old h) is)
+  marked_on old new w (n, inr same) is h = subst (AreWithheldCoherent a) (sym same) (marked_later n old h)
+
+  -- of a message that the list holds
+  pub marked_held : {X : Type 0} (say : X → Message) (held : Option X) (x : X) (list key : List ℕ) (marks : MessageFacts) → held ≡ Some x
+      → option_map say held ≡ message_of a list key → marks ≡ message_facts None (say x) → IsWithheldCoherent a (record { list = list; key = key; marks = marks })
+  marked_held say held x list key marks there is same = (say x, sym is ∙ ap (option_map say) there, same)
+
+  -- those that a search gives are the marks of the message
+  pub marked_found : (list key : List ℕ) (marks : MessageFacts) (ws : List WithheldMessage) → AreWithheldCoherent a ws
+      → Some marks ≡ option_map (λ (w : WithheldMessage). w.marks) (find (is_withheld_message list key) ws)
+      → (m : Message) × (message_of a list key ≡ Some m) × (marks ≡ message_facts None m)
+  marked_found list key marks [] h is = absurd (cc)
+  marked_found list key marks (w ∷ ws) h is = by_test (λ rest. marked_found list key marks ws h.1 rest) (is_withheld_message list key w) refl is
+    where
+      by_test : (Some marks ≡ option_map (λ (w : WithheldMessage). w.marks) (find (is_withheld_message list key) ws) → (m : Message) × (message_of a list key ≡ Some m)
+          × (marks ≡ message_facts None m))
+          → (t : Bool) → is_withheld_message list key w ≡ t → Some marks ≡ option_map (λ (w : WithheldMessage). w.marks) (cond t (Some w) (find (is_withheld_message list key) ws))
+          → (m : Message) × (message_of a list key ≡ Some m) × (marks ≡ message_facts None m)
+      by_test rest true it is =
+          let both = and_parts (bytes_eq w.key key) (bytes_eq w.list list) it in
+          let keyed = (bytes_eq-Decides w.key key).0 both.0 in
+          let listed = (bytes_eq-Decides w.list list).0 both.1 in
+          let same : marks ≡ w.marks = cc in
+          (h.0.0, subst (λ l. message_of a l key ≡ Some h.0.0) listed (subst (λ k. message_of a w.list k ≡ Some h.0.0) keyed h.0.1), same ∙ h.0.2)
+      by_test rest false it is = rest is
+
+-- ---- a denial
+
+-- where it does not matter who wrote it
+unowned : (m : Message) → record (message_facts None m) { own = false } ≡ message_facts None m
+unfolding message_facts
+unowned m = refl
+
+pub denied_again : (a : Archive) (ask : Ask) (reader : ReaderFacts) (key rule : List ℕ) (kept : CacheState) (marks : MessageFacts) → Some marks ≡ cached_message_facts kept ask.list key
+    → ((m : Message) → ruling_on ask reader (record (message_facts None m) { own = false }) ≡ ruling_on ask reader (message_facts reader.address m))
+    → denied rule ≡ ruling_on ask reader marks → AreWithheldCoherent a kept.withheld → DeterminesVerdicts a ask reader → denied_by rule ≡ asked_for_key a ask key
+denied_again a ask reader key rule kept marks found alike says each enough =
+    let it = marked_found a ask.list key marks kept.withheld each found in
+    let m = it.0 in
+    let same : denied rule ≡ ruling_on ask (reader_facts a ask) (message_facts (reader_facts a ask).address m) =
+    says ∙ ap (ruling_on ask reader) (it.2 ∙ sym (unowned m)) ∙ alike m ∙ enough m in
+    ap (asked_under_ruling m) same ∙ ap (asked_of_message ask (reader_facts a ask)) (sym it.1)
+
+-- ---- behind the reader, who was found
+
+module _ {S : Type 0} (g : Ghosts S) (ask : Ask) (reader : ReaderFacts) (key : List ℕ) (old mid new : Store S)
+    (known : RelatesTableArchives g old mid (λ a b. (b ≡ a) × (ask_reason a ask ≡ None) × DeterminesVerdicts a ask reader)) (kept later : CacheState) {X : Type 0} (say : X → Asked) where
+  abbrev Reads : Archive → X → Type 0
+  Reads a answer = (say answer ≡ asked_of_message ask reader (message_of a ask.list key)) × (AreWithheldCoherent a kept.withheld → AreWithheldCoherent a later.withheld)
+
+  abbrev Answered : Archive → X → Type 0
+  Answered a answer = IsCacheCoherent a ask.rules ask.day kept → say answer ≡ asked_for_key a ask key
+
+  module _ (result : Result X DeskError) (read : AnswersFromStoreUnder g (HoldsTables g) mid new refusal_reason result (λ a. list_reason a ask) Reads) where
+    read_lasts : StaysOpenUnlessDiskFails g mid new
+    read_lasts = asks_last g (HoldsTables g) mid new refusal_reason (λ a. list_reason a ask) Reads result read
+
+    pub read_then : AnswersFromStoreTables g old new refusal_reason result (λ a. ask_reason a ask) Answered
+    read_then = calls_after g (HoldsTables g) old mid new refusal_reason (λ a b. (b ≡ a) × (ask_reason a ask ≡ None) × DeterminesVerdicts a ask reader)
+        (λ a b answer. (b ≡ a) × (list_reason a ask ≡ None) × Reads a answer) (λ a b answer. (b ≡ a) × (ask_reason a ask ≡ None) × Answered a answer)
+        (λ a b why. (b ≡ a) × (list_reason a ask ≡ Some why)) (λ a b why. (b ≡ a) × (ask_reason a ask ≡ Some why)) (λ a b _. b ≡ a) (λ a b _. b ≡ a)
+        (λ a b c answer first it. (
+          it.0 ∙ first.0,
+          first.1,
+          (λ are. it.2.0 ∙ ap (λ x. asked_of_message ask reader (message_of x ask.list key)) first.0 ∙ asked_alike a ask reader first.2 (message_of a ask.list key)),
+        ))
+        (λ a b c why first it. (it.0 ∙ first.0, no_such_list a ask why (subst (λ x. list_reason x ask ≡ Some why) first.0 it.1)))
+        (λ a b c fault first it. it ∙ first.0) result known read
+
+    pub read_ends : memory_refusal_count old ≤ memory_refusal_count mid → (StoreHasCleanDisk g mid → IsOpen g old) → EndsDeskCall g mid new IsAskFault result (λ a. IsMessageUnreadable a ask key)
+        → EndsDeskQuestion g old new IsAskFault result (λ a. IsMessageUnreadable a ask key ⊎ IsReaderUnreadable a ask)
+    read_ends grows up it = ask_after g old mid new (known.0, (λ returned held. let there = known.1 returned held in (there.0, there.1.0))) read_lasts grows IsAskFault
+        result (λ a. IsMessageUnreadable a ask key) (λ a. IsMessageUnreadable a ask key ⊎ IsReaderUnreadable a ask) (λ a bad. inl bad) it up
+
+  -- what is kept stays of the archive
+  marks_stay : (result : Result X DeskError) → AnswersFromStoreUnder g (HoldsTables g) mid new refusal_reason result (λ a. list_reason a ask) Reads
+      → IfErr result (λ _. later ≡ kept) → later ≡ record kept { withheld = later.withheld } → StoreHasCleanDisk g new → StoreHasCleanDisk g mid → HoldsTables g old
+      → IsCacheCoherent (archive_in g old) ask.rules ask.day kept → IsCacheCoherent (archive_in g old) ask.rules ask.day later
+  marks_stay (Err fault) read same rest returned there held are = subst (λ k. IsCacheCoherent (archive_in g old) ask.rules ask.day k) (sym same) are
+  marks_stay (Ok answer) read same rest returned there held are =
+      let a = archive_in g old in
+      let first = known.1 there held in
+      let it = read.1 returned first.0 in (
+        subst (λ (vs : List CachedView). AreCoherent a ask.rules ask.day vs) (sym (ap (λ (k : CacheState). k.views) rest)) are.0,
+        subst (λ x. AreWithheldCoherent x later.withheld) first.1.0 (it.1.2.1 (subst (λ x. AreWithheldCoherent x kept.withheld) (sym first.1.0) are.1)),
+      )
+
+  pub read_keeps : (result : Result X DeskError) → AnswersFromStoreUnder g (HoldsTables g) mid new refusal_reason result (λ a. list_reason a ask) Reads
+      → IfErr result (λ _. later ≡ kept) → later ≡ record kept { withheld = later.withheld } → (IsCacheBounded kept → IsCacheBounded later) → (StoreHasCleanDisk g mid → IsOpen g old)
+      → KeepsCacheCoherent g old new ask.rules ask.day kept later
+  read_keeps result read same rest bounded up =
+      let lasts = read_lasts result read in record {
+        held = λ returned held are. marks_stay result read same rest returned (lasts.returned returned) held are;
+        shut = λ returned shut. absurd (shut (up (lasts.returned returned)));
+        most = ap (λ (k : CacheState). k.most) rest;
+        bounded = bounded;
+      }

@@ -1,0 +1,22 @@
+use Rattle.std.proofs.Common.{Err, Option, sym, subst}
+use Rattle.archive_model.specs.declared.messages.Message.{Message}
+use Rattle.archive_store.specs.Told.{archive_in}
+use Rattle.archive_desk.specs.Walking.{IsMemoryOrDatabaseFault}
+use Rattle.archive_cache.specs.Sending.{EndsMboxOfLines, RemembersAfterFault}
+use Rattle.archive_cache.proofs.SendLemmas.{look_ends, looked_failed, unlisted}
+use Rattle.archive_cache.proofs.sending.find_line.Goals as goal
+
+pub returns-in_default : goal.returns-in_default
+returns-in_default g c =
+    let old = c.args.store.now in
+    let new = c.row.new.self in
+    let list = c.args.list.now in
+    let key = c.line.inside.key in
+    let fault = c.in-Err.fault in
+    let ends = c.in-Err.ensures.ends in record {
+      found = λ returned held. subst (λ f. RemembersAfterFault g.S.Store new (archive_in g.S.Store old) f) (sym c.from.ensures)
+          (looked_failed g.S.Store old new list key ends.lasts fault c.in-Err.ensures.answer returned held);
+      fault = subst IsMemoryOrDatabaseFault (sym c.from.ensures) (unlisted fault c.in_default.not-NoList ends.kind);
+      ends = subst (λ f. EndsMboxOfLines g.S.Store old new list {A = Option Message} (λ x. x) (Err f)) (sym c.from.ensures)
+          (look_ends g.S.Store old new list key ends.lasts fault ends.counted ends.caused);
+    }

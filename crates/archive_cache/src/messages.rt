@@ -1,0 +1,130 @@
+//! A message, asked for by its key: withheld by the marks that are kept of it, or read of a store.
+ghost use Rattle.std.specs.Prelude.{◌≡◌, ◌⊎◌, IfErr, IfSome, option_map};
+ghost use Rattle.archive_model.specs.Records.{Archive};
+ghost use Rattle.archive_model.specs.Messages.{archived_message};
+ghost use Rattle.archive_model.specs.Questions.{message_of};
+ghost use Rattle.archive_results.specs.Access.{asked_for_key, asked_of_message, denied_by, spec_asked};
+ghost use Rattle.archive_store.specs.Told.{AnswersFromStoreUnder, HoldsTables};
+ghost use Rattle.archive_desk.specs.Asking.{DeterminesVerdicts};
+ghost use Rattle.archive_desk.specs.Causes.{IsMessageUnreadable, IsReaderUnreadable};
+ghost use Rattle.archive_desk.specs.Ending.{EndsDeskCall, EndsDeskQuestion};
+ghost use Rattle.archive_desk.specs.Faults.{IsAskFault, ask_reason, list_reason, refusal_reason};
+ghost use Rattle.archive_desk.specs.Holding.{AnswersFromStoreTables};
+ghost use Rattle.archive_cache.specs.Coherence.{IsCacheCoherent, AreWithheldCoherent, KeepsCacheCoherent};
+ghost use Rattle.archive_cache.specs.Views.{IsCacheBounded};
+
+use crate::cache::Cache;
+use archive_desk::{DeskError, find_row, resolve_reader};
+use archive_model::{Key, Message};
+use archive_results::{
+    Ask, Asked, ReaderFacts, asks_author, lookup_message, message_facts, verdict,
+};
+use archive_store::Store;
+use policy_core::Verdict;
+use sqlite::Alter;
+use std::alloc::Global;
+
+/// The message of a key, as far as the policy lets the reader see it on the day. A message that was withheld is withheld again by the
+/// marks that are kept of it, without a look at its text; where who wrote it matters to the reader, it is read. The store is asked for
+/// the list and the reader each time. Where what was kept is of the archive that the store remembers, this is the answer of
+/// `archive_desk::message`, and what is kept then is of that archive too. The refusals are those of `archive_desk::message`.
+pub fn find_message<'p, S: Alter>(
+    store: &mut Store<S>,
+    kept: &mut Cache,
+    alloc: Global,
+    ask: &Ask<'p>,
+    key: &Key,
+) -> Result<Asked<'p>, DeskError>
+    ensures asked { AnswersFromStoreTables S.Store store.old store.new refusal_reason result
+        (λ a. ask_reason a ask.entry.now)
+        (λ a answer. IsCacheCoherent a ask.entry.now.rules ask.entry.now.day kept.old
+        → spec_asked answer ≡ asked_for_key a ask.entry.now key.now) }
+    ensures keeps { KeepsCacheCoherent S.Store store.old store.new ask.entry.now.rules ask.entry.now.day kept.old kept.new }
+    ensures ends { EndsDeskQuestion S.Store store.old store.new IsAskFault result
+        (λ a. IsMessageUnreadable a ask.entry.now key.now ⊎ IsReaderUnreadable a ask.entry.now) }
+{
+    let reader = match resolve_reader(store, ask) {
+        Ok(reader) => reader,
+        Err(fault) => return Err(fault),
+    };
+    match denial(kept, ask, &reader, key) {
+        Some(rule) => Ok(Asked::Denied(rule)),
+        None => read_message(store, kept, alloc, ask, &reader, key),
+    }
+}
+
+/// The name of the rule that denies a message to a reader of these marks, by the marks that are kept of the message. `None` where none are
+/// kept, where the policy shows it, and where who wrote it matters.
+fn denial<'p>(kept: &Cache, ask: &Ask<'p>, reader: &ReaderFacts, key: &Key) -> Option<&'p str>
+    ensures { IfSome result (λ rule. (a : Archive) → AreWithheldCoherent a kept.now.withheld
+        → DeterminesVerdicts a ask.now reader.now → denied_by rule.now ≡ asked_for_key a ask.now key.now) }
+{
+    if asks_author(ask, reader) {
+        return None;
+    }
+    let marks = kept.marks(ask.list, key)?;
+    match verdict(ask, reader, marks) {
+        Verdict::Allowed(_) => None,
+        Verdict::Denied(rule) => Some(rule),
+    }
+}
+
+/// What a reader of these marks gets who asks for a message, which is read. Of one that is withheld the marks are kept.
+fn read_message<'p, S: Alter>(
+    store: &mut Store<S>,
+    kept: &mut Cache,
+    alloc: Global,
+    ask: &Ask<'p>,
+    reader: &ReaderFacts,
+    key: &Key,
+) -> Result<Asked<'p>, DeskError>
+    ensures asked { AnswersFromStoreUnder S.Store (HoldsTables S.Store) store.old store.new refusal_reason result
+        (λ a. list_reason a ask.entry.now)
+        (λ a answer. spec_asked answer ≡ asked_of_message ask.entry.now reader.now
+        (message_of a ask.entry.now.list key.now)
+        × (AreWithheldCoherent a kept.old.withheld → AreWithheldCoherent a kept.new.withheld)) }
+    ensures same { IfErr result (λ _. kept.new ≡ kept.old) }
+    ensures rest { kept.new ≡ record kept.old { withheld = kept.new.withheld } }
+    ensures bounded { IsCacheBounded kept.old → IsCacheBounded kept.new }
+    ensures ends { EndsDeskCall S.Store store.old store.new IsAskFault result
+        (λ a. IsMessageUnreadable a ask.entry.now key.now) }
+{
+    let held = match find_row(store, ask, key) {
+        Ok(held) => held,
+        Err(fault) => return Err(fault),
+    };
+    match lookup_message(alloc, ask, reader, &held) {
+        Ok(answer) => {
+            keep_denied(kept, alloc, ask.list, key, &held, &answer);
+            Ok(answer)
+        }
+        Err(refused) => {
+            store.wants.increment(refused.into());
+            Err(DeskError::Memory)
+        }
+    }
+}
+
+/// Keeps the marks of a message that was withheld, as far as memory goes.
+fn keep_denied(
+    kept: &mut Cache,
+    alloc: Global,
+    list: &str,
+    key: &Key,
+    held: &Option<Message>,
+    answer: &Asked<'_>,
+)
+    ensures marked { (a : Archive)
+        → option_map (archived_message list.now) held.now ≡ message_of a list.now key.now
+        → AreWithheldCoherent a kept.old.withheld → AreWithheldCoherent a kept.new.withheld }
+    ensures rest { kept.new ≡ record kept.old { withheld = kept.new.withheld } }
+    ensures bounded { IsCacheBounded kept.old → IsCacheBounded kept.new }
+{
+    let (Asked::Denied(_), Some(message)) = (answer, held) else {
+        return;
+    };
+    let Ok(marks) = message_facts(alloc, &None, message) else {
+        return;
+    };
+    kept.put_marks(alloc, list, key, marks);
+}

@@ -1,0 +1,14 @@
+pub mod Records
+pub mod BearerTokens
+pub mod Addresses
+pub mod Keys
+pub mod Commands
+pub mod Questions
+pub mod Filing
+pub mod Machine
+pub mod Runs
+pub mod Sound
+pub mod Damage
+pub mod Messages
+pub mod Firsts
+pub mod Lasting

@@ -1,7 +1,0 @@
-use Rattle.archive_machine.specs.Messages.{remembered}
-use Rattle.archive_results.proofs.AccessLemmas.{marked}
-use Rattle.archive_results.proofs.access.marks_of.Goals as goal
-
-pub returns-clause-marks : goal.returns-clause-marks
-returns-clause-marks c = λ list.
-    marked _ (remembered list c.args.message.now) c.marks_with.result c.in_ok-own.own (c.marks_with.ensures list) (c.in_ok-own.ensures.own list)

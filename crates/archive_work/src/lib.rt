@@ -1,8 +1,0 @@
-//! Carrying out the orders of the words over an open store: it knows no file, no policy's text and no stream.
-#![tactic(auto)]
-
-mod commands;
-mod getting;
-
-pub use commands::{Answer, carry_out};
-pub use getting::{GetStop, get};
