@@ -13,7 +13,7 @@ import part
 # What a check takes of memory, in MB.
 NEED = 5000
 FUNCTION = re.compile(r"( *)(?:pub(?:\([^)]*\))? +)?(?:const +)?fn +(\w+)")
-IMPL = re.compile(r"impl\b(?:<.*?>)? *(?:(?:\w+::)*(\w+)(?:<.*>)? +for +)?(?:\w+::)*(\w+)")
+IMPL = re.compile(r"impl\b(?:<.*?>)? *(?:(?:\w+::)*(\w+)(?:<(?:&?(?:'\w+ )?(?:\w+::)*(\w+))?.*>)? +for +)?(?:\w+::)*(\w+)")
 # What the prover says of a function that has no proof, and where an error of a proof stands.
 TOLD = re.compile(r"fn (\S+): (no proof|not proved)\b(.*)")
 ERROR = re.compile(r"\./proofs/(\S+)/\w+\.antt:\d+:\d+: error: (.*)")
@@ -39,13 +39,13 @@ class Mistake:
     def __init__(self, edit):
         lines = edit.read_text(encoding="utf-8").split("\n")
         files = {it.removeprefix("file: ") for it in lines if it.startswith("file: ")}
-        self.edit, self.file, self.function, self.type = edit, files.pop() if len(files) == 1 else "", None, ""
+        self.edit, self.file, self.function, self.type, self.of = edit, files.pop() if len(files) == 1 else "", None, "", ""
         self.pairs = [(old.removeprefix("old: "), new.removeprefix("new:").removeprefix(" "))
                       for old, new in zip([it for it in lines if it.startswith("old: ")], [it for it in lines if it.startswith("new:")])]
         if self.file.startswith("src/"):
             text = (edit.parent.parent / self.file).read_text(encoding="utf-8")
             found = {function_at(text, text.find(old)) for old, _ in self.pairs}
-            self.function, self.type = found.pop() if len(found) == 1 else (None, "")
+            self.function, self.type, self.of = found.pop() if len(found) == 1 else (None, "", "")
 
     def applied(self, text):
         """Returns the text with this mistake, or None where what it takes away does not stand there once."""
@@ -59,12 +59,13 @@ class Mistake:
         """Returns whether the prover's path of a function is that of this one: its module, or that of its type, the type with the trait, its name."""
         _, *modules, name = path.split("::")
         if self.type:
-            return name == self.function and bool(modules) and modules[-1] == self.type
+            return name == self.function and bool(modules) and modules[-1] in (self.type, self.type + self.of)
         return name == self.function and modules == [it for it in self.file.removeprefix("src/").removesuffix(".rt").split("/") if it not in ("lib", "main")]
 
 
 def function_at(text, at):
-    """Returns the name of the function in whose body a place lies, or None, and what the prover calls the type that it is of, if it is of one."""
+    """Returns the name of the function in whose body a place lies, or None; what the prover calls the type that it is of, if it is of one, with
+    the trait; and what a trait is of, as `AllocError` of `From<AllocError>`, with which the prover's name may end."""
     start, function = text.rfind("\n", 0, at) + 1, None
     indent = len(text[start:]) - len(text[start:].lstrip(" "))
     for line in reversed(text[:start].split("\n")):
@@ -72,10 +73,10 @@ def function_at(text, at):
         if found and len(found[1]) < indent:
             function, indent = found[2], len(found[1])
         if indent == 0 and function:
-            return function, ""
+            return function, "", ""
         if function and (of := IMPL.match(line)):
-            return function, f"{of[2]}{of[1] or ''}"
-    return None, ""
+            return function, f"{of[3]}{of[1] or ''}", of[2] or ""
+    return None, "", ""
 
 
 def rounds_of(mistakes):
@@ -83,7 +84,7 @@ def rounds_of(mistakes):
     rounds = []
     for it in mistakes:
         if it.function:
-            free = [made for made in rounds if all((one.file, one.type, one.function) != (it.file, it.type, it.function) for one in made)]
+            free = [made for made in rounds if all((one.file, one.type, one.of, one.function) != (it.file, it.type, it.of, it.function) for one in made)]
             (free[0] if free else rounds.append([]) or rounds[-1]).append(it)
     return rounds
 

@@ -11,13 +11,14 @@ import concurrent.futures, contextlib, hashlib, importlib.util, os, pathlib, re,
 TOOLS = pathlib.Path(__file__).resolve().parent
 
 # The stand-in of the toolchain's command: `ci` notes its words and the files that it was given, builds what `builds` names out of
-# `program`, says what `says` holds (of wrong bodies only if it was given one), and ends with the number of `status`; `fmt` lays out by taking double spaces away; beside the
+# `program`, says what `says` holds (of wrong bodies only if it was given one), and ends with the number of `status`; `fmt` takes one of two
+# spaces behind `fn` away; beside the
 # page that `doc` names lies a compiler, which makes an empty file. `try` notes its words, its input and the file of `--data`, writes
 # what `writes` holds, says what `tells` holds, and ends with the number of `ends`.
 STAND_IN = r'''#!/bin/sh
 case $1 in
   version) cat "$STAND_IN/version";;
-  fmt) sed -i 's/  / /g' src/*.rt;;
+  fmt) sed -i 's/fn  /fn /g' src/*.rt;;
   ci) shift
     { for word in "$@"; do echo "$word"; done; find . -type f | sed 's|^\./||'; cat crates.txt; } > "$STAND_IN/asked"
     for name in $(cat "$STAND_IN/builds"); do
@@ -444,7 +445,12 @@ def with_mistakes(**mistakes):
 F_EDIT, G_EDIT = "f.is_three.edit", "g.adds_four.edit"
 TOO_HIGH = {**BODIES, "crates/low/must-fail/MOST.is_ten.edit": "file: src/lib.rt\nold: = 9;\nnew: = 10;\n"}
 TWICE_F = {**BODIES, "crates/low/must-fail/f.is_zero.edit": "file: src/lib.rt\nold:  1\nnew:  0\n"}
+FROM = {**BODIES, "crates/low/src/lib.rt": BODIES["crates/low/src/lib.rt"] + "\nimpl From<core::AllocError> for Low {\n    fn from(e: AllocError) -> Low {\n        LOW\n    }\n}\n",
+    "crates/low/must-fail/from.is_high.edit": "file: src/lib.rt\nold:         LOW\nnew:         HIGH\n"}
+FROM_FAILS = "fn low::{}::from: not proved; `search` did not prove `returns`\n"
 IN_ONE_CHECK = {
+    "the trait's argument ends the name of an impl": tries(F_FAILS + G_FAILS + FROM_FAILS.format("LowFromAllocError"), 3, [], files=FROM),
+    "an impl of another argument is another": tries(F_FAILS + G_FAILS + FROM_FAILS.format("LowFromError"), 0, ["from.is_high.edit", F_EDIT, G_EDIT], files=FROM),
     "two functions are tried in one check": tries(F_FAILS + G_FAILS, 2, [], sources=[with_mistakes(f=("\n 1\n", "\n 3\n"), g=("+ 2", "+ 4"))]),
     "one that is proved is tried by itself": tries(F_FAILS + "fn low::g: proved\n", 1, [G_EDIT]),
     "so is one that only calls what is not proved": tries(F_FAILS + "fn low::g: no proof: it calls `low::f`, which is not proved\n", 1, [G_EDIT]),
