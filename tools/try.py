@@ -12,8 +12,7 @@ TOOLS = pathlib.Path(__file__).resolve().parent
 
 # The stand-in of the toolchain's command: `ci` notes its words and the files that it was given, builds what `builds` names out of
 # `program`, says what `says` holds (of wrong bodies only if it was given one), and ends with the number of `status`; `fmt` takes one of two
-# spaces behind `fn` away; beside the
-# page that `doc` names lies a compiler, which makes an empty file. `try` notes its words, its input and the file of `--data`, writes
+# spaces after `fn` away; beside the page that `doc` names lies a compiler, which makes an empty file. `try` notes its words, its input and the file of `--data`, writes
 # what `writes` holds, says what `tells` holds, and ends with the number of `ends`.
 STAND_IN = r'''#!/bin/sh
 case $1 in
