@@ -44,8 +44,8 @@ module _ {D : Type 0} {g : Ghosts D} where
   FailedToClose store error = (last : FileStore D g) × IsClosed (store_connection store) last × (IsClean (view last) → FailsToClose (store_connection store) last error)
 
   -- Something came of the close: the files hold what was committed, or it failed.
-  abbrev pub IsCloseResultOf : Option (CloseResult D) → Store (FileStore D g) → Type 0
-  IsCloseResultOf left store = MatchOption left ⊥ (λ closed. MatchResult closed (λ files. FilesHoldCommitted store files) (λ error. FailedToClose store error))
+  abbrev pub IsCloseResultOf : Option (CloseResult g) → Store (FileStore D g) → Type 0
+  IsCloseResultOf left store = MatchOption left ⊥ (λ closed. MatchResult closed (λ files. FilesHoldCommitted store files) (λ failed. FailedToClose store failed))
 
 -- ---- the law of a system's device
 
@@ -54,23 +54,23 @@ module _ {D : Type 0} {g : Ghosts D} (store : Store (FileStore D g)) where
   rows : (image : Image) → HoldsTables over_files store → Lists ((file_state (store_connection store)).now.trees catalog_tree) (file_state (store_connection store)).now.schema
       → HoldsDatabase image (file_state (store_connection store)).committed.trees → ImageHoldsArchive image (archive_in over_files store)
   rows image kept lists held =
-      let same : (file_state (store_connection store)).committed.trees ≡ (file_state (store_connection store)).now.trees = ap (λ (db : Database). db.trees) kept.settled in record {
+      let same : (file_state (store_connection store)).committed.trees ≡ (file_state (store_connection store)).now.trees = ap (λ (db : Database). db.trees) kept.committed_is in record {
         number = newest_version;
-        known = record { least = omega (arith); most = omega (arith) };
+        is_known_version = record { at_least_one = omega (arith); at_most_newest = omega (arith) };
         trees = (file_state (store_connection store)).now.trees;
         database = subst (HoldsDatabase image) same held;
         schema = subst (Lists ((file_state (store_connection store)).now.trees catalog_tree)) kept.schema lists;
-        tables = kept.tables;
+        are_tables_of_version = kept.tables;
         rows_stand_for_archive = refl;
       }
 
-  still_holds : (left : Option (CloseResult D)) → IsCloseResultOf left store → HoldsTables over_files store → CloseResultHoldsArchive g left (archive_in over_files store)
+  still_holds : (left : Option (CloseResult g)) → IsCloseResultOf left store → HoldsTables over_files store → CloseResultHoldsArchive g left (archive_in over_files store)
   still_holds None closed kept = tt
   still_holds (Some (Ok files)) closed kept = λ clean.
       let it = closed clean kept.is_open in
       ∥∥₁_map it.0 (rows (image_of g files) kept it.1)
   still_holds (Some (Err error)) closed kept = tt
 
-  pub close_result_holds_archive : {A : Type 0} (Says : Type 0) (before after : Option A) (left : Option (CloseResult D)) → (after ≡ before) × IsCloseResultOf left store → before ≡ None
+  pub close_result_holds_archive : {A : Type 0} (Says : Type 0) (before after : Option A) (left : Option (CloseResult g)) → (after ≡ before) × IsCloseResultOf left store → before ≡ None
       → HoldsTables over_files store → HoldsIfSome after Says × CloseResultHoldsArchive g left (archive_in over_files store)
   close_result_holds_archive Says before after left closed used kept = (holds_if_some_of_none after before Says closed.0 used, still_holds left closed.1 kept)

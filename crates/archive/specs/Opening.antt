@@ -23,11 +23,11 @@ use Rattle.archive_run.specs.Remembering.{StoreHoldsArchive}
 -- The log and the database file hold tables of some version, 1 to 3, whose rows stand for this archive, whatever is filed of a message.
 pub record ImageHoldsArchive (image : Image) (archive : Archive) : Type 0 where
   pub number : ℕ
-  pub known : IsKnownVersion number
+  pub is_known_version : IsKnownVersion number
   pub trees : Trees
   pub database : HoldsDatabase image trees
   pub schema : Lists (trees catalog_tree) (schema_of_version number)
-  pub tables : AreTablesOfVersion number trees
+  pub are_tables_of_version : AreTablesOfVersion number trees
   pub rows_stand_for_archive : archive_of_version number trees ≡ archive
 
 -- This is so while there is a value, and nothing is said once it is used up.
@@ -38,9 +38,9 @@ module _ {D : Type 0} {g : Ghosts D} (image : Image) (store : Store (FileStore D
   -- A connection found what the files held, and the store took it over.
   pub record IsOpenedFromImage : Type 0 where
     pub connection : Held (FileStore D g)
-    pub found : HasCleanDisk (file_state connection) → FindsIn image (file_state connection)
-    pub opened : HasCleanDisk (file_state connection) → IsOpened connection
-    pub adopted : IsAdopted over_files connection store
+    pub finds_image : HasCleanDisk (file_state connection) → FindsIn image (file_state connection)
+    pub is_opened : HasCleanDisk (file_state connection) → IsOpened connection
+    pub is_adopted : IsAdopted over_files connection store
 
 -- ---- the laws of a system's device
 
@@ -66,7 +66,7 @@ module _ {D : Type 0} {g : Ghosts D} (image : Image) where
       let brought = was.adopted.brought returned held.number held.known is in
       (brought.0, brought.1 ∙ ap (archive_of_version held.number) trees ∙ held.rows_stand_for_archive)
 
-  pub opened_store_holds_if_some : {A : Type 0} (start : Option A) (archive : Archive) (store : Store (FileStore D g)) → HoldsIfSome start (ImageHoldsArchive image archive)
+  pub opened_store_holds_if_some : {A : Type 0} (start : Option A) (archive : Archive) (store : Store (FileStore D g)) → HoldsIfSome start (FileHoldsArchive image archive)
       → (start ≡ None → ⊥) → IsOpenedFromImage image store → StoreHoldsArchive over_files store archive
   opened_store_holds_if_some None archive store held some was = absurd (some refl)
   opened_store_holds_if_some (Some s) archive store held some was = opened_store_holds_archive store archive was held

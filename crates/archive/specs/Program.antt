@@ -9,8 +9,8 @@ use Rattle.archive_args.specs.declared.orders.OrderStop.TheVariants.{Memory}
 use Rattle.sift_run.specs.Running.{ParseAsOrder}
 use Rattle.sift_run.specs.Streams.{OutputStreamState, output_stream_state}
 use Rattle.sift_run.specs.Systems.{AreProgramArguments, IsArgumentsError}
-use Rattle.archive_run.specs.Holding.{RunsOrderOnArchive}
-use Rattle.archive_run.specs.Runs.{OrderIsRefused, RunsOrder, RunReportsOrderStop}
+use Rattle.archive_run.specs.Crashing.{CrashRunsOrder}
+use Rattle.archive_run.specs.Runs.{OrderIsCarriedOut, OrderIsRefused, RunReportsOrderStop}
 use Rattle.archive_run.specs.Environments.{DeviceContracts}
 use Rattle.archive_run.specs.declared.world.Environment.{Environment}
 
@@ -29,17 +29,17 @@ module _ {Y S F D C P T R O E I L K A B M : Type 0} (dev : DeviceContracts S F I
     -- at 1 it was refused for a reason that holds, and one line tells it
     pub refused : (order : Order) → ParseAsOrder words order → status ≡ 1 → OrderIsRefused dev old new order
     -- at 2 the words are bad
-    pub bad : status ≡ 2 → IsUsageError words × ((takes archive_app words ≡ false) ⊎ (order_of_args words ≡ None))
+    pub when_2 : status ≡ 2 → IsUsageError words × ((takes archive_app words ≡ false) ⊎ (order_of_args words ≡ None))
     -- an order ends with 0 or 1; words that give none by why they give none
-    pub stopped : ((order : Order) × ParseAsOrder words order × (status ≤ 1))
+    pub when_not_served : ((order : Order) × ParseAsOrder words order × (status ≤ 1))
         ⊎ ((stop : OrderStop) × IsOrderStopOf words stop × RunReportsOrderStop dev old new stop status)
 
   -- The run, after which what a refused order left in the output is passed on, and nothing else is touched.
   pub record RunsAndFlushes (words : List (List ℕ)) (new : Environment Y S F D C P T R O E I L K A B M) (status : ℕ) : Type 0 where
-    pub stopped : Environment Y S F D C P T R O E I L K A B M
-    pub ends : EndsRun words stopped status
-    pub passed : FlushesRunOutput (output_stream_state dev.takes dev.passes stopped.output) (output_stream_state dev.takes dev.passes new.output)
-    pub rest : new ≡ record stopped { output = new.output }
+    pub unflushed : Environment Y S F D C P T R O E I L K A B M
+    pub ends_run : EndsRun words unflushed status
+    pub flushes_output : FlushesRunOutput (output_stream_state dev.takes dev.passes unflushed.output) (output_stream_state dev.takes dev.passes new.output)
+    pub only_output_differs : new ≡ record unflushed { output = new.output }
 
   -- That, or there was no memory to lend the words.
   abbrev pub RunsArchiveOnArgs : (words : List (List ℕ)) → (new : Environment Y S F D C P T R O E I L K A B M) → (status : ℕ) → Type 0

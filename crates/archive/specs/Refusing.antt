@@ -43,10 +43,10 @@ module _ {R D : Type 0} (g : Ghosts D) (seeds : R → Bool → Type 0) (opens : 
     (image : Image) where
   -- The files were opened, and no connection came of them, by what the database says of files that it does not open.
   pub record FailsToReadFiles (fault : StoreFault) : Type 0 where
-    pub named : opens system name None
+    pub opens_name : opens system name None
     pub files : Files D
-    pub held : image_of g files ≡ image
-    pub left : Leftover D g
+    pub image_is : image_of g files ≡ image
+    pub leftover : Leftover D g
     pub error : Error
     pub cause : IsCleanLeft left → FailsToOpenFiles files left error
     pub told : fault ≡ store_fault_of_error error
@@ -59,10 +59,10 @@ module _ {R D : Type 0} (g : Ghosts D) (seeds : R → Bool → Type 0) (opens : 
 
   -- A connection found what the files held, and the store did not take it over, for this fault.
   pub record FailsToAdopt (fault : StoreFault) : Type 0 where
-    pub named : opens system name None
+    pub opens_name : opens system name None
     pub connection : Held (FileStore D g)
-    pub found : HasCleanDisk (file_state connection) → FindsIn image (file_state connection)
-    pub opened : HasCleanDisk (file_state connection) → IsOpened connection
+    pub finds_image : HasCleanDisk (file_state connection) → FindsIn image (file_state connection)
+    pub is_opened : HasCleanDisk (file_state connection) → IsOpened connection
     pub stop : AdoptStop (FileStore D g)
     pub left : IsNotAdopted over_files connection stop
     pub told : fault ≡ stop.fault

@@ -142,7 +142,7 @@ impl<'a, R: HasDatabaseFiles, S: Start> Databases<Store<FileStore<FileFrom<S>>>>
     ghost use Rattle.std.specs.Prelude.{◌≡◌, ◌⊎◌, None, IfErr, IfOk};
     ghost use Rattle.sqlite_wal.specs.Files.{image_at};
     ghost use Rattle.archive_port.specs.declared.faults.StoreFault.TheVariants.{Store as NoStore};
-    ghost use Rattle.archive.specs.Opening.{ImageHoldsArchive, HoldsIfSome, IsOpenedFromImage};
+    ghost use Rattle.archive.specs.Opening.{FileHoldsArchive, HoldsIfSome, IsOpenedFromImage};
     ghost use Rattle.archive.specs.Closing.{IsCloseResultOf, CloseResultHoldsArchive};
     ghost use Rattle.archive.specs.Refusing.{FailsToOpenStore};
 

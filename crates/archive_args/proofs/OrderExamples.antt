@@ -56,10 +56,10 @@ adds_person : order_of_args (codes "person-add" ∷ codes "--db" ∷ codes "f" �
 unfolding archive_on_literals
 adds_person = refl
 
-sets_address : order_of_args (codes "person-address" ∷ codes "--db" ∷ codes "f" ∷ codes "anna" ∷ codes "Anna@Example.org" ∷ [])
+changes_address : order_of_args (codes "person-address" ∷ codes "--db" ∷ codes "f" ∷ codes "anna" ∷ codes "Anna@Example.org" ∷ [])
     ≡ Some (Table (record { file = codes "f"; command = person_address (codes "anna") (codes "Anna@Example.org") }))
 unfolding archive_on_literals
-sets_address = refl
+changes_address = refl
 
 grants : order_of_args (codes "grant" ∷ codes "anna" ∷ codes "soc" ∷ codes "member" ∷ codes "2003-03-20" ∷ codes "2003-03-21" ∷ codes "--db=f" ∷ [])
     ≡ Some (Table (record { file = codes "f"; command = grant (codes "anna") (codes "soc") kind.Member (pos 12131) (pos 12132) }))
@@ -100,7 +100,7 @@ imports = refl
 
 gets : order_of_args (codes "get" ∷ codes "--db" ∷ codes "f" ∷ codes "--policy" ∷ codes "p" ∷ codes "--day" ∷ codes "2003-03-20" ∷ codes "--person" ∷ codes "anna" ∷ codes "soc" ∷ codes "k" ∷ [])
     ≡ Some (Get (record {
-      asked = record { file = codes "f"; policy = codes "p"; day = Some (pos 12131); person = Some (codes "anna"); list = codes "soc" };
+      ask = record { file = codes "f"; policy = codes "p"; day = Some (pos 12131); person = Some (codes "anna"); list = codes "soc" };
       key = codes "k";
     }))
 unfolding archive_on_literals days_before_year days_in_first_months
@@ -108,7 +108,7 @@ gets = refl
 
 gets_as_nobody : order_of_args (codes "get" ∷ codes "soc" ∷ codes "k" ∷ codes "--policy" ∷ codes "p" ∷ codes "--db" ∷ codes "f" ∷ [])
     ≡ Some (Get (record {
-      asked = record { file = codes "f"; policy = codes "p"; day = None; person = None; list = codes "soc" };
+      ask = record { file = codes "f"; policy = codes "p"; day = None; person = None; list = codes "soc" };
       key = codes "k";
     }))
 unfolding archive_on_literals

@@ -198,7 +198,7 @@ ask_values_of_rows rows =
 
 abbrev pub get_order_of_rows : List Row → Option Order
 get_order_of_rows rows =
-    option_bind (ask_values_of_rows rows) (λ asked. option_bind (first_of (codes "key") rows) (λ key. Some (Get (record { asked = asked; key = key }))))
+    option_bind (ask_values_of_rows rows) (λ asked. option_bind (first_of (codes "key") rows) (λ key. Some (Get (record { ask = asked; key = key }))))
 
 abbrev pub export_order_of_rows : List Row → Option Order
 export_order_of_rows rows = option_map Export (ask_values_of_rows rows)

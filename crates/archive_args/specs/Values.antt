@@ -67,7 +67,7 @@ pub record AskValues : Type 0 where
 
 -- A question for one message, by its key.
 pub record GetValues : Type 0 where
-  pub asked : AskValues
+  pub ask : AskValues
   pub key : List ℕ
 
 -- So many connections to be answered on a port.

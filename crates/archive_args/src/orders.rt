@@ -121,7 +121,7 @@ impl<'a> Model for GetArgs<'a> {
 
     ghost Value = { GetValues };
 
-    ghost view = { λ o. record { asked = o.asked; key = o.key.now } };
+    ghost view = { λ o. record { ask = o.asked; key = o.key.now } };
 }
 
 /// The values of `check`.

@@ -60,17 +60,17 @@ module _ {S : Type 0} (g : Ghosts S) (ask : Ask) (reader : ReaderFacts) where
     pub finds_kept : (store : Store S) (kept : CacheState) (place : ℕ) → Some place ≡ position (is_view_of ask.list reader part) kept.views
         → FindsListIndex g store store ask reader part kept kept (Ok place)
     finds_kept store kept place is = record {
-      found = goes_in_as g (HoldsTables g) store store (λ a b. b ≡ a) (Stands part kept kept place)
+      calls_store = goes_in_as g (HoldsTables g) store store (λ a b. b ≡ a) (Stands part kept kept place)
           (λ a b same. (same, (λ enough are. outline_found a ask reader part kept place (found_view ask.list reader part kept.views place is) enough are))) (stays_there_in g (HoldsTables g) store);
-      held = λ returned held enough are. are;
-      most = refl;
-      bounded = λ within. within;
+      finds_index = λ returned held enough are. are;
+      capacity_is_same = refl;
+      cache_stays_bounded = λ within. within;
     }
 
     -- it cannot be read
     pub finds_none : (old new : Store S) (kept : CacheState) (fault : DeskError) (Says : Archive → ListIndex → Type 0)
         → AnswersFromStoreTables g old new {A = ListIndex} refusal_reason (Err fault) (λ a. ask_reason a ask) Says → FindsListIndex g old new ask reader part kept kept (Err fault)
-    finds_none old new kept fault Says asks = record { found = asks; held = λ returned held enough are. are; most = refl; bounded = λ within. within }
+    finds_none old new kept fault Says asks = record { calls_store = asks; finds_index = λ returned held enough are. are; capacity_is_same = refl; cache_stays_bounded = λ within. within }
 
     -- it is put, or it is not, where so much was kept before
     module _ (old new : Store S) (kept mid later : CacheState) (outline : ListIndex) (made : RelatesTableArchives g old new (IsMade part kept outline)) (so_far : Stays old new kept mid)
@@ -94,24 +94,24 @@ module _ {S : Type 0} (g : Ghosts S) (ask : Ask) (reader : ReaderFacts) where
 
         pub finds_put : FindsListIndex g old new ask reader part kept later (Ok place)
         finds_put = record {
-          found = goes_in_as g (HoldsTables g) old new (IsMade part kept outline) (Stands part kept later place)
+          calls_store = goes_in_as g (HoldsTables g) old new (IsMade part kept outline) (Stands part kept later place)
               (λ a b h. (h.0, (λ enough are. outline_put later rest view place upto put ∙ ap (λ (o : ListIndex). Some o) (h.1 enough are)))) made;
-          held = stays;
-          most = same_most;
-          bounded = λ was. within;
+          finds_index = stays;
+          capacity_is_same = same_most;
+          cache_stays_bounded = λ was. within;
         }
 
       pub finds_no_room : (fault : DeskError) → refusal_reason fault ≡ None → later.views ≡ rest → FindsListIndex g old new ask reader part kept later (Err fault)
       finds_no_room fault none left = record {
-        found = rw none (made.0, (λ returned held up. let it = made.1 returned held in (it.0, it.1.0)));
-        held = λ returned held enough are.
+        calls_store = rw none (made.0, (λ returned held up. let it = made.1 returned held in (it.0, it.1.0)));
+        finds_index = λ returned held enough are.
             let a = archive_in g old in
             let was = so_far returned held enough are in (
               subst (λ (vs : List CachedView). AreCoherent a ask.rules ask.day vs) (sym left) (of_dropped a ask.rules ask.day mid.views rest dropped was.0),
               subst (λ (ws : List WithheldMessage). AreWithheldCoherent a ws) (sym same_marks) was.1,
             );
-        most = same_most;
-        bounded = λ was. within;
+        capacity_is_same = same_most;
+        cache_stays_bounded = λ was. within;
       }
 
     -- it is made of the whole, which was found
@@ -123,7 +123,7 @@ module _ {S : Type 0} (g : Ghosts S) (ask : Ask) (reader : ReaderFacts) where
             h.0,
             (λ enough are.
                 ap (index_restricted_to part) (some_is outline (index_for_ask a ask whole) (sym there ∙ h.1 enough are)) ∙ part_of_whole a ask part other),
-          )) finds.found
+          )) finds.calls_store
 
   -- the whole cannot be found
   pub finds_no_whole : (old new : Store S) (kept later : CacheState) (fault : DeskError) (one other : ViewPart) → FindsListIndex g old new ask reader one kept later (Err fault)
@@ -141,7 +141,7 @@ module _ {S : Type 0} (g : Ghosts S) (ask : Ask) (reader : ReaderFacts) where
     Refuses a b why = (b ≡ a) × (ask_reason a ask ≡ Some why)
 
     lasts : StaysOpenUnlessDiskFails g mid new
-    lasts = calls_last g (HoldsTables g) mid new refusal_reason (λ a b place. Stands part kept later place a b) Refuses (λ a b _. b ≡ a) result finds.found
+    lasts = calls_last g (HoldsTables g) mid new refusal_reason (λ a b place. Stands part kept later place a b) Refuses (λ a b _. b ≡ a) result finds.calls_store
 
     pub found_then : AnswersFromStoreTables g old new refusal_reason result (λ a. ask_reason a ask)
         (λ a place. IsCacheCoherent a ask.rules ask.day kept → cached_index_at later place ≡ Some (index_for_ask a ask part))
@@ -150,17 +150,17 @@ module _ {S : Type 0} (g : Ghosts S) (ask : Ask) (reader : ReaderFacts) where
         Refuses Refuses (λ a b _. b ≡ a) (λ a b _. b ≡ a)
         (λ a b c place first it. (it.0 ∙ first.0, first.1, subst (λ x. Given kept x (cached_index_at later place ≡ Some (index_for_ask x ask part))) first.0 it.1 first.2))
         (λ a b c why first it. (it.0 ∙ first.0, subst (λ x. ask_reason x ask ≡ Some why) first.0 it.1))
-        (λ a b c fault first it. it ∙ first.0) result known finds.found
+        (λ a b c fault first it. it ∙ first.0) result known finds.calls_store
 
     pub keeps_then : (StoreHasCleanDisk g mid → IsOpen g old) → KeepsCacheCoherent g old new ask.rules ask.day kept later
     keeps_then up = record {
-      held = λ returned held are.
-          let it = known.1 (lasts.returned returned) held in
+      keeps_coherent = λ returned held are.
+          let it = known.1 (lasts.disk_was_clean returned) held in
           let enough = subst (λ a. DeterminesVerdicts a ask reader) (sym it.1.0) it.1.2 in
-          subst (λ a. IsCacheCoherent a ask.rules ask.day later) it.1.0 (finds.held returned it.0 enough (subst (λ a. IsCacheCoherent a ask.rules ask.day kept) (sym it.1.0) are));
-      shut = λ returned shut. absurd (shut (up (lasts.returned returned)));
-      most = finds.most;
-      bounded = finds.bounded;
+          subst (λ a. IsCacheCoherent a ask.rules ask.day later) it.1.0 (finds.finds_index returned it.0 enough (subst (λ a. IsCacheCoherent a ask.rules ask.day kept) (sym it.1.0) are));
+      when_store_closed = λ returned shut. absurd (shut (up (lasts.disk_was_clean returned)));
+      capacity_is_same = finds.capacity_is_same;
+      cache_stays_bounded = finds.cache_stays_bounded;
     }
 
     abbrev Unread : Archive → Type 0

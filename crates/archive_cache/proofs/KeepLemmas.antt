@@ -72,16 +72,16 @@ module _ (a : Archive) (rules : List Rule) (day : ℤ) where
 module _ {S : Type 0} (g : Ghosts S) (rules : List Rule) (day : ℤ) where
   -- a call that lets what is kept be
   pub keeps_same : (old new : Store S) (kept : CacheState) → KeepsCacheCoherent g old new rules day kept kept
-  keeps_same old new kept = record { held = λ returned held are. are; shut = λ returned shut. refl; most = refl; bounded = λ within. within }
+  keeps_same old new kept = record { keeps_coherent = λ returned held are. are; when_store_closed = λ returned shut. refl; capacity_is_same = refl; cache_stays_bounded = λ within. within }
 
   -- before another that does
   pub keeps_later : (old mid new : Store S) (kept later : CacheState) → KeepsCacheCoherent g old mid rules day kept later → StaysOpenUnlessDiskFails g mid new
       → KeepsCacheCoherent g old new rules day kept later
   keeps_later old mid new kept later keeps lasts = record {
-    held = λ returned held are. keeps.held (lasts.returned returned) held are;
-    shut = λ returned shut. keeps.shut (lasts.returned returned) shut;
-    most = keeps.most;
-    bounded = keeps.bounded;
+    keeps_coherent = λ returned held are. keeps.keeps_coherent (lasts.disk_was_clean returned) held are;
+    when_store_closed = λ returned shut. keeps.when_store_closed (lasts.disk_was_clean returned) shut;
+    capacity_is_same = keeps.capacity_is_same;
+    cache_stays_bounded = keeps.cache_stays_bounded;
   }
 
   -- after one that does, and leaves the archive
@@ -89,10 +89,10 @@ module _ {S : Type 0} (g : Ghosts S) (rules : List Rule) (day : ℤ) where
       → KeepsCacheCoherent g mid new rules day kept later
       → KeepsCacheCoherent g old new rules day kept later
   keeps_after old mid new kept later goes lasts keeps = record {
-    held = λ returned held are.
-        let it = goes.1 (lasts.returned returned) held in
-        subst (λ a. IsCacheCoherent a rules day later) it.1 (keeps.held returned it.0 (subst (λ a. IsCacheCoherent a rules day kept) (sym it.1) are));
-    shut = λ returned shut. keeps.shut returned (λ up. shut (goes.0.stays_shut (lasts.returned returned) up));
-    most = keeps.most;
-    bounded = keeps.bounded;
+    keeps_coherent = λ returned held are.
+        let it = goes.1 (lasts.disk_was_clean returned) held in
+        subst (λ a. IsCacheCoherent a rules day later) it.1 (keeps.keeps_coherent returned it.0 (subst (λ a. IsCacheCoherent a rules day kept) (sym it.1) are));
+    when_store_closed = λ returned shut. keeps.when_store_closed returned (λ up. shut (goes.0.closed_stays_closed (lasts.disk_was_clean returned) up));
+    capacity_is_same = keeps.capacity_is_same;
+    cache_stays_bounded = keeps.cache_stays_bounded;
   }

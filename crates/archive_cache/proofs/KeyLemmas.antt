@@ -95,7 +95,7 @@ module _ (lines : List Line) (order : List ℕ) (is : IsKeyOrder lines order) (k
   before place = is_lt (slice_cmp nat_cmp (key_at lines place) key)
 
   by_keys : IsSortedBy (λ one other. is_lt (slice_cmp nat_cmp (key_at lines one) (key_at lines other))) order
-  by_keys = λ k d low high. not_less_first _ _ (is.rising k d low high)
+  by_keys = λ k d low high. not_less_first _ _ (is.is_sorted k d low high)
 
   pub parted : IsPartitionedBy before order
   parted = λ i j d le below h.
@@ -114,7 +114,7 @@ module _ (lines : List Line) (order : List ℕ) (is : IsKeyOrder lines order) (k
       not_before = ap (λ k. is_lt (slice_cmp nat_cmp k key)) key_matches ∙ ap is_lt (tied_itself nat_list_cmp_total key)
 
       stands : Contains order place
-      stands = is.whole place first.0
+      stands = is.contains_each_line place first.0
 
       -- it stands behind those before the key
       behind : at ≤ stands.0
@@ -136,7 +136,7 @@ module _ (lines : List Line) (order : List ℕ) (is : IsKeyOrder lines order) (k
       not_less =
           ap (λ k. is_lt (ordering_then (slice_cmp nat_cmp k (key_at lines other)) (nat_cmp place other))) (sym key_matches)
           ∙ ap (λ p. is_lt (place_cmp lines p other)) (sym stands.2)
-          ∙ sorted_far (λ p q. is_lt (place_cmp lines p q)) (places_rank lines) order is.rising at stands.0 place behind stands.1
+          ∙ sorted_far (λ p q. is_lt (place_cmp lines p q)) (places_rank lines) order is.is_sorted at stands.0 place behind stands.1
 
       tie : slice_cmp nat_cmp key (key_at lines other) ≡ Equal
       tie = tied (slice_cmp nat_cmp key (key_at lines other)) (slice_cmp nat_cmp (key_at lines other) key) (nat_list_cmp_total.antisymm key (key_at lines other))

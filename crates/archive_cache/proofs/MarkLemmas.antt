@@ -14,7 +14,7 @@ use Rattle.archive_results.specs.Access.{Ask, Asked, MessageFacts, ReaderFacts, 
 use Rattle.archive_desk.specs.Asking.{DeterminesVerdicts}
 use Rattle.archive_desk.specs.Causes.{IsMessageUnreadable, IsReaderUnreadable}
 use Rattle.archive_desk.specs.Ending.{EndsDeskCall, EndsDeskQuestion}
-use Rattle.archive_desk.specs.Faults.{IsAskFault, RefusalReason, ask_reason, list_reason, refusal_reason}
+use Rattle.archive_desk.specs.Faults.{IsAskFault, RefusalReason, ask_reason, missing_list_reason, refusal_reason}
 use Rattle.archive_desk.specs.Holding.{AnswersFromStoreTables, RelatesTableArchives}
 use Rattle.archive_desk.specs.declared.faults.DeskError.{DeskError}
 use Rattle.archive_desk.proofs.AskLemmas.{no_such_list}
@@ -93,20 +93,20 @@ module _ {S : Type 0} (g : Ghosts S) (ask : Ask) (reader : ReaderFacts) (key : L
   abbrev Answered : Archive → X → Type 0
   Answered a answer = IsCacheCoherent a ask.rules ask.day kept → say answer ≡ asked_for_key a ask key
 
-  module _ (result : Result X DeskError) (read : AnswersFromStoreUnder g (HoldsTables g) mid new refusal_reason result (λ a. list_reason a ask) Reads) where
+  module _ (result : Result X DeskError) (read : AnswersFromStoreUnder g (HoldsTables g) mid new refusal_reason result (λ a. missing_list_reason a ask) Reads) where
     read_lasts : StaysOpenUnlessDiskFails g mid new
-    read_lasts = asks_last g (HoldsTables g) mid new refusal_reason (λ a. list_reason a ask) Reads result read
+    read_lasts = asks_last g (HoldsTables g) mid new refusal_reason (λ a. missing_list_reason a ask) Reads result read
 
     pub read_then : AnswersFromStoreTables g old new refusal_reason result (λ a. ask_reason a ask) Answered
     read_then = calls_after g (HoldsTables g) old mid new refusal_reason (λ a b. (b ≡ a) × (ask_reason a ask ≡ None) × DeterminesVerdicts a ask reader)
-        (λ a b answer. (b ≡ a) × (list_reason a ask ≡ None) × Reads a answer) (λ a b answer. (b ≡ a) × (ask_reason a ask ≡ None) × Answered a answer)
-        (λ a b why. (b ≡ a) × (list_reason a ask ≡ Some why)) (λ a b why. (b ≡ a) × (ask_reason a ask ≡ Some why)) (λ a b _. b ≡ a) (λ a b _. b ≡ a)
+        (λ a b answer. (b ≡ a) × (missing_list_reason a ask ≡ None) × Reads a answer) (λ a b answer. (b ≡ a) × (ask_reason a ask ≡ None) × Answered a answer)
+        (λ a b why. (b ≡ a) × (missing_list_reason a ask ≡ Some why)) (λ a b why. (b ≡ a) × (ask_reason a ask ≡ Some why)) (λ a b _. b ≡ a) (λ a b _. b ≡ a)
         (λ a b c answer first it. (
           it.0 ∙ first.0,
           first.1,
           (λ are. it.2.0 ∙ ap (λ x. asked_of_message ask reader (message_of x ask.list key)) first.0 ∙ asked_alike a ask reader first.2 (message_of a ask.list key)),
         ))
-        (λ a b c why first it. (it.0 ∙ first.0, no_such_list a ask why (subst (λ x. list_reason x ask ≡ Some why) first.0 it.1)))
+        (λ a b c why first it. (it.0 ∙ first.0, no_such_list a ask why (subst (λ x. missing_list_reason x ask ≡ Some why) first.0 it.1)))
         (λ a b c fault first it. it ∙ first.0) result known read
 
     pub read_ends : memory_refusal_count old ≤ memory_refusal_count mid → (StoreHasCleanDisk g mid → IsOpen g old) → EndsDeskCall g mid new IsAskFault result (λ a. IsMessageUnreadable a ask key)
@@ -115,7 +115,7 @@ module _ {S : Type 0} (g : Ghosts S) (ask : Ask) (reader : ReaderFacts) (key : L
         result (λ a. IsMessageUnreadable a ask key) (λ a. IsMessageUnreadable a ask key ⊎ IsReaderUnreadable a ask) (λ a bad. inl bad) it up
 
   -- what is kept stays of the archive
-  marks_stay : (result : Result X DeskError) → AnswersFromStoreUnder g (HoldsTables g) mid new refusal_reason result (λ a. list_reason a ask) Reads
+  marks_stay : (result : Result X DeskError) → AnswersFromStoreUnder g (HoldsTables g) mid new refusal_reason result (λ a. missing_list_reason a ask) Reads
       → IfErr result (λ _. later ≡ kept) → later ≡ record kept { withheld = later.withheld } → StoreHasCleanDisk g new → StoreHasCleanDisk g mid → HoldsTables g old
       → IsCacheCoherent (archive_in g old) ask.rules ask.day kept → IsCacheCoherent (archive_in g old) ask.rules ask.day later
   marks_stay (Err fault) read same rest returned there held are = subst (λ k. IsCacheCoherent (archive_in g old) ask.rules ask.day k) (sym same) are
@@ -127,13 +127,13 @@ module _ {S : Type 0} (g : Ghosts S) (ask : Ask) (reader : ReaderFacts) (key : L
         subst (λ x. AreWithheldCoherent x later.withheld) first.1.0 (it.1.2.1 (subst (λ x. AreWithheldCoherent x kept.withheld) (sym first.1.0) are.1)),
       )
 
-  pub read_keeps : (result : Result X DeskError) → AnswersFromStoreUnder g (HoldsTables g) mid new refusal_reason result (λ a. list_reason a ask) Reads
+  pub read_keeps : (result : Result X DeskError) → AnswersFromStoreUnder g (HoldsTables g) mid new refusal_reason result (λ a. missing_list_reason a ask) Reads
       → IfErr result (λ _. later ≡ kept) → later ≡ record kept { withheld = later.withheld } → (IsCacheBounded kept → IsCacheBounded later) → (StoreHasCleanDisk g mid → IsOpen g old)
       → KeepsCacheCoherent g old new ask.rules ask.day kept later
   read_keeps result read same rest bounded up =
       let lasts = read_lasts result read in record {
-        held = λ returned held are. marks_stay result read same rest returned (lasts.returned returned) held are;
-        shut = λ returned shut. absurd (shut (up (lasts.returned returned)));
-        most = ap (λ (k : CacheState). k.most) rest;
-        bounded = bounded;
+        keeps_coherent = λ returned held are. marks_stay result read same rest returned (lasts.disk_was_clean returned) held are;
+        when_store_closed = λ returned shut. absurd (shut (up (lasts.disk_was_clean returned)));
+        capacity_is_same = ap (λ (k : CacheState). k.most) rest;
+        cache_stays_bounded = bounded;
       }

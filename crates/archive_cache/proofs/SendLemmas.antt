@@ -150,12 +150,12 @@ module _ {S : Type 0} (g : Ghosts S) (old new : Store S) (list key : List ℕ) w
     pub look_ends : (fault : StoreFault) → CountsRefusals {A = Option Message} IsMemoryRefusal old new (Err fault) → StoreCausedOr g old new {A = Option Message} (Err fault) Unread
         → EndsMboxOfLines g old new list {A = Option Message} (λ f. f) (Err (desk_error_of fault))
     look_ends fault counted caused = record {
-      lasts = lasts;
-      caused = λ bad returned held free. elim (store_cause g old new fault Unread caused bad returned held free) [
+      remains_open = lasts;
+      fault_has_cause = λ bad returned held free. elim (store_cause g old new fault Unread caused bad returned held free) [
         | inl more ↦ inl more
         | inr unread ↦ inr (unread_in (archive_in g old) list key unread)
       ];
-      counted = wants_of_store (Option Message) (Option Message) (memory_refusal_count old) (memory_refusal_count new) fault counted;
+      refusals_counted = wants_of_store (Option Message) (Option Message) (memory_refusal_count old) (memory_refusal_count new) fault counted;
     }
 
 -- ---- one line
@@ -252,10 +252,10 @@ module _ {S : Type 0} (g : Ghosts S) (list : List ℕ) where
 
     pub ends_since : {A : Type 0} (result : Result A DeskError) → EndsMboxOfLines g mid new list (λ f. f) result → EndsMboxOfLines g old new list (λ f. f) result
     ends_since result it = record {
-      lasts = lasts_then _ _ _ s.lasts it.lasts;
-      caused = each_fault (λ fault. IsDeskDatabaseFault fault → HasCause g mid new Unreadable) (λ fault. IsDeskDatabaseFault fault → HasCause g old new Unreadable)
-          (λ fault why bad. cause_after g old mid new left it.lasts Unreadable (why bad)) result it.caused;
-      counted = raises_after IsDeskMemoryRefusal (memory_refusal_count old) (memory_refusal_count mid) (memory_refusal_count new) result s.grows it.counted;
+      remains_open = lasts_then _ _ _ s.lasts it.remains_open;
+      fault_has_cause = each_fault (λ fault. IsDeskDatabaseFault fault → HasCause g mid new Unreadable) (λ fault. IsDeskDatabaseFault fault → HasCause g old new Unreadable)
+          (λ fault why bad. cause_after g old mid new left it.remains_open Unreadable (why bad)) result it.fault_has_cause;
+      refusals_counted = raises_after IsDeskMemoryRefusal (memory_refusal_count old) (memory_refusal_count mid) (memory_refusal_count new) result s.grows it.refusals_counted;
     }
 
     module _ (line : Line) (lasts : StaysOpenUnlessDiskFails g mid new) (after : List ℕ) (counts : ℕ) where
@@ -263,7 +263,7 @@ module _ {S : Type 0} (g : Ghosts S) (list : List ℕ) where
       since : (result : Result (Unit {0}) DeskError) → (StoreHasCleanDisk g new → HoldsTables g mid → WritesMboxOfLines g new (archive_in g mid) list (line ∷ []) middle after count counts result)
           → StoreHasCleanDisk g new → HoldsTables g old → WritesMboxOfLines g new (archive_in g old) list (line ∷ []) middle after count counts result
       since result wrote returned held =
-          let so = s.wrote (lasts.returned returned) held in
+          let so = s.wrote (lasts.disk_was_clean returned) held in
           subst (λ a. WritesMboxOfLines g new a list (line ∷ []) middle after count counts result) so.0.1 (wrote returned so.0.0)
 
       -- one more
@@ -276,7 +276,7 @@ module _ {S : Type 0} (g : Ghosts S) (list : List ℕ) where
         more = counts_then before middle after counted count counts s.more more;
         wrote = λ returned held.
             let a = archive_in g old in
-            let so = s.wrote (lasts.returned returned) held in
+            let so = s.wrote (lasts.disk_was_clean returned) held in
             let it = since (Ok tt) wrote returned held in
             let text = mbox_text_of_lines a list xs in
             let one = mbox_text_of_lines a list (line ∷ []) in (
@@ -292,7 +292,7 @@ module _ {S : Type 0} (g : Ghosts S) (list : List ℕ) where
           → StoreHasCleanDisk g new → HoldsTables g old → WritesMboxOfLines g new (archive_in g old) list all before after counted counts (Err fault)
       lines_stopped fault rest all is wrote returned held =
           let a = archive_in g old in
-          let so = s.wrote (lasts.returned returned) held in
+          let so = s.wrote (lasts.disk_was_clean returned) held in
           let it = since (Err fault) wrote returned held in
           let text = mbox_text_of_lines a list xs in
           let one = mbox_text_of_lines a list (line ∷ []) in

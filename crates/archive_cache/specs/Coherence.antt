@@ -40,10 +40,10 @@ IsCacheCoherent archive rules day kept = AreCoherent archive rules day kept.view
 -- What a call does to what is kept: it stays of the archive that a store remembers; a store that is shut adds nothing; and whatever the
 -- store is, it weighs no more than it may.
 pub record KeepsStoreCacheCoherent {S : Type 0} (g : Ghosts S) (old new : Store S) (rules : List Rule) (day : ℤ) (kept_old kept_new : CacheState) : Type 0 where
-  pub held : StoreHasCleanDisk g new → HoldsTables g old → IsCacheCoherent (archive_in g old) rules day kept_old → IsCacheCoherent (archive_in g old) rules day kept_new
-  pub shut : StoreHasCleanDisk g new → IsStoreClosed g old → kept_new ≡ kept_old
-  pub most : kept_new.most ≡ kept_old.most
-  pub bounded : IsCacheBounded kept_old → IsCacheBounded kept_new
+  pub keeps_coherent : StoreHasCleanDisk g new → HoldsTables g old → IsCacheCoherent (archive_in g old) rules day kept_old → IsCacheCoherent (archive_in g old) rules day kept_new
+  pub when_store_closed : StoreHasCleanDisk g new → IsStoreClosed g old → kept_new ≡ kept_old
+  pub capacity_is_same : kept_new.most ≡ kept_old.most
+  pub cache_stays_bounded : IsCacheBounded kept_old → IsCacheBounded kept_new
 
 -- whatever is counted of the store
 abbrev pub KeepsCacheCoherent : {S : Type 0} (g : Ghosts S) (old new : Store S) (rules : List Rule) (day : ℤ) (kept_old kept_new : CacheState) → Type 0
@@ -54,13 +54,13 @@ KeepsCacheCoherent g old new rules day kept_old kept_new = KeepsStoreCacheCohere
 -- and what is kept then is of the archive too, whatever was answered.
 pub record FindsListIndexInStore {S : Type 0} (g : Ghosts S) (old new : Store S) (ask : Ask) (reader : ReaderFacts) (part : ViewPart) (kept_old kept_new : CacheState)
     (result : Result ℕ DeskError) : Type 0 where
-  pub found : CallsStoreWithTables g old new refusal_reason result
+  pub calls_store : CallsStoreWithTables g old new refusal_reason result
       (λ a b place. (b ≡ a) × (DeterminesVerdicts a ask reader → IsCacheCoherent a ask.rules ask.day kept_old → cached_index_at kept_new place ≡ Some (index_for_ask a ask part)))
       (λ a b why. (b ≡ a) × (ask_reason a ask ≡ Some why)) (λ a b _. b ≡ a)
-  pub held : StoreHasCleanDisk g new → HoldsTables g old → DeterminesVerdicts (archive_in g old) ask reader
+  pub finds_index : StoreHasCleanDisk g new → HoldsTables g old → DeterminesVerdicts (archive_in g old) ask reader
       → IsCacheCoherent (archive_in g old) ask.rules ask.day kept_old → IsCacheCoherent (archive_in g old) ask.rules ask.day kept_new
-  pub most : kept_new.most ≡ kept_old.most
-  pub bounded : IsCacheBounded kept_old → IsCacheBounded kept_new
+  pub capacity_is_same : kept_new.most ≡ kept_old.most
+  pub cache_stays_bounded : IsCacheBounded kept_old → IsCacheBounded kept_new
 
 -- whatever is counted of the store
 abbrev pub FindsListIndex : {S : Type 0} (g : Ghosts S) (old new : Store S) → Ask → ReaderFacts → ViewPart → (kept_old kept_new : CacheState) → Result ℕ DeskError → Type 0

@@ -18,5 +18,5 @@ place_cmp lines one other = ordering_then (slice_cmp nat_cmp (key_at lines one) 
 
 -- Each place of a line stands in this order, which is that of the keys.
 pub record IsKeyOrder (lines : List Line) (order : List ℕ) : Type 0 where
-  pub whole : (place : ℕ) → place < length lines → Contains order place
-  pub rising : IsSortedBy (λ one other. is_lt (place_cmp lines one other)) order
+  pub contains_each_line : (place : ℕ) → place < length lines → Contains order place
+  pub is_sorted : IsSortedBy (λ one other. is_lt (place_cmp lines one other)) order

@@ -65,6 +65,6 @@ module _ {S : Type 0} (g : Ghosts S) (old new : Store S) where
   -- How a call ends that writes messages of a list, and whose fault carries one of the desk: what it does to the store, why G4 with E15
   -- comes, and that want of memory is counted.
   pub record EndsMboxOfLines (list : List ℕ) {A F : Type 0} (carried : F → DeskError) (result : Result A F) : Type 0 where
-    pub lasts : StaysOpenUnlessDiskFails g old new
-    pub caused : IfErr result (λ fault. IsDeskDatabaseFault (carried fault) → HasCause g old new (λ a. HasUnreadableMessage (messages_in a list)))
-    pub counted : CountsRefusals (λ fault. IsDeskMemoryRefusal (carried fault)) old new result
+    pub remains_open : StaysOpenUnlessDiskFails g old new
+    pub fault_has_cause : IfErr result (λ fault. IsDeskDatabaseFault (carried fault) → HasCause g old new (λ a. HasUnreadableMessage (messages_in a list)))
+    pub refusals_counted : CountsRefusals (λ fault. IsDeskMemoryRefusal (carried fault)) old new result

@@ -13,7 +13,7 @@ ghost use Rattle.archive_cache.specs.Views.{cached_index_at};
 use crate::cache::Cache;
 use crate::list_indexes::{ListIndex, outline_of};
 use crate::parts::ViewPart;
-use archive_desk::{DeskError, read_index, resolve_reader};
+use archive_desk::{DeskError, read_view_summaries, resolve_reader};
 use archive_results::{Ask, ReaderFacts};
 use archive_store::Store;
 use sqlite::Alter;
@@ -32,7 +32,7 @@ fn read_threads<T: Threader, S: Alter>(
     ensures ends { EndsDeskCall S.Store store.old store.new IsAskFault result
         (λ a. IsQuestionUnreadable a ask.now (messages_in a ask.now.list)) }
 {
-    let index = match read_index(store, alloc, ask) {
+    let index = match read_view_summaries(store, alloc, ask) {
         Ok(index) => index,
         Err(fault) => return Err(fault),
     };

@@ -8,7 +8,7 @@ ghost use Rattle.archive_store.specs.Told.{AnswersFromStoreUnder, HoldsTables};
 ghost use Rattle.archive_desk.specs.Asking.{DeterminesVerdicts};
 ghost use Rattle.archive_desk.specs.Causes.{IsMessageUnreadable, IsReaderUnreadable};
 ghost use Rattle.archive_desk.specs.Ending.{EndsDeskCall, EndsDeskQuestion};
-ghost use Rattle.archive_desk.specs.Faults.{IsAskFault, ask_reason, list_reason, refusal_reason};
+ghost use Rattle.archive_desk.specs.Faults.{IsAskFault, ask_reason, missing_list_reason, refusal_reason};
 ghost use Rattle.archive_desk.specs.Holding.{AnswersFromStoreTables};
 ghost use Rattle.archive_cache.specs.Coherence.{IsCacheCoherent, AreWithheldCoherent, KeepsCacheCoherent};
 ghost use Rattle.archive_cache.specs.Views.{IsCacheBounded};
@@ -49,7 +49,7 @@ pub fn find_message<'p, S: Alter>(
     };
     match denial(kept, ask, &reader, key) {
         Some(rule) => Ok(Asked::Denied(rule)),
-        None => read_message(store, kept, alloc, ask, &reader, key),
+        None => judge_message(store, kept, alloc, ask, &reader, key),
     }
 }
 
@@ -79,7 +79,7 @@ fn read_message<'p, S: Alter>(
     key: &Key,
 ) -> Result<Asked<'p>, DeskError>
     ensures asked { AnswersFromStoreUnder S.Store (HoldsTables S.Store) store.old store.new refusal_reason result
-        (λ a. list_reason a ask.entry.now)
+        (λ a. missing_list_reason a ask.entry.now)
         (λ a answer. spec_asked answer ≡ asked_of_message ask.entry.now reader.now
         (message_of a ask.entry.now.list key.now)
         × (AreWithheldCoherent a kept.old.withheld → AreWithheldCoherent a kept.new.withheld)) }

@@ -106,7 +106,7 @@ module _ {S : Type 0} (g : Ghosts S) (old new : Store S) (command : StoreCommand
       (store_stepped g old new lasts (λ a. command_outcome a command) (Some reply) reply (stepped_right command) refl does)
 
   pub carries_fault : (fault : StoreFault) → Done (Err fault) → CarriesOutCommand g old new command (Err fault)
-  carries_fault fault did = carries_not fault (refusal_of_fault fault) refl (does_told (option_map refused (refusal_of_fault fault)) did.step)
+  carries_fault fault did = carries_not fault (refusal_of_fault fault) refl (does_told (option_map refused (refusal_of_fault fault)) did.performs_step)
 
   pub carries_found : (found : CommandFacts) (answer : Answer) → answer_to command (reply_unless_refused (model_command command) found) ≡ Some answer → Done (Ok found)
       → CarriesOutCommand g old new command (Ok answer)

@@ -61,8 +61,8 @@ module _ {S : Type 0} (g : Ghosts S) (old new : Store S) where
 -- How an order ends over an open store, by which faults are a want of memory and which say that the database broke: why it did, and
 -- that want of memory is counted.
 pub record EndsStoreOrder {S F : Type 0} (old new : Store S) (IsMemoryRefusal IsBroken : F → Type 0) (Cause : Type 0) {A : Type 0} (result : Result A F) : Type 0 where
-  pub caused : IfErr result (λ fault. IsBroken fault → Cause)
-  pub counted : CountsRefusals IsMemoryRefusal old new result
+  pub fault_has_cause : IfErr result (λ fault. IsBroken fault → Cause)
+  pub refusals_counted : CountsRefusals IsMemoryRefusal old new result
 
 module _ {S : Type 0} (g : Ghosts S) (old new : Store S) where
   -- How a command ends: E15 has its cause, and want of memory is counted.

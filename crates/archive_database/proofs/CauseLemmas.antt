@@ -13,11 +13,11 @@ use Rattle.archive_database.specs.declared.faults.DatabaseError.TheVariants as f
 -- ---- between other calls
 
 more_between : (a b c d : State) → KeepsConnectionUnlessDiskFails a b → KeepsConnectionUnlessDiskFails c d → MoreFaults b.faults c.faults → MoreFaults a.faults d.faults
-more_between a b c d before after more = omega (arith, more, before.shut.faults, after.shut.faults)
+more_between a b c d before after more = omega (arith, more, before.closes_only_by_fault.faults_never_fall, after.closes_only_by_fault.faults_never_fall)
 
 pub caused_since : (a b c : State) (e : Error) → KeepsConnectionUnlessDiskFails a b → IsMemoryOrDiskError b c e → IsMemoryOrDiskError a c e
 caused_since a b c e before (inl none) = inl none
-caused_since a b c e before (inr more) = inr (omega (arith, more, before.shut.faults))
+caused_since a b c e before (inr more) = inr (omega (arith, more, before.closes_only_by_fault.faults_never_fall))
 
 pub caused_between : (a b c d : State) (e : Error) → KeepsConnectionUnlessDiskFails a b → KeepsConnectionUnlessDiskFails c d → IsMemoryOrDiskError b c e → IsMemoryOrDiskError a d e
 caused_between a b c d e before after (inl none) = inl none

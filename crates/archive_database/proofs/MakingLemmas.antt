@@ -49,8 +49,8 @@ stopped_by old new before behind within (inr back) up = ((back.undone up).1 ∙ 
 
 -- outside a transaction it changes nothing
 pub back_by : (old new : State) → IsIdle old → IsUnchanged old new ⊎ IsRolledBack old new → IsRolledBackIfOpen new old.now
-back_by old new idle (inl same) up = (same.0.now_is, same.0.committed_is ∙ idle.settled, same.0.mode ∙ idle.autocommit)
-back_by old new idle (inr back) up = ((back.undone up).0 ∙ idle.settled, (back.undone up).1 ∙ idle.settled, back.autocommit)
+back_by old new idle (inl same) up = (same.0.now_is, same.0.committed_is ∙ idle.committed_is_now, same.0.mode ∙ idle.autocommit)
+back_by old new idle (inr back) up = ((back.undone up).0 ∙ idle.committed_is_now, (back.undone up).1 ∙ idle.committed_is_now, back.autocommit)
 
 pub on_err : {A E : Type 0} (r : Result A E) (P : Type 0) → P → OnErr r P
 on_err (Ok a) P p = tt
@@ -59,20 +59,20 @@ on_err (Err e) P p = p
 -- ---- tables of a version that are found
 
 pub has_form : (number : ℕ) (s : State) → IsOpenArchiveInFormat (format_of_version number) None s → HasSchemaOfFormat (format_of_version number) s
-has_form number s k = record { is_open = k.is_open; autocommit = k.autocommit; settled = k.settled; schema = k.schema }
+has_form number s k = record { is_open = k.is_open; autocommit = k.autocommit; committed_is_now = k.committed_is; schema = k.schema }
 
 pub as_many : (number : ℕ) (s : State) → IsOpenArchiveInFormat (format_of_version number) None s → HasObjectCountsOfVersion number s.now.schema
-as_many number s k = rw k.schema (record { tables = refl; indexes = refl; views = refl })
+as_many number s k = rw k.schema (record { table_count_is = refl; index_count_is = refl; view_count_is = refl })
 
 pub objects_of : (number : ℕ) (schema : Schema) → schema ≡ schema_of_version number → HasObjectCountsOfVersion number schema
-objects_of number schema is = rw is (record { tables = refl; indexes = refl; views = refl })
+objects_of number schema is = rw is (record { table_count_is = refl; index_count_is = refl; view_count_is = refl })
 
 pub idle_form : (number : ℕ) (s : State) → IsIdle s → s.now.schema ≡ schema_of_version number → HasSchemaOfFormat (format_of_version number) s
-idle_form number s idle is = record { is_open = idle.is_open; autocommit = idle.autocommit; settled = idle.settled; schema = is }
+idle_form number s idle is = record { is_open = idle.is_open; autocommit = idle.autocommit; committed_is_now = idle.committed_is_now; schema = is }
 
 -- a call that left an idle connection leaves it idle
 pub idle_again : (old new : State) → IsTrue new.is_open → IsRolledBackIfOpen new old.now → IsIdle new
-idle_again old new up back = let it = back up in record { is_open = up; autocommit = it.2; settled = it.1 ∙ sym it.0 }
+idle_again old new up back = let it = back up in record { is_open = up; autocommit = it.2; committed_is_now = it.1 ∙ sym it.0 }
 
 -- a call that left them leaves them held
 pub held_again : (number : ℕ) (old new : State) → IsOpenArchiveInFormat (format_of_version number) None old → IsTrue new.is_open → IsRolledBackIfOpen new old.now
@@ -81,10 +81,10 @@ held_again number old new k up back = let it = back up in
     record {
       is_open = up;
       autocommit = it.2;
-      settled = it.1 ∙ sym it.0;
+      committed_is = it.1 ∙ sym it.0;
       schema = rw it.0 k.schema;
       tables = rw it.0 k.tables;
-      whole = tt;
+      rollback_leaves_archive = tt;
     }
 
 -- ---- the version that the objects tell
@@ -103,8 +103,8 @@ module _ (schema : Schema) (has : IsSchemaOfSomeVersion schema) (told : Option �
   told_none is = let bad = sym is_told ∙ is in cc
 
 pub is_older : (number : ℕ) → IsKnownVersion number → ¬ (number ≡ 3) → IsOlderVersion number
-is_older zero known other = absurd (omega (arith, known.least))
-is_older (suc zero) known other = record { least = omega arith; most = omega arith }
-is_older (suc (suc zero)) known other = record { least = omega arith; most = omega arith }
+is_older zero known other = absurd (omega (arith, known.at_least_one))
+is_older (suc zero) known other = record { at_least_one = omega arith; below_newest = omega arith }
+is_older (suc (suc zero)) known other = record { at_least_one = omega arith; below_newest = omega arith }
 is_older (suc (suc (suc zero))) known other = absurd (other refl)
-is_older (suc (suc (suc (suc n)))) known other = absurd (omega (arith, known.most))
+is_older (suc (suc (suc (suc n)))) known other = absurd (omega (arith, known.at_most_newest))

@@ -38,18 +38,18 @@ module _ {S : Type 0} {g : Ghosts S} where
     pub one_ends : ((before : Tables) → Holds (state g old) before → IsTrue (state g old).is_open × ((state g old).now.schema ≡ s)) → EndsStep g old new q s st
         → EndsSteps g old new q Holds (st ∷ [])
     one_ends over ends = record {
-      lasts = ends.lasts;
-      caused = λ clean before held free. let it = over before held in each_error q _ _ (λ e. in_turn (state g old) (state g new) e st) (ends.caused clean it.0 it.1 free);
-      carried = λ clean before held free. let it = over before held in each_answer q _ _ (one_carried st (state g old).now (state g new).now) (ends.carried clean it.0 it.1 free);
+      remains_open = ends.remains_open;
+      fault_has_cause = λ clean before held free. let it = over before held in each_error q _ _ (λ e. in_turn (state g old) (state g new) e st) (ends.fault_has_cause clean it.0 it.1 free);
+      executes = λ clean before held free. let it = over before held in each_answer q _ _ (one_carried st (state g old).now (state g new).now) (ends.executes clean it.0 it.1 free);
     }
 
   module _ {A : Type 0} {old new : Held S} {q : Result A Error} (Holds : State → Tables → Type 0) where
     pub commit_ends : ((before : Tables) → Holds (state g old) before → IsTrue (state g old).is_open × ((state g old).in_transaction ≡ true)) → EndsCommit g old new q
         → EndsSteps g old new q Holds []
     commit_ends over ends = record {
-      lasts = ends.lasts;
-      caused = λ clean before held free. let it = over before held in each_error q _ _ (λ e why. inl why) (ends.caused clean it.0 it.1);
-      carried = λ clean before held free. ends.same clean;
+      remains_open = ends.remains_open;
+      fault_has_cause = λ clean before held free. let it = over before held in each_error q _ _ (λ e why. inl why) (ends.fault_has_cause clean it.0 it.1);
+      executes = λ clean before held free. ends.same_database clean;
     }
 
   -- ---- where a step fails, the call does
@@ -57,9 +57,9 @@ module _ {S : Type 0} {g : Ghosts S} where
   module _ {A C : Type 0} {old new : Held S} (r : Result C Error) (e : Error) (is : IsErrAnd r (λ f. f ≡ e)) (Holds : State → Tables → Type 0) (first rest : List Statement) where
     pub fails_first : (let q : Result A Error = Err e in EndsSteps g old new q Holds first) → EndsSteps g old new r Holds (first ++ rest)
     fails_first ends = record {
-      lasts = ends.lasts;
-      caused = λ clean before held free. carried r e _ is (turn_first e first rest (state g old) (state g old) (state g new) (ends.caused clean before held free));
-      carried = λ clean before held free. answers_none r _ _ is;
+      remains_open = ends.remains_open;
+      fault_has_cause = λ clean before held free. carried r e _ is (turn_first e first rest (state g old) (state g old) (state g new) (ends.fault_has_cause clean before held free));
+      executes = λ clean before held free. answers_none r _ _ is;
     }
 
   module _ {A B : Type 0} {old mid new : Held S} {a : A} (Holds Next : State → Tables → Type 0) (first second : List Statement)
@@ -68,23 +68,23 @@ module _ {S : Type 0} {g : Ghosts S} where
     pub fails_then : {C : Type 0} (r : Result C Error) (e : Error) → IsErrAnd r (λ f. f ≡ e) → (rest : List Statement)
         → (let q : Result B Error = Err e in EndsSteps g mid new q Next second) → EndsSteps g old new r Holds (first ++ (second ++ rest))
     fails_then r e is rest ends = record {
-      lasts = lasts_then _ _ _ before_it.lasts ends.lasts;
-      caused = λ clean before held free.
-          let earlier = ends.lasts.returned clean in
-          carried r e _ is (turn_then e first (second ++ rest) (state g old) (state g mid) (state g new) before_it.lasts (before_it.carried earlier before held free)
-          (turn_first e second rest (state g mid) (state g mid) (state g new) (ends.caused clean before (next earlier before held) (before_it.lasts.limit ∙ free))));
-      carried = λ clean before held free. answers_none r _ _ is;
+      remains_open = lasts_then _ _ _ before_it.remains_open ends.remains_open;
+      fault_has_cause = λ clean before held free.
+          let earlier = ends.remains_open.disk_was_clean clean in
+          carried r e _ is (turn_then e first (second ++ rest) (state g old) (state g mid) (state g new) before_it.remains_open (before_it.executes earlier before held free)
+          (turn_first e second rest (state g mid) (state g mid) (state g new) (ends.fault_has_cause clean before (next earlier before held) (before_it.remains_open.step_limit_is_same ∙ free))));
+      executes = λ clean before held free. answers_none r _ _ is;
     }
 
     pub done_then : {C : Type 0} (b : B) (c : C) → (let q : Result B Error = Ok b in EndsSteps g mid new q Next second)
         → (let r : Result C Error = Ok c in EndsSteps g old new r Holds (first ++ second))
     done_then b c ends = record {
-      lasts = lasts_then _ _ _ before_it.lasts ends.lasts;
-      caused = λ clean before held free. tt;
-      carried = λ clean before held free.
-          let earlier = ends.lasts.returned clean in
-          carried_then first second (state g old).now (state g mid).now (state g new).now (before_it.carried earlier before held free)
-          (ends.carried clean before (next earlier before held) (before_it.lasts.limit ∙ free));
+      remains_open = lasts_then _ _ _ before_it.remains_open ends.remains_open;
+      fault_has_cause = λ clean before held free. tt;
+      executes = λ clean before held free.
+          let earlier = ends.remains_open.disk_was_clean clean in
+          carried_then first second (state g old).now (state g mid).now (state g new).now (before_it.executes earlier before held free)
+          (ends.executes clean before (next earlier before held) (before_it.remains_open.step_limit_is_same ∙ free));
     }
 
 -- ---- the tables of version 2 stay as they are
@@ -95,9 +95,9 @@ no_option number other = elim (eqb_tells number 1) [ inl it ↦ absurd (other it
 pub same_ends : {S A : Type 0} (g : Ghosts S) (old : Held S) (a : A) (Holds : State → Tables → Type 0) (statements : List Statement) → statements ≡ []
     → (let r : Result A Error = Ok a in EndsSteps g old old r Holds statements)
 same_ends g old a Holds statements none = record {
-  lasts = lasts_same (state g old);
-  caused = λ clean before held free. tt;
-  carried = λ clean before held free. subst (λ l. StatementsExecuteTo l (state g old).now (state g old).now) (sym none) refl;
+  remains_open = lasts_same (state g old);
+  fault_has_cause = λ clean before held free. tt;
+  executes = λ clean before held free. subst (λ l. StatementsExecuteTo l (state g old).now (state g old).now) (sym none) refl;
 }
 
 -- ---- as a fault of the database
@@ -108,7 +108,8 @@ pub blames : {A : Type 0} (old mid1 mid2 new : State) (r : Result A DatabaseErro
     → (Earlier → Later) → IsMemoryOrDiskError mid1 mid2 e ⊎ Earlier → FailsByDiskOr old new r Later
 blames old mid1 mid2 new (Ok a) e Earlier Later is before after on why = tt
 blames old mid1 mid2 new (Err f) e Earlier Later is before after on (inl (inl none)) = λ it. absurd (let bad : faults.Memory ≡ faults.Database = sym (ap database_error_of none) ∙ sym is ∙ it in cc)
-blames old mid1 mid2 new (Err f) e Earlier Later is before after on (inl (inr more)) = λ it. inl (omega (arith, more, before.shut.faults, after.shut.faults))
+blames old mid1 mid2 new (Err f) e Earlier Later is before after on (inl (inr more)) = λ it. inl
+    (omega (arith, more, before.closes_only_by_fault.faults_never_fall, after.closes_only_by_fault.faults_never_fall))
 blames old mid1 mid2 new (Err f) e Earlier Later is before after on (inr refused) = λ it. inr (on refused)
 
 abbrev failed : DatabaseError → Result (Unit {0}) DatabaseError
@@ -126,7 +127,7 @@ pub passes : {A : Type 0} (old mid1 mid2 new : State) (r : Result A DatabaseErro
     → (Earlier → Later) → (f ≡ faults.Database → MoreFaults mid1.faults mid2.faults ⊎ Earlier) → FailsByDiskOr old new r Later
 passes old mid1 mid2 new (Ok a) f Earlier Later is before after on why = tt
 passes old mid1 mid2 new (Err g) f Earlier Later is before after on why = λ it. elim (why (sym is ∙ it)) [
-  | inl more ↦ inl (omega (arith, more, before.shut.faults, after.shut.faults))
+  | inl more ↦ inl (omega (arith, more, before.closes_only_by_fault.faults_never_fall, after.closes_only_by_fault.faults_never_fall))
   | inr refused ↦ inr (on refused)
 ]
 

@@ -18,9 +18,9 @@ pub record HasObjectCounts (tables indexes : ℕ) (schema : Schema) : Type 0 whe
 
 -- as many tables, indexes and views as an archive of this version has
 pub record HasObjectCountsOfVersion (number : ℕ) (schema : Schema) : Type 0 where
-  pub tables : length schema.tables ≡ length (schema_of_version number).tables
-  pub indexes : length schema.indexes ≡ length (schema_of_version number).indexes
-  pub views : length schema.views ≡ length (schema_of_version number).views
+  pub table_count_is : length schema.tables ≡ length (schema_of_version number).tables
+  pub index_count_is : length schema.indexes ≡ length (schema_of_version number).indexes
+  pub view_count_is : length schema.views ≡ length (schema_of_version number).views
 
 -- an empty database, or one with as many objects as an archive of some version has
 abbrev pub MayBeAdopted : Schema → Type 0
@@ -36,8 +36,8 @@ IsEmptyOrArchiveSchema schema = (schema ≡ empty_schema) ⊎ IsSchemaOfSomeVers
 
 -- a version before the newest
 pub record IsOlderVersion (number : ℕ) : Type 0 where
-  pub least : 1 ≤ number
-  pub most : number < newest_version
+  pub at_least_one : 1 ≤ number
+  pub below_newest : number < newest_version
 
 -- within a transaction over the tables of this schema, without rows, a stop of the machine leaves nothing that it did not leave before
 abbrev pub CrashAddsNothingWhileCreating : {S : Type 0} → Ghosts S → Held S → Held S → Schema → Type 0

@@ -31,6 +31,6 @@ FailsByDiskOr old new result Refused = IfErr result (λ fault. fault ≡ Databas
 -- How a call ends, whatever it answers: as each call does; and where this held before and no limit is set on the steps of a query,
 -- what is not want of memory means that the disk failed or refused once more, or this of the database as it was.
 pub record EndsDatabaseCall {S A : Type 0} (g : Ghosts S) (old new : Held S) (result : Result A DatabaseError) (Premise : State → Type 0) (Refused : Tables → Type 0) : Type 0 where
-  pub lasts : KeepsConnectionUnlessDiskFails (state g old) (state g new)
+  pub remains_open : KeepsConnectionUnlessDiskFails (state g old) (state g new)
   pub was_open : AnswersOnlyIfOpen g old new result
-  pub caused : HasCleanDisk (state g new) → Premise (state g old) → (state g old).step_limit ≡ None → FailsByDiskOr (state g old) (state g new) result (Refused (state g old).now)
+  pub fault_has_cause : HasCleanDisk (state g new) → Premise (state g old) → (state g old).step_limit ≡ None → FailsByDiskOr (state g old) (state g new) result (Refused (state g old).now)

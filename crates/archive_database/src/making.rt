@@ -170,7 +170,7 @@ fn move_tables<S: Alter>(conn: &mut Connection<S>, number: u8) -> Result<(), Err
         (migration_statements number) }
 {
     move_options(conn, number)?;
-    texts::schema::create_address(conn)?;
+    texts::schema::create_address_table(conn)?;
     texts::schema::set_version(conn)?;
     texts::schema::commit(conn)?;
     Ok(())
@@ -196,7 +196,7 @@ fn move_options<S: Alter>(conn: &mut Connection<S>, number: u8) -> Result<(), Er
     if number != 1 {
         return Ok(());
     }
-    texts::schema::create_option(conn)?;
+    texts::schema::create_option_table(conn)?;
     texts::options::copy_options(conn)?;
     Ok(())
 }
@@ -254,9 +254,9 @@ fn make_first<S: Alter>(conn: &mut Connection<S>) -> Result<(), Error>
     ensures ends { EndsSteps S.Store conn.old conn.new result
         (λ s before. IsCreatingTables s empty_schema before) first_create_statements }
 {
-    texts::schema::create_version(conn)?;
-    texts::schema::create_list(conn)?;
-    texts::schema::create_person(conn)?;
+    texts::schema::create_version_table(conn)?;
+    texts::schema::create_list_table(conn)?;
+    texts::schema::create_person_table(conn)?;
     Ok(())
 }
 
@@ -268,8 +268,8 @@ fn make_second<S: Alter>(conn: &mut Connection<S>) -> Result<(), Error>
     ensures ends { EndsSteps S.Store conn.old conn.new result
         (λ s before. IsCreatingTables s schema_with_persons before) second_create_statements }
 {
-    texts::schema::create_grant(conn)?;
-    texts::schema::create_message(conn)?;
+    texts::schema::create_grant_table(conn)?;
+    texts::schema::create_message_table(conn)?;
     Ok(())
 }
 
@@ -296,8 +296,8 @@ fn make_later<S: Alter>(conn: &mut Connection<S>) -> Result<(), Error>
     ensures ends { EndsSteps S.Store conn.old conn.new result
         (λ s before. IsCreatingTables s schema_1 before) last_create_statements }
 {
-    texts::schema::create_option(conn)?;
-    texts::schema::create_address(conn)?;
+    texts::schema::create_option_table(conn)?;
+    texts::schema::create_address_table(conn)?;
     texts::schema::add_version(conn)?;
     Ok(())
 }

@@ -10,7 +10,7 @@ ghost use Rattle.archive_port.specs.Messages.{AreDatedMarksOf, IsReadable};
 use crate::faults::DatabaseError;
 use archive_model::{Key, Message};
 use archive_port::DatedMarks;
-use archive_tables::rows::{DatedMarksRow, MessageRow, read_name, read_place};
+use archive_tables::rows::{DatedMarksRow, MessageRow, read_name, read_rowid};
 use civil_time::{Day, Instant};
 use mbox_items::OwnedItem;
 use policy_core::Withdrawn;
@@ -33,7 +33,7 @@ pub fn read_names(alloc: Global, rows: &[Row]) -> Result<Vec<String>, DatabaseEr
 }
 
 /// The numbers that rows show.
-pub fn read_numbers(alloc: Global, rows: &[Row]) -> Result<Vec<i64>, DatabaseError>
+pub fn read_rowids(alloc: Global, rows: &[Row]) -> Result<Vec<i64>, DatabaseError>
     ensures read { IfOk result (λ found. (places : List ℤ) → rows.now ≡ map rowid_result_row places
         → found.items ≡ places) }
     ensures unread { IfErr result (λ fault. (places : List ℤ) → rows.now ≡ map rowid_result_row places
@@ -41,7 +41,7 @@ pub fn read_numbers(alloc: Global, rows: &[Row]) -> Result<Vec<i64>, DatabaseErr
 {
     let mut found = Vec::with_capacity(alloc, rows.len())?;
     for row in rows.iter() {
-        let place = read_place(row)?;
+        let place = read_rowid(row)?;
         found.push(place)?;
     }
     Ok(found)

@@ -85,7 +85,7 @@ module _ {S : Type 0} (g : Ghosts S) where
 
   -- who was answered by an open store, and asked on
   pub open_still : (old mid new : Store S) → (StoreHasCleanDisk g mid → IsOpen g old) → StaysOpenUnlessDiskFails g mid new → StoreHasCleanDisk g new → IsOpen g old
-  open_still old mid new up lasts = λ returned. up (lasts.returned returned)
+  open_still old mid new up lasts = λ returned. up (lasts.disk_was_clean returned)
 
   pub was_open_by : (old new : Store S) {A F R : Type 0} (reason : F → Option R) (result : Result A F) → (StoreHasCleanDisk g new → IsOpen g old) → WasOpen g old new reason result
   was_open_by old new reason (Ok answer) up = up
@@ -139,8 +139,8 @@ module _ {S : Type 0} (g : Ghosts S) where
       asks_right (Ok answer) it = (
         it.0,
         λ returned ready.
-            let here = it.1 returned ready.held in (
-              record { held = here.0; is_indexed_correctly = subst IsIndexedCorrectly (sym here.1.0) ready.is_indexed_correctly },
+            let here = it.1 returned ready.is_archive_at_rest in (
+              record { is_archive_at_rest = here.0; is_indexed_correctly = subst IsIndexedCorrectly (sym here.1.0) ready.is_indexed_correctly },
               (here.1.0, here.1.1, says _ answer ready.is_indexed_correctly here.1.2),
             ),
       )

@@ -15,7 +15,7 @@ use Rattle.archive_store.proofs.CauseLemmas.{more_since, stops_later}
 use Rattle.archive_results.specs.Access.{Ask}
 use Rattle.archive_desk.specs.Causes.{HasUnreadableMessage, HasCause, HasDiskCause, IsDeskDatabaseFault}
 use Rattle.archive_desk.specs.Faults.{desk_error_of}
-use Rattle.archive_desk.specs.Walking.{HasWalkCause, E15MeansWalkUnreadable}
+use Rattle.archive_desk.specs.Walking.{HasWalkCause, E15MeansDiskFailedOrMessageUnreadable}
 
 -- ---- which faults are the database's
 
@@ -64,8 +64,8 @@ module _ {S : Type 0} (g : Ghosts S) (old mid new : Store S) (first : RelatesArc
   -- behind calls that left the archive: the faults of the disk never get fewer, and no limit was set
   pub cause_after : (Unread : Archive → Type 0) → HasCause g mid new Unread → HasCause g old new Unread
   cause_after Unread why = λ returned held free.
-      let there = first.1 (last.returned returned) held in
-      elim (why returned there.0 (first.0.limit ∙ free)) [
+      let there = first.1 (last.disk_was_clean returned) held in
+      elim (why returned there.0 (first.0.step_limit_is_same ∙ free)) [
         | inl more ↦ inl (more_since (state g (store_connection old)) (state g (store_connection mid)) (state g (store_connection new)) first.0 more)
         | inr bad ↦ inr (subst Unread there.1 bad)
       ]
@@ -79,18 +79,19 @@ module _ {S : Type 0} (g : Ghosts S) (ask : Ask) (old mid new : Walk S) where
       → StaysOpenUnlessDiskFails g old.store mid.store → StaysOpenUnlessDiskFails g mid.store new.store → (fault : StoreFault) → E15MeansNextUnreadable g {A = Unit {0}} mid new (Err fault)
       → IsDeskDatabaseFault (desk_error_of fault) → HasWalkCause g old new ask
   next_cause so_far before last fault stops it = λ returned free all a w.
-      let here = so_far (last.returned returned) all a w in
+      let here = so_far (last.disk_was_clean returned) all a w in
       stops_later (state g (store_connection old.store)) (state g (store_connection mid.store)) (state g (store_connection new.store)) here.0 all before
-      (stops returned ask.list all a here.0 here.1 (before.limit ∙ free) (broken_by fault it))
+      (stops returned ask.list all a here.0 here.1 (before.step_limit_is_same ∙ free) (broken_by fault it))
 
   -- the same behind the marks of messages that are passed by
   pub pass_cause : (StoreHasCleanDisk g mid.store → (all : List Remembered) (a : Archive) → WalksOver g ask.list all a [] old
       → (given : List Remembered) × WalksOver g ask.list all a given mid)
-      → StaysOpenUnlessDiskFails g old.store mid.store → StaysOpenUnlessDiskFails g mid.store new.store → (fault : StoreFault) → E15MeansWalkUnreadable g {A = Unit {0}} mid new ask (Err fault)
+      → StaysOpenUnlessDiskFails g old.store mid.store → StaysOpenUnlessDiskFails g mid.store new.store → (fault : StoreFault)
+      → E15MeansDiskFailedOrMessageUnreadable g {A = Unit {0}} mid new ask (Err fault)
       → IsDeskDatabaseFault (desk_error_of fault) → HasWalkCause g old new ask
   pass_cause so_far before last fault stops it = λ returned free all a w.
-      let here = so_far (last.returned returned) all a w in
-      elim (stops returned all a here.0 here.1 (before.limit ∙ free) (broken_by fault it)) [
+      let here = so_far (last.disk_was_clean returned) all a w in
+      elim (stops returned all a here.0 here.1 (before.step_limit_is_same ∙ free) (broken_by fault it)) [
         | inl more ↦ inl (more_since (state g (store_connection old.store)) (state g (store_connection mid.store)) (state g (store_connection new.store)) before more)
         | inr bad ↦ inr bad
       ]
@@ -101,11 +102,11 @@ module _ {S : Type 0} (g : Ghosts S) (ask : Ask) (which : Archive → List Remem
   pub walk_cause : HasWalkCause g walk new ask → HasCause g old last (λ a. HasUnreadableMessage (which a))
   walk_cause why = λ returned held free.
       let returned' = subst (StoreHasCleanDisk g) is returned in
-      let there = first.1 (begun.lasts.returned (lasts.returned returned')) held in
-      let walks = begun.over (lasts.returned returned') there.0 in
-      elim (why returned' (begun.lasts.limit ∙ first.0.limit ∙ free) (which (archive_in g mid)) (archive_in g mid) walks.1) [
+      let there = first.1 (begun.remains_open.disk_was_clean (lasts.disk_was_clean returned')) held in
+      let walks = begun.begins_over_archive (lasts.disk_was_clean returned') there.0 in
+      elim (why returned' (begun.remains_open.step_limit_is_same ∙ first.0.step_limit_is_same ∙ free) (which (archive_in g mid)) (archive_in g mid) walks.1) [
         | inl more ↦
             inl (subst (DiskHasFailed g old) (sym is) (more_since (state g (store_connection old)) (state g (store_connection walk.store)) (state g (store_connection new.store))
-            (lasts_then _ _ _ first.0 begun.lasts) more))
+            (lasts_then _ _ _ first.0 begun.remains_open) more))
         | inr bad ↦ inr (subst (λ a. HasUnreadableMessage (which a)) there.1 bad)
       ]

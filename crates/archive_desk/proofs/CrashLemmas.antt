@@ -29,7 +29,7 @@ module _ {S : Type 0} (g : Ghosts S) (Premise : Store S → Type 0) where
   module _ (old mid new : Store S) (Before : Archive → Archive → Type 0) (safe : StaysSafe old mid) (before : RelatesArchivesUnder g Premise old mid Before) where
     pub stays_safe_then : StaysOpenUnlessDiskFails g mid new → StaysSafe mid new → StaysSafe old new
     stays_safe_then lasts after = λ returned held was.
-        let back = lasts.returned returned in
+        let back = lasts.disk_was_clean returned in
         after returned (before.1 back held).0 (safe back held was)
 
     -- a call that stops after others
@@ -37,7 +37,7 @@ module _ {S : Type 0} (g : Ghosts S) (Premise : Store S → Type 0) where
         → ((a b c : Archive) → Before a b → Leaves b fault c → Leaves' a told c) → StaysOpenUnlessDiskFails g mid new
         → CrashAfterCallUnder g Premise mid new {A = A} (Err fault) Leaves → CrashAfterCallUnder g Premise old new {A = B} (Err told) Leaves'
     crash_after A B fault told Leaves Leaves' leaves lasts crash = λ returned held was db may.
-        let back = lasts.returned returned in
+        let back = lasts.disk_was_clean returned in
         let here = before.1 back held in
         let it = crash returned here.0 (safe back held was) db may in
         (it.0, leaves (archive_in g old) (archive_in g mid) it.0 here.1 it.1, it.2)
@@ -73,8 +73,8 @@ module _ {S : Type 0} (g : Ghosts S) where
   stops_import : (old new : Store S) (list text : List ℕ) (stop : ImportStop) → CrashAfterTablesCall g old new {A = Report} (Err stop) (λ a stop b. HasImportedAtLeast list text stop.done a b)
       → CrashOutcome g (store_connection old) (store_connection new) (HasImportedAtLeast list text 0) {A = Report} (Err stop) (λ stop. HasImportedAtLeast list text stop.done)
   stops_import old new list text stop crash = record {
-    within = leaves_as g (store_connection old) (store_connection new) (HasImportedAtLeast list text stop.done) (HasImportedAtLeast list text 0) (some_more list text stop.done) crash;
-    stopped = crash;
+    during_call = leaves_as g (store_connection old) (store_connection new) (HasImportedAtLeast list text stop.done) (HasImportedAtLeast list text 0) (some_more list text stop.done) crash;
+    after_error = crash;
   }
 
   -- ---- the file is not taken in
@@ -96,7 +96,7 @@ module _ {S : Type 0} (g : Ghosts S) where
       → CrashAddsAllBatches g (store_connection old) (store_connection new) list items (Err stop)
       → CrashAfterTablesCall g old new {A = Report} (Err told) (λ a s b. HasAddedAtLeast list items s.done a b)
   stopped_crash old new list items stop told same crash = λ returned held was db may.
-      let it = crash.stopped returned held was db may in
+      let it = crash.after_error returned held was db may in
       (it.0, subst (λ n. HasAddedAtLeast list items n (archive_in g old) it.0) (sym same) it.1, it.2)
 
   -- the list is there
@@ -117,16 +117,16 @@ module _ {S : Type 0} (g : Ghosts S) where
   all_imported : (list text : List ℕ) (a b : Archive) (report : Report) → IsImported list text a b report → HasImportedAtLeast list text 0 a b
   all_imported list text a b report it =
       let all = length it.items in
-      let same = it.added.archive_is ∙ ap (λ (xs : List Item). (taken a list xs).archive) (sym (take_all all it.items (omega arith))) in
-      inr (it.items, it.divided, (all, omega arith, (omega arith, same)))
+      let same = it.adds_all.archive_is ∙ ap (λ (xs : List Item). (taken a list xs).archive) (sym (take_all all it.items (omega arith))) in
+      inr (it.items, it.divides_into_items, (all, omega arith, (omega arith, same)))
 
   pub import_crash : (old new : Store S) (list text : List ℕ) (result : Result Report ImportStop)
       → CallsStoreWithTables g old new import_stop_reason result (λ a b report. IsImported list text a b report) (λ a b why. IsRefusedImport list text a b why.0 why.1)
       (λ a b stop. IsBrokenImport list text a b stop.done stop.fault) → CrashAfterTablesCall g old new result (λ a stop b. HasImportedAtLeast list text stop.done a b)
       → CrashOutcome g (store_connection old) (store_connection new) (HasImportedAtLeast list text 0) result (λ stop. HasImportedAtLeast list text stop.done)
   import_crash old new list text (Ok report) call crash = record {
-    within = leaves_now g (store_connection old) (store_connection new) (HasImportedAtLeast list text 0)
+    during_call = leaves_now g (store_connection old) (store_connection new) (HasImportedAtLeast list text 0)
         (λ returned held. all_imported list text (archive_in g old) (archive_in g new) report (call.1 returned held).1) crash;
-    stopped = tt;
+    after_error = tt;
   }
   import_crash old new list text (Err stop) call crash = stops_import old new list text stop crash

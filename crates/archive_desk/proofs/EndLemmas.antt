@@ -35,17 +35,17 @@ module _ {S : Type 0} (g : Ghosts S) (old new : Store S) (IsFault : DeskError �
   -- within another, which has more causes
   pub stops_as : EndsDeskCall g old new IsFault {A = A} (Err fault) Unread → EndsDeskCall g old new IsFault {A = B} (Err fault) Unread'
   stops_as it = record {
-    fault = it.fault;
-    caused = λ bad. cause_among g old new Unread Unread' implies (it.caused bad);
-    counted = it.counted;
+    fault_is_expected = it.fault_is_expected;
+    fault_has_cause = λ bad. cause_among g old new Unread Unread' implies (it.fault_has_cause bad);
+    refusals_counted = it.refusals_counted;
   }
 
   pub ask_stops_as : EndsDeskQuestion g old new IsFault {A = A} (Err fault) Unread → EndsDeskQuestion g old new IsFault {A = B} (Err fault) Unread'
   ask_stops_as it = record {
     was_open = it.was_open;
-    fault = it.fault;
-    caused = λ bad. cause_among g old new Unread Unread' implies (it.caused bad);
-    counted = it.counted;
+    fault_is_expected = it.fault_is_expected;
+    fault_has_cause = λ bad. cause_among g old new Unread Unread' implies (it.fault_has_cause bad);
+    refusals_counted = it.refusals_counted;
   }
 
 -- the list is not found
@@ -54,9 +54,9 @@ pub list_ends : {S : Type 0} (g : Ghosts S) (old new : Store S) (B : Type 0) (fa
     → EndsDeskQuestion g old new IsAskFault {A = B} (Err (desk_error_of fault)) Unread
 list_ends g old new B fault Unread up it = record {
   was_open = was_open_as g old new (Unit {0}) B refusal_of_fault refusal_reason reason_of_refusal fault (desk_error_of fault) (reasoned fault) up;
-  fault = is_list_fault fault it.kind;
-  caused = λ bad. disk_cause g old new Unread (store_disk g old new fault it.caused bad);
-  counted = wants_of_store (Unit {0}) B (memory_refusal_count old) (memory_refusal_count new) fault it.counted;
+  fault_is_expected = is_list_fault fault it.refusal_is_possible;
+  fault_has_cause = λ bad. disk_cause g old new Unread (store_disk g old new fault it.fault_has_cause bad);
+  refusals_counted = wants_of_store (Unit {0}) B (memory_refusal_count old) (memory_refusal_count new) fault it.refusals_counted;
 }
 
 -- ---- behind calls that left the archive
@@ -67,22 +67,22 @@ module _ {S : Type 0} (g : Ghosts S) (old mid new : Store S) (first : RelatesArc
       (it : EndsDeskCall g mid new IsFault result Unread) where
     caused_after : IfErr result (λ fault. IsDeskDatabaseFault fault → HasCause g old new Unread')
     caused_after = each_fault (λ fault. IsDeskDatabaseFault fault → HasCause g mid new Unread) (λ fault. IsDeskDatabaseFault fault → HasCause g old new Unread')
-        (λ fault why bad. cause_after g old mid new first last Unread' (cause_among g mid new Unread Unread' implies (why bad))) result it.caused
+        (λ fault why bad. cause_after g old mid new first last Unread' (cause_among g mid new Unread Unread' implies (why bad))) result it.fault_has_cause
 
     pub ends_after : EndsDeskCall g old new IsFault result Unread'
     ends_after = record {
-      fault = it.fault;
-      caused = caused_after;
-      counted = raises_after IsDeskMemoryRefusal (memory_refusal_count old) (memory_refusal_count mid) (memory_refusal_count new) result grows it.counted;
+      fault_is_expected = it.fault_is_expected;
+      fault_has_cause = caused_after;
+      refusals_counted = raises_after IsDeskMemoryRefusal (memory_refusal_count old) (memory_refusal_count mid) (memory_refusal_count new) result grows it.refusals_counted;
     }
 
     -- the first of them was answered by an open store
     pub ask_after : (StoreHasCleanDisk g mid → IsOpen g old) → EndsDeskQuestion g old new IsFault result Unread'
     ask_after up = record {
       was_open = was_open_by g old new refusal_reason result (open_still g old mid new up last);
-      fault = it.fault;
-      caused = caused_after;
-      counted = raises_after IsDeskMemoryRefusal (memory_refusal_count old) (memory_refusal_count mid) (memory_refusal_count new) result grows it.counted;
+      fault_is_expected = it.fault_is_expected;
+      fault_has_cause = caused_after;
+      refusals_counted = raises_after IsDeskMemoryRefusal (memory_refusal_count old) (memory_refusal_count mid) (memory_refusal_count new) result grows it.refusals_counted;
     }
 
 -- ---- a walk that does not begin
@@ -94,9 +94,9 @@ module _ {S : Type 0} (g : Ghosts S) (old mid last : Store S) (first : RelatesAr
   unbegun_ends B list fault Unread stops kind =
       let lasts : StaysOpenUnlessDiskFails g mid last = unbegun_lasts g mid last fault (λ a why. list_refusal a list ≡ Some why) stops.0 in record {
         was_open = was_open_by g old last {A = B} refusal_reason (Err (desk_error_of fault)) (open_still g old mid last up lasts);
-        fault = is_list_fault fault kind;
-        caused = λ bad. cause_after g old mid last first lasts Unread (disk_cause g mid last Unread (store_disk g mid last fault stops.1 bad));
-        counted = raises_after {A = B} IsDeskMemoryRefusal (memory_refusal_count old) (memory_refusal_count mid) (memory_refusal_count last) (Err (desk_error_of fault)) grows
+        fault_is_expected = is_list_fault fault kind;
+        fault_has_cause = λ bad. cause_after g old mid last first lasts Unread (disk_cause g mid last Unread (store_disk g mid last fault stops.1 bad));
+        refusals_counted = raises_after {A = B} IsDeskMemoryRefusal (memory_refusal_count old) (memory_refusal_count mid) (memory_refusal_count last) (Err (desk_error_of fault)) grows
             (wants_of_store (Unit {0}) B (memory_refusal_count mid) (memory_refusal_count last) fault stops.2);
       }
 
@@ -114,18 +114,18 @@ module _ {S : Type 0} (g : Ghosts S) (ask : Ask) (which : Archive → List Remem
     (first : RelatesArchivesUnder g (HoldsTables g) old mid (λ a b. b ≡ a)) (begun : BeginsOver g mid ask.list which walk) (grows : memory_refusal_count old ≤ memory_refusal_count mid)
     (up : StoreHasCleanDisk g mid → IsOpen g old) {A F : Type 0} (carried : F → DeskError) (result : Result A F) (it : EndsWalk g walk new ask carried result) where
   was_up : StoreHasCleanDisk g last → IsOpen g old
-  was_up returned = up (begun.lasts.returned (it.lasts.returned (subst (StoreHasCleanDisk g) is returned)))
+  was_up returned = up (begun.remains_open.disk_was_clean (it.remains_open.disk_was_clean (subst (StoreHasCleanDisk g) is returned)))
 
   pub walk_caused : IfErr result (λ fault. IsDeskDatabaseFault (carried fault) → HasCause g old last (λ a. IsQuestionUnreadable a ask (which a)))
   walk_caused = each_fault (λ fault. IsDeskDatabaseFault (carried fault) → HasWalkCause g walk new ask)
       (λ fault. IsDeskDatabaseFault (carried fault) → HasCause g old last (λ a. IsQuestionUnreadable a ask (which a)))
       (λ fault why bad. cause_among g old last (λ a. HasUnreadableMessage (which a)) (λ a. IsQuestionUnreadable a ask (which a)) (λ a bad. inl bad)
-      (walk_cause g ask which old mid last walk new is first begun it.lasts (why bad))) result it.caused
+      (walk_cause g ask which old mid last walk new is first begun it.remains_open (why bad))) result it.fault_has_cause
 
   pub walk_counted : CountsRefusals (λ fault. IsDeskMemoryRefusal (carried fault)) old last result
   walk_counted = subst (λ s. CountsRefusals (λ fault. IsDeskMemoryRefusal (carried fault)) old s result) (sym is)
       (raises_after (λ fault. IsDeskMemoryRefusal (carried fault)) (memory_refusal_count old) (memory_refusal_count walk.store) (memory_refusal_count new.store) result
-      (omega (arith, grows, begun.counted)) it.counted)
+      (omega (arith, grows, begun.refusal_count_grows)) it.refusals_counted)
 
 module _ {S : Type 0} (g : Ghosts S) (ask : Ask) (which : Archive → List Remembered) (old mid last : Store S) (walk new : Walk S) (is : last ≡ new.store)
     (first : RelatesArchivesUnder g (HoldsTables g) old mid (λ a b. b ≡ a)) (begun : BeginsOver g mid ask.list which walk) (grows : memory_refusal_count old ≤ memory_refusal_count mid)
@@ -135,9 +135,9 @@ module _ {S : Type 0} (g : Ghosts S) (ask : Ask) (which : Archive → List Remem
       → EndsDeskQuestion g old last IsAskFault result (λ a. IsQuestionUnreadable a ask (which a))
   walk_ends result unlisted it = record {
     was_open = was_open_by g old last refusal_reason result (was_up g ask which old mid last walk new is first begun grows up (λ fault. fault) result it);
-    fault = each_fault IsMemoryOrDatabaseFault IsAskFault unlisted_asked result unlisted;
-    caused = walk_caused g ask which old mid last walk new is first begun grows up (λ fault. fault) result it;
-    counted = walk_counted g ask which old mid last walk new is first begun grows up (λ fault. fault) result it;
+    fault_is_expected = each_fault IsMemoryOrDatabaseFault IsAskFault unlisted_asked result unlisted;
+    fault_has_cause = walk_caused g ask which old mid last walk new is first begun grows up (λ fault. fault) result it;
+    refusals_counted = walk_counted g ask which old mid last walk new is first begun grows up (λ fault. fault) result it;
   }
 
 -- of an export
@@ -148,8 +148,8 @@ module _ {S : Type 0} (g : Ghosts S) (ask : Ask) (old mid last : Store S) where
   export_ends walk new is first begun grows up result it =
       let which : Archive → List Remembered = λ a. messages_in a ask.list in record {
         was_open = was_open_by g old last export_stop_reason result (was_up g ask which old mid last walk new is first begun grows up (λ stop. stop.fault) result it);
-        caused = walk_caused g ask which old mid last walk new is first begun grows up (λ stop. stop.fault) result it;
-        counted = walk_counted g ask which old mid last walk new is first begun grows up (λ stop. stop.fault) result it;
+        fault_has_cause = walk_caused g ask which old mid last walk new is first begun grows up (λ stop. stop.fault) result it;
+        refusals_counted = walk_counted g ask which old mid last walk new is first begun grows up (λ stop. stop.fault) result it;
       }
 
   -- before its first byte
@@ -159,8 +159,8 @@ module _ {S : Type 0} (g : Ghosts S) (ask : Ask) (old mid last : Store S) where
       let stop : ExportStop = record { written = 0; fault = fault } in
       let say : RefusalReason → ℕ × RefusalReason = λ why. (0, why) in record {
         was_open = was_open_as g old last A ℕ refusal_reason export_stop_reason say fault stop refl it.was_open;
-        caused = λ bad. cause_among g old last Unread (λ a. IsQuestionUnreadable a ask (messages_in a ask.list)) implies (it.caused bad);
-        counted = it.counted;
+        fault_has_cause = λ bad. cause_among g old last Unread (λ a. IsQuestionUnreadable a ask (messages_in a ask.list)) implies (it.fault_has_cause bad);
+        refusals_counted = it.refusals_counted;
       }
 
 -- ---- a walk that stops
@@ -172,9 +172,9 @@ module _ {S : Type 0} (g : Ghosts S) (ask : Ask) (A : Type 0) (old mid new : Wal
       → RaisesRefusalCount {A = Unit {0}} IsMemoryRefusal (memory_refusal_count mid.store) (memory_refusal_count new.store) (Err fault)
       → EndsWalk g old new ask {A = A} (λ fault. fault) (Err (desk_error_of fault))
   walk_stops fault why counted = record {
-    lasts = lasts_then _ _ _ before last;
-    caused = why;
-    counted = raises_after {A = A} IsDeskMemoryRefusal (memory_refusal_count old.store) (memory_refusal_count mid.store) (memory_refusal_count new.store) (Err (desk_error_of fault)) grows
+    remains_open = lasts_then _ _ _ before last;
+    fault_has_cause = why;
+    refusals_counted = raises_after {A = A} IsDeskMemoryRefusal (memory_refusal_count old.store) (memory_refusal_count mid.store) (memory_refusal_count new.store) (Err (desk_error_of fault)) grows
         (wants_of_store (Unit {0}) A (memory_refusal_count mid.store) (memory_refusal_count new.store) fault counted);
   }
 
@@ -182,9 +182,9 @@ module _ {S : Type 0} (g : Ghosts S) (ask : Ask) (A : Type 0) (old mid new : Wal
   pub walk_unheld : (counted : Walk S) → CountsOne new counted → memory_refusal_count mid.store ≤ memory_refusal_count new.store
       → EndsWalk g old counted ask {A = A} (λ fault. fault) (Err Memory)
   walk_unheld counted one more = record {
-    lasts = subst (StaysOpenUnlessDiskFails g old.store) (sym one.store) (lasts_then _ _ _ before last);
-    caused = λ bad. absurd (cc);
-    counted =
+    remains_open = subst (StaysOpenUnlessDiskFails g old.store) (sym one.store) (lasts_then _ _ _ before last);
+    fault_has_cause = λ bad. absurd (cc);
+    refusals_counted =
         let raised : memory_refusal_count counted.store ≡ memory_refusal_count new.store + 1 = ap (λ (s : Store S). memory_refusal_count s) one.store in
         (omega (arith, raised, grows, more), (λ it. omega (arith, raised, grows, more)));
   }

@@ -33,18 +33,18 @@ module _ {S : Type 0} (g : Ghosts S) (Premise : Store S → Type 0) (IsStopWant 
       (implies : (a b : Archive) (done : ℕ) (db : Database) → Before a b → Stops b done db → Stops' a done db) where
     cause_after : (done : ℕ) → HasPartialCallCause g mid new Premise (λ a db. Stops a done db) → HasPartialCallCause g old new Premise (λ a db. Stops' a done db)
     cause_after done why = λ returned held free.
-        let there = before.1 (last.returned returned) held in
-        elim (why returned there.0 (before.0.limit ∙ free)) [
+        let there = before.1 (last.disk_was_clean returned) held in
+        elim (why returned there.0 (before.0.step_limit_is_same ∙ free)) [
           | inl more ↦ inl (more_since (state g (store_connection old)) (state g (store_connection mid)) (state g (store_connection new)) before.0 more)
           | inr stops ↦ inr (implies _ _ done _ there.1 stops)
         ]
 
     pub import_ends_after : {A : Type 0} (result : Result A ImportStop) → EndsImport g mid new Premise IsStopWant result Stops → EndsImport g old new Premise IsStopWant result Stops'
     import_ends_after result it = record {
-      caused = each_fault (λ (stop : ImportStop). IsImportDatabaseFault stop.fault → HasPartialCallCause g mid new Premise (λ a db. Stops a stop.done db))
+      fault_has_cause = each_fault (λ (stop : ImportStop). IsImportDatabaseFault stop.fault → HasPartialCallCause g mid new Premise (λ a db. Stops a stop.done db))
           (λ (stop : ImportStop). IsImportDatabaseFault stop.fault → HasPartialCallCause g old new Premise (λ a db. Stops' a stop.done db))
-          (λ stop why bad. cause_after stop.done (why bad)) result it.caused;
-      counted = raises_after (λ (stop : ImportStop). IsStopWant stop.fault) (memory_refusal_count old) (memory_refusal_count mid) (memory_refusal_count new) result grows it.counted;
+          (λ stop why bad. cause_after stop.done (why bad)) result it.fault_has_cause;
+      refusals_counted = raises_after (λ (stop : ImportStop). IsStopWant stop.fault) (memory_refusal_count old) (memory_refusal_count mid) (memory_refusal_count new) result grows it.refusals_counted;
     }
 
   module _ (old new : Store S) (A B : Type 0) (Stops : Archive → ℕ → Database → Type 0) where
@@ -53,15 +53,15 @@ module _ {S : Type 0} (g : Ghosts S) (Premise : Store S → Type 0) (IsStopWant 
     pub import_unbroken : (done : ℕ) (fault : ImportError) (stop : ImportStop) → (IsImportDatabaseFault fault → ⊥) → stop ≡ record { done = done; fault = fault }
         → CountsRefusals {A = A} (λ (s : ImportStop). IsStopWant s.fault) old new (Err stop) → EndsImport g old new Premise IsStopWant {A = A} (Err stop) Stops
     import_unbroken done fault stop off is counted =
-        record { caused = λ bad. absurd (off (sym (ap (λ (s : ImportStop). s.fault) is) ∙ bad)); counted = counted }
+        record { fault_has_cause = λ bad. absurd (off (sym (ap (λ (s : ImportStop). s.fault) is) ∙ bad)); refusals_counted = counted }
 
     -- ---- the same stop in other words
 
     pub import_stops_as : (Stops' : Archive → ℕ → Database → Type 0) (stop : ImportStop) → ((a : Archive) (db : Database) → Stops a stop.done db → Stops' a stop.done db)
         → EndsImport g old new Premise IsStopWant {A = A} (Err stop) Stops → EndsImport g old new Premise IsStopWant {A = B} (Err stop) Stops'
     import_stops_as Stops' stop implies it = record {
-      caused = λ bad returned held free. elim (it.caused bad returned held free) [ inl more ↦ inl more | inr stops ↦ inr (implies _ _ stops) ];
-      counted = it.counted;
+      fault_has_cause = λ bad returned held free. elim (it.fault_has_cause bad returned held free) [ inl more ↦ inl more | inr stops ↦ inr (implies _ _ stops) ];
+      refusals_counted = it.refusals_counted;
     }
 
     -- ---- a call of the store failed
@@ -71,8 +71,8 @@ module _ {S : Type 0} (g : Ghosts S) (Premise : Store S → Type 0) (IsStopWant 
           → (Cause → DiskHasFailed g old new ⊎ ((a : Archive) → Stops a done (state g (store_connection new)).now)) → EndsWithCause g old new Cause {A = A} (Err fault) reasons
           → EndsImport g old new Premise IsStopWant {A = B} (Err stop) Stops
       import_stopped Cause fault reasons done stop is why it = subst (λ s. EndsImport g old new Premise IsStopWant {A = B} (Err s) Stops) (sym is) (record {
-        caused = λ bad returned ready free.
+        fault_has_cause = λ bad returned ready free.
             let broken : fault ≡ faults.Store = cc in
-            elim (why (it.caused returned (holds old ready) free broken)) [ inl more ↦ inl more | inr stops ↦ inr (stops _) ];
-        counted = (it.counted.0, (λ want. it.counted.1 (wants fault want)));
+            elim (why (it.fault_has_cause returned (holds old ready) free broken)) [ inl more ↦ inl more | inr stops ↦ inr (stops _) ];
+        refusals_counted = (it.refusals_counted.0, (λ want. it.refusals_counted.1 (wants fault want)));
       })

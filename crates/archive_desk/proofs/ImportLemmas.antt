@@ -105,7 +105,7 @@ module _ {S : Type 0} (g : Ghosts S) (old new : Store S) (list : List ℕ) (item
     lasts,
     λ returned held.
         let it = adds returned held in
-        (it.0, record { archive_is = it.1; told = same ∙ it.2 }),
+        (it.0, record { archive_is = it.1; tally_is = same ∙ it.2 }),
   )
 
   -- the first of them
@@ -171,7 +171,7 @@ broken_add list text items a b c done (Stored fault) divides same broken =
 pub completed : (list text : List ℕ) (items : List Item) (a b c : Archive) (report : Report) → DividesIntoItems text items
     → (b ≡ a) × (list_refusal a list ≡ None) × (has_list a list ≡ true) → HasAddedAllItems list items b c report → IsImported list text a c report
 completed list text items a b c report divides before added =
-    record { is_there = before.2; items = items; divided = divides; added = subst (λ x. HasAddedAllItems list items x c report) before.0 added }
+    record { list_exists = before.2; items = items; divides_into_items = divides; adds_all = subst (λ x. HasAddedAllItems list items x c report) before.0 added }
 
 module _ {S : Type 0} (g : Ghosts S) (old mid new : Store S) (list text : List ℕ) (items : List Item) (divides : DividesIntoItems text items) where
   -- the list is there, the file is cut, and its messages are added
@@ -194,7 +194,7 @@ module _ {S : Type 0} (g : Ghosts S) (old mid new : Store S) (list text : List �
 -- what was added is filed right
 module _ (list text : List ℕ) (a b : Archive) (right : IsIndexedCorrectly a) where
   imported_right : (report : Report) → IsImported list text a b report → IsIndexedCorrectly b
-  imported_right report it = subst IsIndexedCorrectly (sym it.added.archive_is) (taken_right a list it.items right)
+  imported_right report it = subst IsIndexedCorrectly (sym it.adds_all.archive_is) (taken_right a list it.items right)
 
   first_right : (done : ℕ) → HasImportedFirst list text done a b → IsIndexedCorrectly b
   first_right done it = subst IsIndexedCorrectly (sym it.2.1) (taken_right a list (take done it.0) right)

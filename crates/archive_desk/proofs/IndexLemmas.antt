@@ -83,7 +83,7 @@ module _ {X : Type 0} (made : List Remembered → List X) (apart : IsMadeApart m
       pub listed_past : made [] ≡ [] → SkipsWithheldMessages g mid new ask reader {A = Unit {0}} (Ok tt) → ListedSoFar old new so_many
       listed_past empty passes = λ returned all a w.
           let it = so_far (was returned) all a w in
-          let past = passes.passed returned all a it.0 it.1 in (
+          let past = passes.skips_withheld returned all a it.0 it.1 in (
             it.0 ++ past.0,
             past.1,
             it.2 ∙ sym (shown_apart it.0 past.0 ∙ ap (λ xs. made_of_shown it.0 ++ made xs) past.2 ∙ ap (λ xs. made_of_shown it.0 ++ xs) empty ∙ append-nil (made_of_shown it.0)),
@@ -94,7 +94,7 @@ module _ {X : Type 0} (made : List Remembered → List X) (apart : IsMadeApart m
           → ListsRows g old new ask reader made (Err fault)
       listed_unpassed fault none told passes = λ returned all a w.
           let it = so_far (was returned) all a w in
-          rw none (λ up. let last = passes.passed returned all a it.0 it.1 up in (last.1.held, last.1.archive_is))
+          rw none (λ up. let last = passes.skips_withheld returned all a it.0 it.1 up in (last.1.is_archive_at_rest, last.1.archive_is))
 
       -- none is left
       pub listed_all : (found : Vec X Global) → found.items ≡ so_many
@@ -103,7 +103,7 @@ module _ {X : Type 0} (made : List Remembered → List X) (apart : IsMadeApart m
       listed_all found is ends = λ returned all a w.
           let it = so_far (was returned) all a w in
           let here = ends returned all a it.0 it.1 in
-          ((here.0.held, here.0.archive_is), is ∙ it.2 ∙ ap made_of_shown here.1)
+          ((here.0.is_archive_at_rest, here.0.archive_is), is ∙ it.2 ∙ ap made_of_shown here.1)
 
       -- memory is wanting at a message
       pub listed_no_more : (m : Message) (fault : DeskError) → refusal_reason fault ≡ None
@@ -112,7 +112,7 @@ module _ {X : Type 0} (made : List Remembered → List X) (apart : IsMadeApart m
       listed_no_more m fault none gives = λ returned all a w.
           let it = so_far (was returned) all a w in
           let here = gives returned all a it.0 it.1 in
-          rw none (λ up. (here.held, here.archive_is))
+          rw none (λ up. (here.is_archive_at_rest, here.archive_is))
 
       -- the store fails at the next
       pub listed_unread : (fault : DeskError) → refusal_reason fault ≡ None
@@ -121,7 +121,7 @@ module _ {X : Type 0} (made : List Remembered → List X) (apart : IsMadeApart m
           → ListsRows g old new ask reader made (Err fault)
       listed_unread fault none rests = λ returned all a w.
           let it = so_far (was returned) all a w in
-          rw none (λ up. let last = rests returned all a it.0 it.1 up in (last.held, last.archive_is))
+          rw none (λ up. let last = rests returned all a it.0 it.1 up in (last.is_archive_at_rest, last.archive_is))
 
     -- a want of memory that is counted changes nothing of it
     pub listed_counted : (old new counted : Walk S) (fault : DeskError) → CountsOne new counted → ListsRows g old new ask reader made (Err fault)
@@ -156,13 +156,13 @@ module _ {X : Type 0} (made : List Remembered → List X) {S : Type 0} (g : Ghos
       (found : RelatesArchivesUnder g (HoldsTables g) old mid (λ a b. (b ≡ a) × (ask_reason a ask ≡ None) × DeterminesVerdicts a ask reader))
       (begun : BeginsOver g mid ask.list which walk) (lasts : StaysOpenUnlessDiskFails g walk.store new.store) where
     through : StaysOpenUnlessDiskFails g old last
-    through = subst (StaysOpenUnlessDiskFails g old) (sym is) (lasts_then _ _ _ (lasts_then _ _ _ found.0 begun.lasts) lasts)
+    through = subst (StaysOpenUnlessDiskFails g old) (sym is) (lasts_then _ _ _ (lasts_then _ _ _ found.0 begun.remains_open) lasts)
 
     at_walk : StoreHasCleanDisk g last → StoreHasCleanDisk g walk.store
-    at_walk returned = lasts.returned (subst (StoreHasCleanDisk g) is returned)
+    at_walk returned = lasts.disk_was_clean (subst (StoreHasCleanDisk g) is returned)
 
     at_start : StoreHasCleanDisk g last → StoreHasCleanDisk g mid
-    at_start returned = begun.lasts.returned (at_walk returned)
+    at_start returned = begun.remains_open.disk_was_clean (at_walk returned)
 
     pub walk_listed : (all_found : Vec X Global) → ListsRows g walk new ask reader made (Ok all_found)
         → AnswersFromStoreUnder g (HoldsTables g) old last refusal_reason (Ok all_found) (λ a. ask_reason a ask) Held
@@ -170,7 +170,7 @@ module _ {X : Type 0} (made : List Remembered → List X) {S : Type 0} (g : Ghos
       through,
       (λ returned held.
           let first = found.1 (at_start returned) held in
-          let walks = begun.over (at_walk returned) first.0 in
+          let walks = begun.begins_over_archive (at_walk returned) first.0 in
           let it = lists (subst (StoreHasCleanDisk g) is returned) (which (archive_in g mid)) (archive_in g mid) walks.1 in (
             subst (HoldsTables g) (sym is) it.0.0,
             (
@@ -188,7 +188,7 @@ module _ {X : Type 0} (made : List Remembered → List X) {S : Type 0} (g : Ghos
       through,
       (λ returned held up.
           let first = found.1 (at_start returned) held in
-          let walks = begun.over (at_walk returned) first.0 in
+          let walks = begun.begins_over_archive (at_walk returned) first.0 in
           let it = (rw none at lists) (subst (StoreHasCleanDisk g) is returned) (which (archive_in g mid)) (archive_in g mid) walks.1 in
           let there = it (subst (IsOpen g) is up) in
           (subst (HoldsTables g) (sym is) there.0, ap (archive_in g) is ∙ there.1 ∙ first.1.0)),

@@ -11,7 +11,7 @@ use Rattle.archive_results.specs.Access.{Ask, view_of}
 use Rattle.archive_results.specs.Index.{MessageSummary, summary_of}
 use Rattle.archive_results.specs.Results.{TreeLine, thread_lines}
 use Rattle.archive_results.specs.Shown.{shown_message}
-use Rattle.archive_desk.specs.Faults.{RefusalReason, not_in_view, ask_reason, list_reason, refusal_reason}
+use Rattle.archive_desk.specs.Faults.{RefusalReason, not_in_view, ask_reason, missing_list_reason, refusal_reason}
 use Rattle.archive_desk.specs.declared.faults.DeskError.{DeskError}
 use Rattle.archive_desk.proofs.AskLemmas.{no_such_list}
 use Rattle.archive_desk.proofs.CallLemmas.{calls_after}
@@ -35,15 +35,15 @@ module _ {S : Type 0} (g : Ghosts S) (ask : Ask) where
   -- the list is asked how it is threaded, after the headers are read
   pub index_after : (old mid new : Store S) (headers : List MessageSummary) (result : Result Bool DeskError)
       → RelatesArchivesUnder g (HoldsTables g) old mid (λ a b. (b ≡ a) × (ask_reason a ask ≡ None) × (headers ≡ map summary_of (view_of a ask)))
-      → AnswersFromStoreUnder g (HoldsTables g) mid new refusal_reason result (λ a. list_reason a ask) (λ a merge. merge ≡ merge_of a ask.list)
+      → AnswersFromStoreUnder g (HoldsTables g) mid new refusal_reason result (λ a. missing_list_reason a ask) (λ a merge. merge ≡ merge_of a ask.list)
       → AnswersFromStoreUnder g (HoldsTables g) old new refusal_reason result (λ a. ask_reason a ask) (λ a merge. IsIndexed a ask headers merge)
   index_after old mid new headers result found asked =
       calls_after g (HoldsTables g) old mid new refusal_reason (λ a b. (b ≡ a) × (ask_reason a ask ≡ None) × (headers ≡ map summary_of (view_of a ask)))
-      (λ a b merge. (b ≡ a) × (list_reason a ask ≡ None) × (merge ≡ merge_of a ask.list))
+      (λ a b merge. (b ≡ a) × (missing_list_reason a ask ≡ None) × (merge ≡ merge_of a ask.list))
       (λ a b merge. (b ≡ a) × (ask_reason a ask ≡ None) × IsIndexed a ask headers merge)
-      (λ a b why. (b ≡ a) × (list_reason a ask ≡ Some why)) (λ a b why. (b ≡ a) × (ask_reason a ask ≡ Some why)) (λ a b _. b ≡ a) (λ a b _. b ≡ a)
+      (λ a b why. (b ≡ a) × (missing_list_reason a ask ≡ Some why)) (λ a b why. (b ≡ a) × (ask_reason a ask ≡ Some why)) (λ a b _. b ≡ a) (λ a b _. b ≡ a)
       (λ a b c merge first it. (it.0 ∙ first.0, first.1, (first.2, subst (λ x. merge ≡ merge_of x ask.list) first.0 it.2)))
-      (λ a b c why first it. (it.0 ∙ first.0, no_such_list a ask why (subst (λ x. list_reason x ask ≡ Some why) first.0 it.1)))
+      (λ a b c why first it. (it.0 ∙ first.0, no_such_list a ask why (subst (λ x. missing_list_reason x ask ≡ Some why) first.0 it.1)))
       (λ a b c fault first it. it ∙ first.0) result found asked
 
 module _ {S : Type 0} (g : Ghosts S) (old new : Store S) (ask : Ask) where

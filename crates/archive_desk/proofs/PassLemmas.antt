@@ -76,8 +76,8 @@ module _ {S : Type 0} (g : Ghosts S) (ask : Ask) (reader : ReaderFacts) where
       → WalksOver g ask.list all a given new)
       → remaining_count new.walk ≤ remaining_count old.walk → SkipsAtMostOne g old new ask reader (Ok false)
   none_passed old new stays left = record {
-    passes = record { passed = λ returned all a given w. passed_none all a given old new (stays returned all a given w); left = left; fault = tt };
-    fewer = λ e. absurd (cc);
+    skips_withheld = record { skips_withheld = λ returned all a given w. passed_none all a given old new (stays returned all a given w); remaining_never_grows = left; fault_is_no_refusal = tt };
+    fewer_if_passed = λ e. absurd (cc);
   }
 
   -- one was, since the policy withholds it
@@ -86,28 +86,28 @@ module _ {S : Type 0} (g : Ghosts S) (ask : Ask) (reader : ReaderFacts) where
       → remaining_count new ≡ remaining_count mid.walk - 1 → ((m : Remembered) → AreDatedMarksOf marks m → weighs ≡ record (message_facts None m) { own = false })
       → ((m : Remembered) → weighs ≡ record (message_facts None m) { own = false } → true ≡ is_withheld ask reader m) → SkipsAtMostOne g old (walk_over_store mid.store new) ask reader (Ok true)
   one_passed old mid new marks weighs shown passes left weigh withheld = record {
-    passes = record {
-      passed = λ returned all a given w.
-          let seen = shown.given returned ask.list all a given w in
+    skips_withheld = record {
+      skips_withheld = λ returned all a given w.
+          let seen = shown.gives_next_marks returned ask.list all a given w in
           let next = seen.1 in
           passed_one all a given old (walk_over_store mid.store new) next.0 (passed_next g ask.list all a given mid.store mid.walk new next.0 next.1 seen.0 next.2 passes)
           (not_shown ask reader next.0 (sym (withheld next.0 (weigh next.0 next.3))));
-      left = omega (arith, left, shown.left);
-      fault = tt;
+      remaining_never_grows = omega (arith, left, shown.remaining_is_same);
+      fault_is_no_refusal = tt;
     };
-    fewer = λ e. omega (arith, left, shown.left, shown.ahead);
+    fewer_if_passed = λ e. omega (arith, left, shown.remaining_is_same, shown.some_means_remaining);
   }
 
   -- the store fails at its marks
   pub none_seen : (old new : Walk S) (told : StoreFault) (r : Result Bool StoreFault) → IsErrAnd r (λ f. f ≡ told) → PeeksNextMarks g old new (Err told) → SkipsAtMostOne g old new ask reader r
   none_seen old new told (Ok b) is shown = absurd is
   none_seen old new told (Err f) is shown = record {
-    passes = record {
-      passed = λ returned all a given w up. passed_none all a given old new (shown.given returned ask.list all a given w up);
-      left = omega (arith, shown.left);
-      fault = ap refusal_of_fault is ∙ shown.fault;
+    skips_withheld = record {
+      skips_withheld = λ returned all a given w up. passed_none all a given old new (shown.gives_next_marks returned ask.list all a given w up);
+      remaining_never_grows = omega (arith, shown.remaining_is_same);
+      fault_is_no_refusal = ap refusal_of_fault is ∙ shown.fault_is_no_refusal;
     };
-    fewer = tt;
+    fewer_if_passed = tt;
   }
 
   -- ---- one after the other
@@ -117,18 +117,18 @@ module _ {S : Type 0} (g : Ghosts S) (ask : Ask) (reader : ReaderFacts) where
       → PassedSoFar old new
   passed_further old mid new x so_far was passes = λ returned all a given w.
       let it = so_far (was returned) all a given w in
-      passed_then all a given old mid new it (passes.passed returned all a (given ++ it.0) it.1)
+      passed_then all a given old mid new it (passes.skips_withheld returned all a (given ++ it.0) it.1)
 
   pub stopped_further : {A B : Type 0} (old mid new : Walk S) (told : StoreFault) (r : Result A StoreFault) → IsErrAnd r (λ f. f ≡ told) → PassedSoFar old mid
       → (StoreHasCleanDisk g new.store → StoreHasCleanDisk g mid.store) → remaining_count mid.walk ≤ remaining_count old.walk → SkipsWithheldMessages g mid new ask reader {A = B} (Err told)
       → SkipsWithheldMessages g old new ask reader r
   stopped_further old mid new told (Ok x) is so_far was left passes = absurd is
   stopped_further old mid new told (Err f) is so_far was left passes = record {
-    passed = λ returned all a given w up.
+    skips_withheld = λ returned all a given w up.
         let it = so_far (was returned) all a given w in
-        passed_then all a given old mid new it (passes.passed returned all a (given ++ it.0) it.1 up);
-    left = omega (arith, left, passes.left);
-    fault = ap refusal_of_fault is ∙ passes.fault;
+        passed_then all a given old mid new it (passes.skips_withheld returned all a (given ++ it.0) it.1 up);
+    remaining_never_grows = omega (arith, left, passes.remaining_never_grows);
+    fault_is_no_refusal = ap refusal_of_fault is ∙ passes.fault_is_no_refusal;
   }
 
 -- ---- why it stops

@@ -81,9 +81,9 @@ WholeItems = (item : Item) → IsItem item → IsItem (whole_item item)
 
 new_is_readable : WholeItems → (list : List ℕ) (item : Item) → IsItem item → IsReadable (new_message list item)
 new_is_readable items list item is = record {
-  key = key_is_key item;
-  item = items item is;
-  withdrawn = (withdrawn.No, refl);
+  key_is_valid = key_is_key item;
+  item_is_writable = items item is;
+  withdrawal_is_known = (withdrawn.No, refl);
   embargo = tt;
 }
 
@@ -96,7 +96,7 @@ change_is_readable list key change keeps m readable = cases (is_message_at_key l
     cases false = readable
 
 withdrawal_is_readable : (party : ℤ) → ((by : Withdrawn) × (withdrawal_number by ≡ party)) → (m : Message) → IsReadable m → IsReadable (with_withdrawal party m)
-withdrawal_is_readable party by m readable = record { key = readable.key; item = readable.item; withdrawn = by; embargo = readable.embargo }
+withdrawal_is_readable party by m readable = record { key_is_valid = readable.key_is_valid; item_is_writable = readable.item_is_writable; withdrawal_is_known = by; embargo = readable.embargo }
 
 embargo_is_readable : (until : Option ℤ) → IfSome until (λ day. is_day day ≡ true) → (m : Message) → IsReadable m → IsReadable (with_embargo until m)
 embargo_is_readable until day m readable = record { key = readable.key; item = readable.item; withdrawn = readable.withdrawn; embargo = day }

@@ -8,7 +8,7 @@ use Rattle.std.proofs.lemmas.List.Elements.{filter-append}
 use Rattle.std.proofs.lemmas.Slice.Eq.{bytes_eq-Decides}
 use Rattle.mbox_core.specs.Division.{Item}
 use Rattle.mbox_items.specs.Division.{whole}
-use Rattle.mbox_core.proofs.DivisionLaws.{one_division}
+use Rattle.mbox_core.proofs.DivisionLaws.{each_text_has_at_most_one_division}
 use Rattle.archive_model.specs.Records.{Archive, Message}
 use Rattle.archive_model.specs.Commands.{add, refused, no_list, too_large, already_known, list_full, taken_in}
 use Rattle.archive_model.specs.Keys.{item_key}
@@ -183,11 +183,12 @@ again_added list items done a b it = ap (λ x. (taken x list items).archive) it.
 pub again_imported : (list text : List ℕ) (done : ℕ) (a b c d : Archive) (report whole : Report) → HasImportedAtLeast list text done a b
     → IsImported list text b c report → IsImported list text a d whole → c ≡ d
 again_imported list text done a b c d report whole left again once =
-    let alike : again.items ≡ once.items = one_division text again.items once.items again.divided once.divided in
-    again.added.archive_is ∙ ap (λ is. (taken b list is).archive) alike ∙ same ∙ sym once.added.archive_is
+    let alike : again.items ≡ once.items = each_text_has_at_most_one_division text again.items once.items again.divides_into_items once.divides_into_items in
+    again.adds_all.archive_is ∙ ap (λ is. (taken b list is).archive) alike ∙ same ∙ sym once.adds_all.archive_is
   where
     same : (taken b list once.items).archive ≡ (taken a list once.items).archive
     same = elim left [
       | inl none ↦ ap (λ x. (taken x list once.items).archive) none.1
-      | inr some ↦ again_added list once.items done a b (subst (λ is. HasAddedAtLeast list is done a b) (one_division text some.0 once.items some.1 once.divided) some.2)
+      | inr some ↦ again_added list once.items done a b (subst (λ is. HasAddedAtLeast list is done a b)
+          (each_text_has_at_most_one_division text some.0 once.items some.1 once.divides_into_items) some.2)
     ]

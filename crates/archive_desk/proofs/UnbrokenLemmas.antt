@@ -156,7 +156,7 @@ module _ {S : Type 0} (g : Ghosts S) (old new : Store S) (well : MeetsNoDiskFaul
   can_be_read = well.fully_readable.readable
 
   no_cause : (Unread : Archive → Type 0) → ¬ Unread before → ¬ HasCause g old new Unread
-  no_cause Unread read cause = elim (cause well.returned well.fully_readable.held well.fully_readable.unlimited) [ inl more ↦ well.no_disk_failure more | inr bad ↦ read bad ]
+  no_cause Unread read cause = elim (cause well.disk_is_clean well.fully_readable.holds_tables well.fully_readable.has_no_step_limit) [ inl more ↦ well.no_disk_failure more | inr bad ↦ read bad ]
 
   unbroken : {A : Type 0} (result : Result A DeskError) (Unread : Archive → Type 0) → ¬ Unread before → DeskFaultMeansDiskFailedOr g old new result Unread → HasNoDatabaseFault result
   unbroken result Unread read = each_fault (λ fault. IsDeskDatabaseFault fault → HasCause g old new Unread) (λ fault. ¬ IsDeskDatabaseFault fault)
@@ -167,7 +167,7 @@ module _ {S : Type 0} (g : Ghosts S) (old new : Store S) (well : MeetsNoDiskFaul
   told result Unread read why =
       each_fault (λ fault. fault ≡ faults.Store → DiskHasFailed g old new ⊎ Unread before) (λ fault. fault ≢ faults.Store)
       (λ fault cause it. elim (cause it) [ inl more ↦ well.no_disk_failure more | inr bad ↦ read bad ])
-      result (why well.returned well.fully_readable.held well.fully_readable.unlimited)
+      result (why well.disk_is_clean well.fully_readable.holds_tables well.fully_readable.has_no_step_limit)
 
   pub never_broken : {A : Type 0} (result : Result A DeskError) (ask : Ask) → QuestionHasNoDatabaseFault g old new result ask
   never_broken result ask = record {
@@ -196,4 +196,4 @@ never_more : MoreFaults 0 0 → ⊥
 never_more more = absurd (omega (arith, more))
 
 pub memory_is_untroubled : (old new : Store MemStore) → IsFullyReadableStore over_memory old → MeetsNoDiskFault over_memory old new
-memory_is_untroubled old new fully_readable = record { fully_readable = fully_readable; no_disk_failure = never_more; returned = memory_is_clean (store_connection new) }
+memory_is_untroubled old new fully_readable = record { fully_readable = fully_readable; no_disk_failure = never_more; disk_is_clean = memory_is_clean (store_connection new) }

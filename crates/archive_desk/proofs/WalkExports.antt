@@ -68,13 +68,13 @@ module _ {S : Type 0} (g : Ghosts S) (old mid last : Store S) (walk new : Walk S
   texts a b same enough = ap seen same ∙ ap (λ ms. head ++ export_text (map shown_message ms)) (view_alike a ask reader enough (messages_in a ask.list))
 
   through : StaysOpenUnlessDiskFails g old last
-  through = subst (StaysOpenUnlessDiskFails g old) (sym is) (lasts_then _ _ _ (lasts_then _ _ _ found.0 begun.lasts) lasts)
+  through = subst (StaysOpenUnlessDiskFails g old) (sym is) (lasts_then _ _ _ (lasts_then _ _ _ found.0 begun.remains_open) lasts)
 
   at_walk : StoreHasCleanDisk g last → StoreHasCleanDisk g walk.store
-  at_walk returned = lasts.returned (subst (StoreHasCleanDisk g) is returned)
+  at_walk returned = lasts.disk_was_clean (subst (StoreHasCleanDisk g) is returned)
 
   at_start : StoreHasCleanDisk g last → StoreHasCleanDisk g mid
-  at_start returned = begun.lasts.returned (at_walk returned)
+  at_start returned = begun.remains_open.disk_was_clean (at_walk returned)
 
   -- nothing of the archive changed
   held_last : WalkHoldsArchive g (archive_in g mid) new → HoldsTables g last
@@ -87,7 +87,7 @@ module _ {S : Type 0} (g : Ghosts S) (old mid last : Store S) (walk new : Walk S
     through,
     (λ returned held.
         let first = found.1 (at_start returned) held in
-        let walks = begun.over (at_walk returned) first.0 in
+        let walks = begun.begins_over_archive (at_walk returned) first.0 in
         let it = writes (subst (StoreHasCleanDisk g) is returned) (messages_in (archive_in g mid) ask.list) (archive_in g mid) walks.1 in
         let same = texts (archive_in g old) (archive_in g mid) first.1.0 first.1.2 in (
           held_last it.0,
@@ -106,7 +106,7 @@ module _ {S : Type 0} (g : Ghosts S) (old mid last : Store S) (walk new : Walk S
         → ExportsPart g old last before after written (λ a. head ++ exported_text a ask)
     walk_part fault writes = λ returned held fits.
         let first = found.1 (at_start returned) held in
-        let walks = begun.over (at_walk returned) first.0 in
+        let walks = begun.begins_over_archive (at_walk returned) first.0 in
         let it = writes (subst (StoreHasCleanDisk g) is returned) (messages_in (archive_in g mid) ask.list) (archive_in g mid) walks.1 in
         subst (λ x. AppendsPrefixOfText before after x written) (texts (archive_in g old) (archive_in g mid) first.1.0 first.1.2) (it.1 fits)
 
@@ -121,7 +121,7 @@ module _ {S : Type 0} (g : Ghosts S) (old mid last : Store S) (walk new : Walk S
       through,
       (λ returned held.
           let first = found.1 (at_start returned) held in
-          let walks = begun.over (at_walk returned) first.0 in
+          let walks = begun.begins_over_archive (at_walk returned) first.0 in
           let it = writes (subst (StoreHasCleanDisk g) is returned) (messages_in (archive_in g mid) ask.list) (archive_in g mid) walks.1 in (
             held_last it.0,
             (ap (archive_in g) is ∙ it.0.1 ∙ first.1.0, (first.1.1, walk_part Write writes returned held)),
@@ -131,7 +131,7 @@ module _ {S : Type 0} (g : Ghosts S) (old mid last : Store S) (walk new : Walk S
       through,
       (λ returned held up.
           let first = found.1 (at_start returned) held in
-          let walks = begun.over (at_walk returned) first.0 in
+          let walks = begun.begins_over_archive (at_walk returned) first.0 in
           let it = writes (subst (StoreHasCleanDisk g) is returned) (messages_in (archive_in g mid) ask.list) (archive_in g mid) walks.1 in
           let there = it.0 (subst (IsOpen g) is up) in
           (held_last there, ap (archive_in g) is ∙ there.1 ∙ first.1.0)),
@@ -140,7 +140,7 @@ module _ {S : Type 0} (g : Ghosts S) (old mid last : Store S) (walk new : Walk S
       through,
       (λ returned held up.
           let first = found.1 (at_start returned) held in
-          let walks = begun.over (at_walk returned) first.0 in
+          let walks = begun.begins_over_archive (at_walk returned) first.0 in
           let it = (rw why.0 at writes) (subst (StoreHasCleanDisk g) is returned) (messages_in (archive_in g mid) ask.list) (archive_in g mid) walks.1 in
           let there = it.0 (subst (IsOpen g) is up) in
           (held_last there, ap (archive_in g) is ∙ there.1 ∙ first.1.0)),
@@ -166,26 +166,26 @@ module _ {S : Type 0} (g : Ghosts S) (old mid last : Store S) (walk new : Walk S
 
   pub walk_leaves : (failed fails : ℕ) (result : Result ℕ ExportStop) → (StoreHasCleanDisk g mid → IsOpen g old) → WritesWalk g walk new ask reader head before after result
       → LeavesPartialExport g old last ask before after (λ a. head ++ exported_text a ask) result
-  walk_leaves failed fails (Ok count) up writes = record { part = tt; open_if_written = tt; begun = tt }
+  walk_leaves failed fails (Ok count) up writes = record { exports_part = tt; open_if_written = tt; writes_only_if_allowed = tt }
   walk_leaves failed fails (Err stop) up writes = record {
-    part = walk_part stop.written failed fails stop.fault writes;
+    exports_part = walk_part stop.written failed fails stop.fault writes;
     open_if_written = λ some returned. up (at_start returned);
-    begun = walk_begun stop.written failed fails;
+    writes_only_if_allowed = walk_begun stop.written failed fails;
   }
 
   pub walk_tells : (failed fails : ℕ) (result : Result ℕ ExportStop)
       → ReportsWriterFailure failed fails result (λ stop. IsWalkStop before after failed fails stop.written stop.fault)
       → ReportsWriterFailure failed fails result (λ stop. IsExportStop before after failed fails stop.written stop.fault)
-  walk_tells failed fails (Ok count) it = record { quiet = it.quiet; cause = tt }
-  walk_tells failed fails (Err stop) it = record { quiet = tt; cause = walk_cause stop.written failed fails stop.fault it.cause }
+  walk_tells failed fails (Ok count) it = record { no_failure_if_ok = it.no_failure_if_ok; cause = tt }
+  walk_tells failed fails (Err stop) it = record { no_failure_if_ok = tt; cause = walk_cause stop.written failed fails stop.fault it.cause }
 
 -- where nothing was written yet
 pub leaves_none : {S : Type 0} (g : Ghosts S) (old last : Store S) (ask : Ask) (told : List ℕ) (text : Archive → List ℕ) (fault : DeskError)
     → LeavesPartialExport g old last ask told told text (Err (record { written = 0; fault = fault }))
 leaves_none g old last ask told text fault = record {
-  part = λ returned held fits. none_cut told (text (archive_in g old));
+  exports_part = λ returned held fits. none_cut told (text (archive_in g old));
   open_if_written = λ some. absurd (omega (arith, some));
-  begun = λ returned held some. absurd (omega (arith, some));
+  writes_only_if_allowed = λ returned held some. absurd (omega (arith, some));
 }
 
 unwritten : (told : List ℕ) (failures : ℕ) (fault : DeskError) → IsAskFault fault → IsExportStop told told failures failures 0 fault
@@ -198,4 +198,4 @@ unwritten told failures Write is = absurd is
 
 pub tells_none : (told : List ℕ) (failures : ℕ) (fault : DeskError) → IsAskFault fault
     → ReportsWriterFailure failures failures {A = ℕ} {F = ExportStop} (Err (record { written = 0; fault = fault })) (λ stop. IsExportStop told told failures failures stop.written stop.fault)
-tells_none told failures fault is = record { quiet = tt; cause = unwritten told failures fault is }
+tells_none told failures fault is = record { no_failure_if_ok = tt; cause = unwritten told failures fault is }

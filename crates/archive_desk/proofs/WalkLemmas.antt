@@ -136,14 +136,14 @@ module _ {S : Type 0} (g : Ghosts S) (ask : Ask) (reader : ReaderFacts) where
           let here = gives returned all a so_far.0 so_far.1 in
           let given = so_far.0 in
           let one = archived_message ask.list m ∷ [] in
-          let whole : shown_mbox_text ask reader all ≡ s.part ++ (text ++ shown_mbox_text ask reader here.left) =
-          ap (shown_mbox_text ask reader) (sym here.joined) ∙ shown_joined ask reader (given ++ one) here.left
-          ∙ ap (λ x. x ++ shown_mbox_text ask reader here.left) (shown_joined ask reader given one ∙ ap (λ x. x ++ text) (sym so_far.2))
-          ∙ append_assoc s.part text (shown_mbox_text ask reader here.left) in (
-            stands_still new a (refusal_reason fault) (here.held, here.archive_is),
+          let whole : shown_mbox_text ask reader all ≡ s.part ++ (text ++ shown_mbox_text ask reader here.remaining) =
+          ap (shown_mbox_text ask reader) (sym here.given_and_remaining) ∙ shown_joined ask reader (given ++ one) here.remaining
+          ∙ ap (λ x. x ++ shown_mbox_text ask reader here.remaining) (shown_joined ask reader given one ∙ ap (λ x. x ++ text) (sym so_far.2))
+          ∙ append_assoc s.part text (shown_mbox_text ask reader here.remaining) in (
+            stands_still new a (refusal_reason fault) (here.is_archive_at_rest, here.archive_is),
             λ fits. (
               length s.part + k,
-              cut_behind before middle after s.part text (shown_mbox_text ask reader here.left) (shown_mbox_text ask reader all) k s.out whole (cut fits),
+              cut_behind before middle after s.part text (shown_mbox_text ask reader here.remaining) (shown_mbox_text ask reader all) k s.out whole (cut fits),
               omega (arith, sum, s.counts_is),
             ),
           )
@@ -161,7 +161,7 @@ module _ {S : Type 0} (g : Ghosts S) (ask : Ask) (reader : ReaderFacts) where
       counts_is = s.counts_is;
       walked = λ returned all a w.
           let so_far = s.walked (was returned) all a w in
-          let past = passes.passed returned all a so_far.0 so_far.1 in (
+          let past = passes.skips_withheld returned all a so_far.0 so_far.1 in (
             so_far.0 ++ past.0,
             past.1,
             so_far.2
@@ -176,13 +176,13 @@ module _ {S : Type 0} (g : Ghosts S) (ask : Ask) (reader : ReaderFacts) where
     rows_left fault none stands = λ returned all a w.
         let so_far = s.walked (was returned) all a w in
         let here = so_far.1 in
-        let whole : shown_mbox_text ask reader all ≡ s.part ++ shown_mbox_text ask reader here.left =
-        ap (shown_mbox_text ask reader) (sym here.joined) ∙ shown_joined ask reader so_far.0 here.left
-        ∙ ap (λ x. x ++ shown_mbox_text ask reader here.left) (sym so_far.2) in (
+        let whole : shown_mbox_text ask reader all ≡ s.part ++ shown_mbox_text ask reader here.remaining =
+        ap (shown_mbox_text ask reader) (sym here.given_and_remaining) ∙ shown_joined ask reader so_far.0 here.remaining
+        ∙ ap (λ x. x ++ shown_mbox_text ask reader here.remaining) (sym so_far.2) in (
           rw none (stands returned all a so_far.0 here),
           λ fits. (
             length s.part,
-            cut_there before middle s.part (shown_mbox_text ask reader here.left) (shown_mbox_text ask reader all) s.out whole,
+            cut_there before middle s.part (shown_mbox_text ask reader here.remaining) (shown_mbox_text ask reader all) s.out whole,
             s.counts_is,
           ),
         )
@@ -192,12 +192,13 @@ module _ {S : Type 0} (g : Ghosts S) (ask : Ask) (reader : ReaderFacts) where
         → (StoreHasCleanDisk g new.store → (all : List Remembered) (a : Archive) (given : List Remembered) → WalksOver g ask.list all a given mid → IsOpen g new.store
         → WalksOver g ask.list all a given new)
         → WritesRows g old new ask reader before middle counted count (Err fault)
-    rows_unread fault none rests = rows_left fault none (λ returned all a given w up. let last = rests returned all a given w up in (last.held, last.archive_is))
+    rows_unread fault none rests = rows_left fault none (λ returned all a given w up. let last = rests returned all a given w up in (last.is_archive_at_rest, last.archive_is))
 
     -- at the marks of those that are passed by
     pub rows_unpassed : (fault : DeskError) → refusal_reason fault ≡ None → (told : StoreFault) → SkipsWithheldMessages g mid new ask reader {A = Unit {0}} (Err told)
         → WritesRows g old new ask reader before middle counted count (Err fault)
-    rows_unpassed fault none told passes = rows_left fault none (λ returned all a given w up. let last = passes.passed returned all a given w up in (last.1.held, last.1.archive_is))
+    rows_unpassed fault none told passes = rows_left fault none (λ returned all a given w up. let last = passes.skips_withheld returned all a given w up in
+        (last.1.is_archive_at_rest, last.1.archive_is))
 
     -- none is left
     pub rows_all : (StoreHasCleanDisk g new.store → (all : List Remembered) (a : Archive) (given : List Remembered) → WalksOver g ask.list all a given mid
@@ -206,7 +207,7 @@ module _ {S : Type 0} (g : Ghosts S) (ask : Ask) (reader : ReaderFacts) where
         let so_far = s.walked (was returned) all a w in
         let here = ends returned all a so_far.0 so_far.1 in
         let whole : s.part ≡ shown_mbox_text ask reader all = so_far.2 ∙ ap (shown_mbox_text ask reader) here.1 in (
-          (here.0.held, here.0.archive_is),
+          (here.0.is_archive_at_rest, here.0.archive_is),
           s.out ∙ ap (λ x. before ++ x) whole,
           s.counts_is ∙ ap (λ x. min (counted + length x) 18446744073709551615) whole,
         )
@@ -227,7 +228,7 @@ pub head_unwritten : {S : Type 0} (g : Ghosts S) (ask : Ask) (reader : ReaderFac
     → WritesWalk g walk walk ask reader head before after (Err (record { written = k; fault = Write }))
 head_unwritten g ask reader walk head before after k cut = λ returned all a w.
     let text = shown_mbox_text ask reader all in (
-      (w.held, w.archive_is),
+      (w.is_archive_at_rest, w.archive_is),
       λ fits.
           let none : length {A = ℕ} [] + k ≡ k = omega (arith) in
           subst (λ n. AppendsPrefixOfText before after (head ++ text) n) none (cut_behind before before after [] head text (head ++ text) k (sym (append-nil before)) refl cut),

@@ -38,7 +38,7 @@ IsStoreMemoryRefusal fault = fault ≡ Stored faults.Memory
 abbrev pub IsDeskMemoryRefusal : DeskError → Type 0
 IsDeskMemoryRefusal fault = IsDeskOwnMemoryRefusal fault ⊎ IsStoreMemoryRefusal fault
 
--- ---- rows that cannot be read, which no command writes (a law: `what_commands_write_can_be_read`)
+-- ---- rows that cannot be read, which no command writes (a law: `commands_write_readable_archives`)
 
 -- among these messages is one that cannot be read
 abbrev pub HasUnreadableMessage : List Message → Type 0

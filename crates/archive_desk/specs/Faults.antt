@@ -51,5 +51,5 @@ abbrev pub ask_reason : Archive → Ask → Option RefusalReason
 ask_reason archive ask = option_map refused (ask_refusal archive ask)
 
 -- why what is asked is refused before the reader is looked for
-abbrev pub list_reason : Archive → Ask → Option RefusalReason
-list_reason archive ask = option_map reason_of_refusal (list_refusal archive ask.list)
+abbrev pub missing_list_reason : Archive → Ask → Option RefusalReason
+missing_list_reason archive ask = option_map reason_of_refusal (list_refusal archive ask.list)

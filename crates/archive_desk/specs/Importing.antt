@@ -54,7 +54,7 @@ IsImportDatabaseFault fault = fault ≡ Store Broken
 -- all of them: the archive is the machine's, and the report counts its replies
 pub record HasAddedAllItems (list : List ℕ) (items : List Item) (a b : Archive) (report : Report) : Type 0 where
   pub archive_is : b ≡ (taken a list items).archive
-  pub told : import_tally_of report ≡ tally_replies (taken a list items).replies
+  pub tally_is : import_tally_of report ≡ tally_replies (taken a list items).replies
 
 -- the list was refused from this place on
 abbrev pub IsRefusedAdd : List ℕ → List Item → Archive → Archive → ℕ → ImportStopCause → Type 0
@@ -75,10 +75,10 @@ IsSplitError text (Refused why) = ⊤
 
 -- all messages of the file were added
 pub record IsImported (list text : List ℕ) (a b : Archive) (report : Report) : Type 0 where
-  pub is_there : has_list a list ≡ true
+  pub list_exists : has_list a list ≡ true
   pub items : List Item
-  pub divided : DividesIntoItems text items
-  pub added : HasAddedAllItems list items a b report
+  pub divides_into_items : DividesIntoItems text items
+  pub adds_all : HasAddedAllItems list items a b report
 
 -- the first `done` messages of the file were added
 abbrev pub HasImportedFirst : List ℕ → List ℕ → ℕ → Archive → Archive → Type 0

@@ -74,8 +74,8 @@ HasNoDatabaseFault result = IfErr result (λ fault. ¬ IsDeskDatabaseFault fault
 
 -- its tables are those of an archive that can be read, and no limit is set on the steps of a query
 pub record IsFullyReadableStore {S : Type 0} (g : Ghosts S) (store : Store S) : Type 0 where
-  pub held : HoldsTables g store
-  pub unlimited : HasNoStepLimit g store
+  pub holds_tables : HoldsTables g store
+  pub has_no_step_limit : HasNoStepLimit g store
   pub readable : CanBeRead (archive_in g store)
 
 module _ {S : Type 0} (g : Ghosts S) (old new : Store S) where
@@ -83,7 +83,7 @@ module _ {S : Type 0} (g : Ghosts S) (old new : Store S) where
   pub record MeetsNoDiskFault : Type 0 where
     pub fully_readable : IsFullyReadableStore g old
     pub no_disk_failure : ¬ DiskHasFailed g old new
-    pub returned : StoreHasCleanDisk g new
+    pub disk_is_clean : StoreHasCleanDisk g new
 
   -- Whatever the call was, if this is its answer and E15 comes of nothing but what its clause `caused` says: a question on the messages
   -- of a list, of a month or of an author, on the message of a key, or on who asks.

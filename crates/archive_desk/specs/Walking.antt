@@ -70,8 +70,8 @@ module _ {S : Type 0} (g : Ghosts S) where
       → WalksOver g ask.list all a [] old → DiskHasFailed g old.store new.store ⊎ HasUnreadableMessage all
 
   -- the disk failed, or one of the messages cannot be read
-  abbrev pub E15MeansWalkUnreadable : {A : Type 0} → Walk S → Walk S → Ask → Result A StoreFault → Type 0
-  E15MeansWalkUnreadable old new ask result = StoreHasCleanDisk g new.store → (all : List Remembered) (a : Archive) (given : List Remembered)
+  abbrev pub E15MeansDiskFailedOrMessageUnreadable : {A : Type 0} → Walk S → Walk S → Ask → Result A StoreFault → Type 0
+  E15MeansDiskFailedOrMessageUnreadable old new ask result = StoreHasCleanDisk g new.store → (all : List Remembered) (a : Archive) (given : List Remembered)
       → WalksOver g ask.list all a given old → HasNoStepLimit g old.store
       → IfErr result (λ fault. fault ≡ faults.Store → DiskHasFailed g old.store new.store ⊎ HasUnreadableMessage all)
 
@@ -82,15 +82,15 @@ module _ {S : Type 0} (g : Ghosts S) where
 
     -- A walk over messages of the list passed some by, and left the archive. After a fault so, if the connection is still open.
     pub record SkipsWithheldMessages {A : Type 0} (result : Result A StoreFault) : Type 0 where
-      pub passed : StoreHasCleanDisk g new.store → (all : List Remembered) (a : Archive) (given : List Remembered) → WalksOver g ask.list all a given old
+      pub skips_withheld : StoreHasCleanDisk g new.store → (all : List Remembered) (a : Archive) (given : List Remembered) → WalksOver g ask.list all a given old
           → MatchResult result (λ _. HasSkippedWithheld all a given) (λ _. IsOpen g new.store → HasSkippedWithheld all a given)
-      pub left : remaining_count new.walk ≤ remaining_count old.walk
-      pub fault : IfErr result (λ fault. refusal_of_fault fault ≡ None)
+      pub remaining_never_grows : remaining_count new.walk ≤ remaining_count old.walk
+      pub fault_is_no_refusal : IfErr result (λ fault. refusal_of_fault fault ≡ None)
 
     -- One message at most was passed by: whether one was, and then fewer are left.
     pub record SkipsAtMostOne (result : Result Bool StoreFault) : Type 0 where
-      pub passes : SkipsWithheldMessages result
-      pub fewer : IfOk result (λ passed. passed ≡ true → remaining_count new.walk < remaining_count old.walk)
+      pub skips_withheld : SkipsWithheldMessages result
+      pub fewer_if_passed : IfOk result (λ passed. passed ≡ true → remaining_count new.walk < remaining_count old.walk)
 
     -- A walk over messages of the list that gave none yet: this was made of them, as far as the policy shows them.
     abbrev pub ListsRows : {X : Type 0} → (made : List Remembered → List X) → Result (Vec X Global) DeskError → Type 0

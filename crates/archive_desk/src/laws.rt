@@ -24,12 +24,12 @@ ghost use Rattle.archive_desk.specs.declared.importing.Report.{Report};
 ghost use Rattle.archive_desk.specs.declared.faults.DeskError.{DeskError};
 
 use archive_store::Command;
-use mbox_core::laws::whole_items_are_items;
+use mbox_core::laws::whole_items_stay_items;
 use sqlite::Alter;
 
 /// Where an archive can be read, it can be after a command for which `IsWellFormedCommand` holds, as it does for each of the code, after any
 /// number of them, and after messages that can be written are added. The empty archive can be read.
-pub fn what_commands_write_can_be_read()
+pub fn commands_write_readable_archives()
     ensures step { (a : Archive) (command : Told) → IsWellFormedCommand command → CanBeRead a
         → CanBeRead (step a command).0 }
     ensures run { (a : Archive) (commands : List Told) → All IsWellFormedCommand commands → CanBeRead a
@@ -38,12 +38,12 @@ pub fn what_commands_write_can_be_read()
         → CanBeRead a → CanBeRead (taken a list items).archive }
     ensures empty { CanBeRead empty_archive }
 {
-    whole_items_are_items();
+    whole_items_stay_items();
 }
 
 /// What is repeated is known. Where so many first messages of a file were added and no other, as a stop of the machine leaves it,
 /// the same file imported again ends with the archive that an import ends with which was not stopped.
-pub fn what_is_repeated_is_known()
+pub fn a_repeated_import_ends_with_the_same_archive()
     ensures added { (list : List ℕ) (items : List Item) (done : ℕ) (a b : Archive)
         → HasAddedAtLeast list items done a b
         → (taken b list items).archive ≡ (taken a list items).archive }
@@ -54,7 +54,7 @@ pub fn what_is_repeated_is_known()
 
 /// Of each command of the code this is so: what it adds can be written, what it grants is of rank 1 to 3, it withdraws for the author
 /// or the board, and holds back up to a day.
-pub fn each_command_is_said(command: &Command<'_>)
+pub fn each_command_is_well_formed(command: &Command<'_>)
     ensures { IsWellFormedCommand (spec_command command.now) }
 {
     match command {
@@ -70,23 +70,23 @@ pub fn each_command_is_said(command: &Command<'_>)
 }
 
 /// `IsWellFormedCommand` holds of all commands of a run.
-pub fn the_commands_of_a_run_are_said(commands: &[Command<'_>])
+pub fn commands_of_a_run_are_well_formed(commands: &[Command<'_>])
     ensures { All IsWellFormedCommand (map spec_command commands.now) }
 {
     for command in commands.iter() {
-        each_command_is_said(command);
+        each_command_is_well_formed(command);
     }
 }
 
 /// Where an archive can be read, nothing is so of it that E15 of a question could mean: not of the messages of a list, of a month or of
 /// an author, nor of the message of a key, nor of who asks, nor of the names of lists and of who has a token.
-pub fn nothing_that_can_be_read_breaks_a_question()
+pub fn a_readable_archive_fails_no_question()
     ensures { (a : Archive) → CanBeRead a → BreaksNoQuestion a }
 {}
 
 /// Over a disk that does not fail in a call, no question of an archive that can be read is answered by G4 that carries E15, no export
 /// stops with it, and neither the lists nor who has a token are refused with E15.
-pub fn only_the_disk_breaks_a_question<S: Alter, A>()
+pub fn only_a_disk_fault_fails_a_question<S: Alter, A>()
     ensures question { (old new : Store S) (result : Result A DeskError) (ask : Ask)
         → MeetsNoDiskFault S.Store old new
         → QuestionHasNoDatabaseFault S.Store old new result ask }
@@ -99,7 +99,7 @@ pub fn only_the_disk_breaks_a_question<S: Alter, A>()
 
 /// In memory each call is such, on the tables of an archive that can be read, without a limit on the steps of a query: so there it
 /// never comes.
-pub fn in_memory_nothing_breaks_a_question<A>()
+pub fn in_memory_no_question_fails<A>()
     ensures question { (old new : Store MemStore) (result : Result A DeskError) (ask : Ask)
         → IsFullyReadableStore over_memory old → QuestionHasNoDatabaseFault over_memory old new result ask }
     ensures export { (old new : Store MemStore) (result : Result A ExportStop) (ask : Ask)

@@ -10,7 +10,7 @@ ghost use Rattle.archive_results.specs.Shown.{shown_message};
 ghost use Rattle.archive_store.specs.Told.{AnswersFromReadyStore, AnswersFromStoreUnder, HoldsTables};
 ghost use Rattle.archive_desk.specs.Causes.{IsQuestionUnreadable};
 ghost use Rattle.archive_desk.specs.Ending.{EndsDeskCall, EndsDeskQuestion};
-ghost use Rattle.archive_desk.specs.Faults.{IsAskFault, ask_reason, list_reason, refusal_reason};
+ghost use Rattle.archive_desk.specs.Faults.{IsAskFault, ask_reason, missing_list_reason, refusal_reason};
 ghost use Rattle.archive_desk.specs.Holding.{AnswersFromStoreTables};
 ghost use Rattle.archive_store.specs.Walking.{selected_messages};
 ghost use Rattle.archive_desk.specs.Listing.{IsThreadFault, lines_shown, thread_reason, view_in};
@@ -106,7 +106,7 @@ pub fn threads<T: Threader, S: Alter>(
     ensures ends { EndsDeskQuestion S.Store store.old store.new IsAskFault result
         (λ a. IsQuestionUnreadable a ask.now (messages_in a ask.now.list)) }
 {
-    let index = match read_index(store, alloc, ask) {
+    let index = match read_view_summaries(store, alloc, ask) {
         Ok(index) => index,
         Err(fault) => return Err(fault),
     };
@@ -136,7 +136,7 @@ pub fn thread<T: Threader, S: Alter>(
     ensures ends { EndsDeskQuestion S.Store store.old store.new IsThreadFault result
         (λ a. IsQuestionUnreadable a ask.now (messages_in a ask.now.list)) }
 {
-    let index = match read_index(store, alloc, ask) {
+    let index = match read_view_summaries(store, alloc, ask) {
         Ok(index) => index,
         Err(fault) => return Err(fault),
     };
@@ -161,7 +161,7 @@ pub struct ViewSummaries {
 
 /// The index of the view: the list is walked, one message at a time, and is then asked how it is threaded. G1 where there is no
 /// such list, G2 where there is no such person; G5 where no memory is left, G4 where the store has none or fails.
-pub fn read_index<S: Alter>(
+pub fn read_view_summaries<S: Alter>(
     store: &mut Store<S>,
     alloc: Global,
     ask: &Ask<'_>,
@@ -186,7 +186,7 @@ pub fn read_index<S: Alter>(
 /// Whether the threads of the list are gathered by subject.
 fn find_merge<S: Alter>(store: &mut Store<S>, ask: &Ask<'_>) -> Result<bool, DeskError>
     ensures found { AnswersFromStoreUnder S.Store (HoldsTables S.Store) store.old store.new refusal_reason result
-        (λ a. list_reason a ask.now)
+        (λ a. missing_list_reason a ask.now)
         (λ a merge. merge ≡ merge_of a ask.now.list) }
     ensures ends { EndsDeskCall S.Store store.old store.new IsAskFault result (λ _. ⊥) }
 {

@@ -7,7 +7,7 @@ ghost use Rattle.archive_store.specs.Told.{AnswersFromStoreUnder, HoldsTables};
 ghost use Rattle.archive_desk.specs.Asking.{standing_reason};
 ghost use Rattle.archive_desk.specs.Causes.{IsMessageUnreadable, IsReaderUnreadable};
 ghost use Rattle.archive_desk.specs.Ending.{EndsDeskCall, EndsDeskQuestion};
-ghost use Rattle.archive_desk.specs.Faults.{IsAskFault, ask_reason, list_reason, refusal_reason};
+ghost use Rattle.archive_desk.specs.Faults.{IsAskFault, ask_reason, missing_list_reason, refusal_reason};
 ghost use Rattle.archive_desk.specs.Holding.{AnswersFromStoreTables};
 
 use crate::faults::DeskError;
@@ -45,7 +45,7 @@ pub fn find_row<S: Alter>(
     key: &Key,
 ) -> Result<Option<Message>, DeskError>
     ensures held { AnswersFromStoreUnder S.Store (HoldsTables S.Store) store.old store.new refusal_reason result
-        (λ a. list_reason a ask.now)
+        (λ a. missing_list_reason a ask.now)
         (λ a found. option_map (archived_message ask.now.list) found ≡ message_of a ask.now.list key.now) }
     ensures ends { EndsDeskQuestion S.Store store.old store.new IsAskFault result
         (λ a. IsMessageUnreadable a ask.now key.now) }

@@ -6,7 +6,7 @@ ghost use Rattle.archive_results.specs.Access.{message_facts};
 ghost use Rattle.archive_store.specs.Told.{CountsRefusals, StaysOpenUnlessDiskFails};
 ghost use Rattle.archive_store.specs.Walking.{walk_over_store};
 ghost use Rattle.archive_port.specs.Wanting.{IsMemoryRefusal};
-ghost use Rattle.archive_desk.specs.Walking.{SkipsAtMostOne, SkipsWithheldMessages, E15MeansWalkUnreadable};
+ghost use Rattle.archive_desk.specs.Walking.{SkipsAtMostOne, SkipsWithheldMessages, E15MeansDiskFailedOrMessageUnreadable};
 
 use archive_results::{Ask, MessageFacts, ReaderFacts, asks_author, is_withheld};
 use archive_store::{DatedMarks, MessageWalk, Store, StoreFault};
@@ -22,7 +22,7 @@ pub(crate) fn pass_withheld<S: Alter>(
 ) -> Result<(), StoreFault>
     ensures passed { SkipsWithheldMessages S.Store (walk_over_store store.old walk.old) (walk_over_store store.new walk.new) ask.now reader.now result }
     ensures lasts { StaysOpenUnlessDiskFails S.Store store.old store.new }
-    ensures caused { E15MeansWalkUnreadable S.Store (walk_over_store store.old walk.old) (walk_over_store store.new walk.new) ask.now result }
+    ensures caused { E15MeansDiskFailedOrMessageUnreadable S.Store (walk_over_store store.old walk.old) (walk_over_store store.new walk.new) ask.now result }
     ensures counted { CountsRefusals IsMemoryRefusal store.old store.new result }
 {
     while pass_next(store, ask, reader, walk)? {}
@@ -38,7 +38,7 @@ fn pass_next<S: Alter>(
 ) -> Result<bool, StoreFault>
     ensures passed { SkipsAtMostOne S.Store (walk_over_store store.old walk.old) (walk_over_store store.new walk.new) ask.now reader.now result }
     ensures lasts { StaysOpenUnlessDiskFails S.Store store.old store.new }
-    ensures caused { E15MeansWalkUnreadable S.Store (walk_over_store store.old walk.old) (walk_over_store store.new walk.new) ask.now result }
+    ensures caused { E15MeansDiskFailedOrMessageUnreadable S.Store (walk_over_store store.old walk.old) (walk_over_store store.new walk.new) ask.now result }
     ensures counted { CountsRefusals IsMemoryRefusal store.old store.new result }
 {
     if asks_author(ask, reader) {

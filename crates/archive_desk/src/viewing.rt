@@ -8,7 +8,7 @@ ghost use Rattle.archive_desk.specs.Asking.{DeterminesVerdicts, person_reason, s
 ghost use Rattle.archive_desk.specs.Causes.{HasUnreadableMessage, IsAddressUnreadable, IsPersonUnreadable, IsRankUnknown};
 ghost use Rattle.archive_desk.specs.Causes.{IsReaderUnreadable, IsQuestionUnreadable};
 ghost use Rattle.archive_desk.specs.Ending.{EndsDeskCall, EndsDeskQuestion};
-ghost use Rattle.archive_desk.specs.Faults.{IsAskFault, ask_reason, list_reason, refusal_reason, reason_of_refusal};
+ghost use Rattle.archive_desk.specs.Faults.{IsAskFault, ask_reason, missing_list_reason, refusal_reason, reason_of_refusal};
 ghost use Rattle.archive_desk.specs.Holding.{AnswersFromStoreTables};
 
 use crate::faults::DeskError;
@@ -56,7 +56,7 @@ pub(crate) fn read_list<S: Alter>(
     ask: &Ask<'_>,
 ) -> Result<Vec<Message>, DeskError>
     ensures held { AnswersFromStoreUnder S.Store (HoldsTables S.Store) store.old store.new refusal_reason result
-        (λ a. list_reason a ask.now)
+        (λ a. missing_list_reason a ask.now)
         (λ a found. map (archived_message ask.now.list) found.items ≡ messages_in a ask.now.list) }
     ensures ends { EndsDeskCall S.Store store.old store.new IsAskFault result
         (λ a. HasUnreadableMessage (messages_in a ask.now.list)) }

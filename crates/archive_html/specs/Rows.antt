@@ -36,5 +36,5 @@ rows_text list lines rows = flat_map (λ page_row. tree_row list (tree_line line
 
 -- These bytes are the texts of the rows, and each row begins at its start; one that is not there at the end.
 pub record AreRenderedRows (list : List ℕ) (lines : List Line) (rows : List Row) (bytes starts : List ℕ) : Type 0 where
-  pub whole : bytes ≡ rows_text list lines rows
-  pub each : (i : ℕ) → slice_index_or starts i (length bytes) ≡ length (rows_text list lines (take i rows))
+  pub is_rows_text : bytes ≡ rows_text list lines rows
+  pub starts_are_lengths : (i : ℕ) → slice_index_or starts i (length bytes) ≡ length (rows_text list lines (take i rows))

@@ -4,17 +4,17 @@ ghost use Rattle.archive_html.specs.Laws.{EscapedHtmlIsInert, PercentEncodedIsIn
 
 /// A shown text is printable ASCII without `"`, `<` and `>`, and so is an escaped one: nothing
 /// breaks out of its place.
-pub fn texts_stay_in_their_place()
+pub fn escaped_texts_are_inert()
     ensures shown { EscapedHtmlIsInert }
     ensures escaped { PercentEncodedIsInert }
 {}
 
 /// The target of an author's link, decoded, is the author key.
-pub fn author_links_are_read()
+pub fn author_links_round_trip()
     ensures { AuthorTargetRoundTrips }
 {}
 
 /// The target of a message's month link is the month in which it was sent.
-pub fn month_links_are_read()
+pub fn month_links_round_trip()
     ensures { MonthTargetRoundTrips }
 {}

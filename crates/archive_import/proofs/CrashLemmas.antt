@@ -105,7 +105,7 @@ module _ {S : Type 0} (g : Ghosts S) where
     pub held_crash : (stop : AddError) (at : ImportStop) → at ≡ record { done = i.done + stop.done; fault = Stored stop.fault }
         → CrashAddsAllBatches g (store_connection old) (store_connection new) list i.held (Err stop) → CrashAfterTablesCall g old new {A = Unit {0}} (Err at) (LeavesAmid list i)
     held_crash stop at is crash = λ returned held was db may.
-        let it = crash.stopped returned held was db may in (
+        let it = crash.after_error returned held was db may in (
           it.0,
           λ a items w. (
             i.done + it.1.0,
@@ -238,23 +238,23 @@ module _ {S : Type 0} (g : Ghosts S) where
   pub stops_reading : (old new : Store S) (list text : List ℕ) (ends : ℕ) (stop : ImportStop) → CrashAfterTablesCall g old new {A = Report} (Err stop) (LeavesFile list text ends)
       → CrashImportsInput g old new list text ends (Err stop)
   stops_reading old new list text ends stop crash = record {
-    within = λ rest last. leaves_as g (store_connection old) (store_connection new) (HasAddedReadAtLeast list text ends stop.done) (HasAddedReadAtLeast list (text ++ rest) 1 0)
+    when_crashed = λ rest last. leaves_as g (store_connection old) (store_connection new) (HasAddedReadAtLeast list text ends stop.done) (HasAddedReadAtLeast list (text ++ rest) 1 0)
         (λ a b it. reads_more list text rest ends stop.done a b last it) crash;
-    stopped = crash;
+    when_stopped = crash;
   }
 
   all_read : (list text : List ℕ) (ends : ℕ) (a b : Archive) (report : Report) → IsInputImported list text ends a b report → HasAddedReadAtLeast list text ends 0 a b
   all_read list text ends a b report it =
       let items = it.1.items in
       let all = length items in
-      let same = it.1.added.archive_is ∙ ap (λ (xs : List Item). (taken a list xs).archive) (sym (take_all all items (omega arith))) in
-      (items, inr (it.0, it.1.divided), (all, omega arith, (omega arith, same)))
+      let same = it.1.adds_all.archive_is ∙ ap (λ (xs : List Item). (taken a list xs).archive) (sym (take_all all items (omega arith))) in
+      (items, inr (it.0, it.1.divides_into_items), (all, omega arith, (omega arith, same)))
 
   pub ends_reading : (old new : Store S) (list text : List ℕ) (ends : ℕ) (report : Report) → RelatesTableArchives g old new (λ a b. IsInputImported list text ends a b report) → KeepsSafe old new
       → CrashImportsInput g old new list text ends (Ok report)
   ends_reading old new list text ends report goes safe = record {
-    within = λ rest last. leaves_now g (store_connection old) (store_connection new) (HasAddedReadAtLeast list (text ++ rest) 1 0)
+    when_crashed = λ rest last. leaves_now g (store_connection old) (store_connection new) (HasAddedReadAtLeast list (text ++ rest) 1 0)
         (λ returned held. reads_more list text rest ends 0 (archive_in g old) (archive_in g new) last
         (all_read list text ends (archive_in g old) (archive_in g new) report (goes.1 returned held).1)) safe;
-    stopped = tt;
+    when_stopped = tt;
   }

@@ -33,22 +33,22 @@ use Rattle.archive_import.proofs.WantLemmas.{IsStopWanting, store_want}
 -- they stop more, of which those were the first
 pub stops_more : (list : List ℕ) (items more : List Item) (done : ℕ) (db : Database) → RowsRefuseAnItem list (drop done items) db → RowsRefuseAnItem list (drop done (items ++ more)) db
 stops_more list items more done db it =
-    let low : done ≤ length items = omega (arith, ap length it.are, length-append it.before (it.item ∷ it.rest), length-drop done items) in
+    let low : done ≤ length items = omega (arith, ap length it.items_are, length-append it.items_before (it.item ∷ it.items_after), length-drop done items) in
     record {
-      before = it.before;
+      items_before = it.items_before;
       item = it.item;
-      rest = it.rest ++ more;
-      are = sym (append_assoc it.before (it.item ∷ it.rest) more) ∙ ap (λ is. is ++ more) it.are ∙ sym (drop-append-le done items more low);
-      rows = it.rows;
-      made = it.made;
-      stopped = it.stopped;
+      items_after = it.items_after ++ more;
+      items_are = sym (append_assoc it.items_before (it.item ∷ it.items_after) more) ∙ ap (λ is. is ++ more) it.items_are ∙ sym (drop-append-le done items more low);
+      database = it.database;
+      makes_rows = it.makes_rows;
+      is_refused = it.is_refused;
     }
 
 -- those that are held are the last of all
 stops_amid : (list : List ℕ) (a b : Archive) (items : List Item) (i : IntakeState) → IsUnderWay list a b items i → (k : ℕ) (db : Database)
     → RowsRefuseAnItem list (drop k i.held) db → RowsRefuseAnItem list (drop (i.done + k) items) db
 stops_amid list a b items i w k db it = subst (λ is. RowsRefuseAnItem list is db)
-    (sym (ap (λ n. drop (n + k) items) w.counted ∙ ap (drop (length w.before + k)) w.parts ∙ drop-append-add w.before i.held k)) it
+    (sym (ap (λ n. drop (n + k) items) w.done_is_count ∙ ap (drop (length w.items_before + k)) w.items_are ∙ drop-append-add w.items_before i.held k)) it
 
 module _ {S : Type 0} (g : Ghosts S) where
   -- ---- a stop that is not E15
@@ -62,7 +62,7 @@ module _ {S : Type 0} (g : Ghosts S) where
   -- one message more is held, or cannot be
   pub hold_ends : (old new : Store S) (Stops : Archive → ℕ → Database → Type 0) (done : ℕ) (result : Result (Unit {0}) ImportStop)
       → IfErr result (λ stop. stop ≡ record { done = done; fault = Mbox NoRoom }) → CountsRefusals IsStopWanting old new result → EndsReading g old new result Stops
-  hold_ends old new Stops done (Ok u) told counted = record { caused = tt; counted = counted }
+  hold_ends old new Stops done (Ok u) told counted = record { fault_has_cause = tt; refusals_counted = counted }
   hold_ends old new Stops done (Err stop) told counted = uncut_ends old new Stops done NoRoom stop told counted
 
   -- ---- what is held is not added

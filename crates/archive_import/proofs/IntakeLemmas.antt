@@ -75,13 +75,13 @@ first_longer list items rest done a b it = (
 
 pub full_longer : (list : List ℕ) (items rest : List Item) (done : ℕ) (a : Archive) → IsListFullAt a list items done → IsListFullAt a list (items ++ rest) done
 full_longer list items rest done a it =
-    let low : done ≤ length items = omega (arith, it.within) in
-    let next : done + 1 ≤ length items = omega (arith, it.within) in
+    let low : done ≤ length items = omega (arith, it.at_in_range) in
+    let next : done + 1 ≤ length items = omega (arith, it.at_in_range) in
     let now = sym (take-append-le done items rest low) in
     record {
-      within = omega (arith, it.within, length-append items rest);
-      full = subst (λ is. 50000 ≤ length (messages_in (taken a list is).archive list)) now it.full;
-      refuses = ap (λ is. (taken a list is).replies) (take-append-le (done + 1) items rest next) ∙ it.refuses
+      at_in_range = omega (arith, it.at_in_range, length-append items rest);
+      list_is_full = subst (λ is. 50000 ≤ length (messages_in (taken a list is).archive list)) now it.list_is_full;
+      item_is_refused = ap (λ is. (taken a list is).replies) (take-append-le (done + 1) items rest next) ∙ it.item_is_refused
           ∙ ap (λ is. (taken a list is).replies ++ refused list_full ∷ []) now;
     }
 
@@ -90,78 +90,78 @@ full_longer list items rest done a it =
 module _ (list : List ℕ) (a b : Archive) (items : List Item) (i : IntakeState) (w : IsUnderWay list a b items i) where
   -- how many messages there are
   pub all_counted : length items ≡ i.done + length i.held
-  all_counted = omega (arith, ap length w.parts, length-append w.before i.held, w.counted)
+  all_counted = omega (arith, ap length w.items_are, length-append w.items_before i.held, w.done_is_count)
 
   -- before what is held
   pub first_done : HasAddedFirstItems list items i.done a b
   first_done = (
     omega (arith, all_counted),
     w.archive_is ∙ ap (λ is. (taken a list is).archive)
-        (sym (take-append_seam w.before i.held) ∙ ap (λ n. take n (w.before ++ i.held)) (sym w.counted) ∙ ap (take i.done) (sym w.parts)),
+        (sym (take-append_seam w.items_before i.held) ∙ ap (λ n. take n (w.items_before ++ i.held)) (sym w.done_is_count) ∙ ap (take i.done) (sym w.items_are)),
   )
 
   -- the messages up to a place of what is held
-  first_are : (k : ℕ) → take (i.done + k) items ≡ w.before ++ take k i.held
-  first_are k = ap (λ n. take (n + k) items) w.counted ∙ ap (take (length w.before + k)) w.parts ∙ take-append-add w.before i.held k
+  first_are : (k : ℕ) → take (i.done + k) items ≡ w.items_before ++ take k i.held
+  first_are k = ap (λ n. take (n + k) items) w.done_is_count ∙ ap (take (length w.items_before + k)) w.items_are ∙ take-append-add w.items_before i.held k
 
   first_archive : (k : ℕ) → (taken a list (take (i.done + k) items)).archive ≡ (taken b list (take k i.held)).archive
-  first_archive k = ap (λ is. (taken a list is).archive) (first_are k) ∙ archive_both a list w.before (take k i.held)
+  first_archive k = ap (λ is. (taken a list is).archive) (first_are k) ∙ archive_both a list w.items_before (take k i.held)
       ∙ ap (λ x. (taken x list (take k i.held)).archive) (sym w.archive_is)
 
-  first_replies : (k : ℕ) → (taken a list (take (i.done + k) items)).replies ≡ (taken a list w.before).replies ++ (taken b list (take k i.held)).replies
-  first_replies k = ap (λ is. (taken a list is).replies) (first_are k) ∙ replies_both a list w.before (take k i.held)
-      ∙ ap (λ x. (taken a list w.before).replies ++ (taken x list (take k i.held)).replies) (sym w.archive_is)
+  first_replies : (k : ℕ) → (taken a list (take (i.done + k) items)).replies ≡ (taken a list w.items_before).replies ++ (taken b list (take k i.held)).replies
+  first_replies k = ap (λ is. (taken a list is).replies) (first_are k) ∙ replies_both a list w.items_before (take k i.held)
+      ∙ ap (λ x. (taken a list w.items_before).replies ++ (taken x list (take k i.held)).replies) (sym w.archive_is)
 
   pub some_added : (c : Archive) (k : ℕ) → k ≤ length i.held → c ≡ (taken b list (take k i.held)).archive → HasAddedFirstItems list items (i.done + k) a c
   some_added c k low is = (omega (arith, low, all_counted), is ∙ sym (first_archive k))
 
   pub full_amid : (k : ℕ) → IsListFullAt b list i.held k → IsListFullAt a list items (i.done + k)
   full_amid k it =
-      let before = (taken a list w.before).replies in
+      let before = (taken a list w.items_before).replies in
       record {
-        within = omega (arith, it.within, all_counted);
-        full = subst (λ x. 50000 ≤ length (messages_in x list)) (sym (first_archive k)) it.full;
-        refuses = ap (λ n. (taken a list (take n items)).replies) (omega arith) ∙ first_replies (k + 1) ∙ ap (λ rs. before ++ rs) it.refuses
+        at_in_range = omega (arith, it.at_in_range, all_counted);
+        list_is_full = subst (λ x. 50000 ≤ length (messages_in x list)) (sym (first_archive k)) it.list_is_full;
+        item_is_refused = ap (λ n. (taken a list (take n items)).replies) (omega arith) ∙ first_replies (k + 1) ∙ ap (λ rs. before ++ rs) it.item_is_refused
             ∙ sym (append_assoc before (taken b list (take k i.held)).replies (refused list_full ∷ []))
             ∙ ap (λ rs. rs ++ refused list_full ∷ []) (sym (first_replies k));
       }
 
   pub still_listed : has_list b list ≡ true
-  still_listed = ap (λ x. has_list x list) w.archive_is ∙ still_there a list w.before w.is_there
+  still_listed = ap (λ x. has_list x list) w.archive_is ∙ still_there a list w.items_before w.list_exists
 
   -- all that is held is added
   pub all_added : (c : Archive) (j : IntakeState) (counts : Tally) → c ≡ (taken b list i.held).archive → counts ≡ tally_replies (taken b list i.held).replies
       → j.held ≡ [] → j.done ≡ i.done + length i.held → ReportGrowsBy i.report counts j.report → IsUnderWay list a c items j
   all_added c j counts is are none done more = record {
-    is_there = w.is_there;
-    before = items;
-    parts = sym (ap (λ is. items ++ is) none ∙ append-nil items);
-    counted = done ∙ sym all_counted;
-    archive_is = is ∙ ap (λ x. (taken x list i.held).archive) w.archive_is ∙ sym (archive_both a list w.before i.held) ∙ ap (λ is. (taken a list is).archive) (sym w.parts);
-    told = more ∙ ap (λ t. tally_sum t counts) w.told ∙ ap (tally_sum (tally_replies (taken a list w.before).replies)) are
-        ∙ sym (tally_both (taken a list w.before).replies (taken b list i.held).replies)
-        ∙ ap (λ x. tally_replies ((taken a list w.before).replies ++ (taken x list i.held).replies)) w.archive_is
-        ∙ ap tally_replies (sym (replies_both a list w.before i.held)) ∙ ap (λ is. tally_replies (taken a list is).replies) (sym w.parts);
+    list_exists = w.list_exists;
+    items_before = items;
+    items_are = sym (ap (λ is. items ++ is) none ∙ append-nil items);
+    done_is_count = done ∙ sym all_counted;
+    archive_is = is ∙ ap (λ x. (taken x list i.held).archive) w.archive_is ∙ sym (archive_both a list w.items_before i.held) ∙ ap (λ is. (taken a list is).archive) (sym w.items_are);
+    tally_is = more ∙ ap (λ t. tally_sum t counts) w.tally_is ∙ ap (tally_sum (tally_replies (taken a list w.items_before).replies)) are
+        ∙ sym (tally_both (taken a list w.items_before).replies (taken b list i.held).replies)
+        ∙ ap (λ x. tally_replies ((taken a list w.items_before).replies ++ (taken x list i.held).replies)) w.archive_is
+        ∙ ap tally_replies (sym (replies_both a list w.items_before i.held)) ∙ ap (λ is. tally_replies (taken a list is).replies) (sym w.items_are);
   }
 
   -- one message more is held
   pub one_held : (j : IntakeState) (item : Item) → j ≡ record i { held = i.held ++ item ∷ [] } → IsUnderWay list a b (items ++ item ∷ []) j
   one_held j item is = subst (λ x. IsUnderWay list a b (items ++ item ∷ []) x) (sym is) (record {
-    is_there = w.is_there;
-    before = w.before;
-    parts = ap (λ is. is ++ item ∷ []) w.parts ∙ append_assoc w.before i.held (item ∷ []);
-    counted = w.counted;
+    list_exists = w.list_exists;
+    items_before = w.items_before;
+    items_are = ap (λ is. is ++ item ∷ []) w.items_are ∙ append_assoc w.items_before i.held (item ∷ []);
+    done_is_count = w.done_is_count;
     archive_is = w.archive_is;
-    told = w.told;
+    tally_is = w.tally_is;
   })
 
   -- nothing is held: all is added
   pub none_held : i.held ≡ [] → (i.done ≡ length items) × (b ≡ (taken a list items).archive) × (import_tally_of i.report ≡ tally_replies (taken a list items).replies)
   none_held none =
-      let same : items ≡ w.before = w.parts ∙ ap (λ is. w.before ++ is) none ∙ append-nil w.before in (
-        w.counted ∙ ap length (sym same),
+      let same : items ≡ w.items_before = w.items_are ∙ ap (λ is. w.items_before ++ is) none ∙ append-nil w.items_before in (
+        w.done_is_count ∙ ap length (sym same),
         w.archive_is ∙ ap (λ is. (taken a list is).archive) (sym same),
-        w.told ∙ ap (λ is. tally_replies (taken a list is).replies) (sym same),
+        w.tally_is ∙ ap (λ is. tally_replies (taken a list is).replies) (sym same),
       )
 
   -- there was no message
@@ -181,12 +181,12 @@ no_replies a = refl
 pub under_way_first : (list : List ℕ) (a b : Archive) (i : IntakeState) → has_list a list ≡ true → b ≡ a
     → i ≡ record { held = []; done = 0; report = record { new = 0; known = 0; too_large = 0 } } → IsUnderWay list a b [] i
 under_way_first list a b i there same is = subst (λ x. IsUnderWay list a b [] x) (sym is) (record {
-  is_there = there;
-  before = [];
-  parts = refl;
-  counted = refl;
+  list_exists = there;
+  items_before = [];
+  items_are = refl;
+  done_is_count = refl;
   archive_is = same ∙ run_nothing a;
-  told = sym (no_replies a);
+  tally_is = sym (no_replies a);
 })
 
 -- ---- what may be held

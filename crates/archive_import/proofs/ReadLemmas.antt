@@ -10,7 +10,7 @@ use Rattle.mbox_stream.specs.Stream.{IsBeginning, settled_items, IsSettledPreamb
 use Rattle.mbox_stream.specs.Cutter.{CutterState, taken_and_waiting_items, AreItemsGivenInPhase, IsCutterConsistent, IsReadFault, IsEndFault}
 use Rattle.mbox_stream.specs.declared.cutter.CutterPhase.{CutterPhase}
 use Rattle.mbox_stream.specs.declared.cutter.CutterPhase.TheVariants.{Open, Finished}
-use Rattle.mbox_stream.proofs.StreamLaws.{settled_grow, settled_none, settled_preamble}
+use Rattle.mbox_stream.proofs.StreamLaws.{settled_items_only_grow, no_item_is_settled_before_a_preamble, a_settled_preamble_stays}
 use Rattle.archive_model.specs.Records.{Archive}
 use Rattle.archive_model.specs.Commands.{Refusal}
 use Rattle.archive_model.specs.Questions.{has_list, list_refusal}
@@ -121,10 +121,10 @@ first_of list items all done a b begins it = subst (λ is. HasAddedFirstItems li
 
 pub settled_beginning : (stream text piece : List ℕ) → text ≡ stream ++ piece → IsBeginning (settled_items stream) (settled_items text)
 settled_beginning stream text piece e =
-    let S : List ℕ → Type 0 = λ x. IsBeginning (settled_items stream) (settled_items x) in subst S (sym e) (settled_grow stream piece)
+    let S : List ℕ → Type 0 = λ x. IsBeginning (settled_items stream) (settled_items x) in subst S (sym e) (settled_items_only_grow stream piece)
 
 settled_whole : (text : List ℕ) (offset : ℕ) → IsSettledPreamble text offset → IsPreamble text offset
-settled_whole text offset p = let P : List ℕ → Type 0 = λ x. IsPreamble x offset in subst P (append-nil text) (settled_preamble text [] offset p)
+settled_whole text offset p = let P : List ℕ → Type 0 = λ x. IsPreamble x offset in subst P (append-nil text) (a_settled_preamble_stays text [] offset p)
 
 -- ---- a fault of reading, or of the end
 
@@ -136,9 +136,9 @@ module _ {S : Type 0} (g : Ghosts S) (old new : Store S) (list : List ℕ) (from
   stopped_preamble : (n offset : ℕ) → IsPreamble text offset → IsOffsetUnlessOverflow text n offset → StopsAt (record { done = j.done; fault = Mbox (Preamble n) })
   stopped_preamble n offset p counted =
       let P : List ℕ → Type 0 = λ x. IsPreamble x offset in
-      let none : items ≡ [] = are ∙ settled_none stream piece offset (subst P e p) in
+      let none : items ≡ [] = are ∙ no_item_is_settled_before_a_preamble stream piece offset (subst P e p) in
       goes_in_as g (HoldsTables g) old new (Begun list from items i j) (λ b c. HaltsRead list text ends from i b c (j.done, no_mbox n))
-      (λ b c begun a w. let it = none_there list a c items j (begun a w) none in (it.0, it.1, w.is_there, offset, p, counted)) begun
+      (λ b c begun a w. let it = none_there list a c items j (begun a w) none in (it.0, it.1, w.list_exists, offset, p, counted)) begun
 
   stopped_memory : StopsAt (record { done = j.done; fault = Mbox Memory })
   stopped_memory = goes_in_as g (HoldsTables g) old new (Begun list from items i j) (λ b c. HaltsRead list text ends from i b c (j.done, no_room))
@@ -147,7 +147,7 @@ module _ {S : Type 0} (g : Ghosts S) (old new : Store S) (list : List ℕ) (from
         inl refl,
         first_of list (settled_items stream) (settled_items text) j.done a c (settled_beginning stream text piece e)
             (subst (λ is. HasAddedFirstItems list is j.done a c) are (first_done list a c items j (begun a w))),
-        w.is_there,
+        w.list_exists,
       )) begun
 
   pub memory_stopped : (at : ImportStop) → at ≡ record { done = j.done; fault = Mbox Memory } → StopsAt at
@@ -175,7 +175,7 @@ module _ {S : Type 0} (g : Ghosts S) (old mid new : Store S) (list : List ℕ) (
       → CallsStoreWithTables g old new {A = Unit {0}} halt_reason (Err stop) Nothing (HaltsRead list text ends from i) (BreaksRead list text ends from i)
   waiting_stopped k text ends waiting stop are call = stopped_after g old mid new {A = Unit {0}} {B = Unit {0}} halt_reason (Begun list from items i j) (λ b c _. Grows list j k waiting b c) Nothing
       (Halts list j waiting) (HaltsRead list text ends from i) (Breaks list j waiting) (BreaksRead list text ends from i)
-      (λ b c d why begun halts a w. halted_read list text ends (items ++ waiting) a d why.0 are why.1 w.is_there (halts a items (begun a w)))
+      (λ b c d why begun halts a w. halted_read list text ends (items ++ waiting) a d why.0 are why.1 w.list_exists (halts a items (begun a w)))
       (λ b c d stop begun breaks a w. broken_read list text ends (items ++ waiting) a d stop.done are stop.fault (breaks a items (begun a w)))
       stop begun call
 
@@ -186,7 +186,7 @@ module _ {S : Type 0} (g : Ghosts S) (old mid new : Store S) (list : List ℕ) (
   unread_stopped_read Says' text (Ok done) never are call = absurd never
   unread_stopped_read Says' text (Err stop) never are call = stopped_after g old mid new {A = Unit {0}} {B = Unit {0}} halt_reason (Begun list from items i j) (Never list j) Says'
       (Unreads list j) (HaltsRead list text 0 from i) (BreaksAmid list j) (BreaksRead list text 0 from i)
-      (λ b c d why begun unreads a w. unread_read list text items a d why.0 why.1 are w.is_there (unreads a items (begun a w)))
+      (λ b c d why begun unreads a w. unread_read list text items a d why.0 why.1 are w.list_exists (unreads a items (begun a w)))
       (λ b c d stop begun breaks a w. broken_read list text 0 items a d stop.done (inl are) stop.fault (breaks a items (begun a w)))
       stop begun call
 
@@ -206,12 +206,12 @@ module _ {S : Type 0} (g : Ghosts S) (old mid new : Store S) (list : List ℕ) (
       (λ b c. (a : Archive) → IsUnderWay list a b from i → IsInputImported list text 1 a c k.report)
       (λ b c h a w.
       let it = none_held list a c items k (h.2 a items (h.1 a w)) none in
-      (refl, record { is_there = w.is_there; items = items; divided = divides; added = record { archive_is = it.1; told = it.2 } }))
+      (refl, record { list_exists = w.list_exists; items = items; divides_into_items = divides; adds_all = record { archive_is = it.1; tally_is = it.2 } }))
       (goes_on_in g (HoldsTables g) old mid new (Begun list from items i j) (Keeps list j k) begun keeps)
   last_says text k (Err stop) divides none call = stopped_after g old mid new {A = Unit {0}} {B = Unit {0}} halt_reason (Begun list from items i j) (λ b c _. Keeps list j k b c)
       (λ b c _. (a : Archive) → IsUnderWay list a b from i → IsInputImported list text 1 a c k.report)
       (HaltsAmid list j) (HaltsRead list text 1 from i) (BreaksAmid list j) (BreaksRead list text 1 from i)
-      (λ b c d why begun halts a w. halted_read list text 1 items a d why.0 (inr (refl, divides)) why.1 w.is_there (halts a items (begun a w)))
+      (λ b c d why begun halts a w. halted_read list text 1 items a d why.0 (inr (refl, divides)) why.1 w.list_exists (halts a items (begun a w)))
       (λ b c d stop begun breaks a w. broken_read list text 1 items a d stop.done (inr (refl, divides)) stop.fault (breaks a items (begun a w)))
       stop begun call
 

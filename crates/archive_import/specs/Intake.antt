@@ -41,12 +41,12 @@ ReportGrowsBy before counts after = import_tally_of after ≡ tally_sum (import_
 -- Of the archive `a`, which has the list, `b` is what the messages before those that are held make, and the report counts
 -- the machine's replies to them. With those that are held they are all these messages.
 pub record IsUnderWay (list : List ℕ) (a b : Archive) (items : List Item) (intake : IntakeState) : Type 0 where
-  pub is_there : has_list a list ≡ true
-  pub before : List Item
-  pub parts : items ≡ before ++ intake.held
-  pub counted : intake.done ≡ length before
-  pub archive_is : b ≡ (taken a list before).archive
-  pub told : import_tally_of intake.report ≡ tally_replies (taken a list before).replies
+  pub list_exists : has_list a list ≡ true
+  pub items_before : List Item
+  pub items_are : items ≡ items_before ++ intake.held
+  pub done_is_count : intake.done ≡ length items_before
+  pub archive_is : b ≡ (taken a list items_before).archive
+  pub tally_is : import_tally_of intake.report ≡ tally_replies (taken a list items_before).replies
 
 -- Why messages were added no further than the first `done`: there was no memory, or the list is full.
 abbrev pub IsAddError : (list : List ℕ) → (items : List Item) → (a b : Archive) → (done : ℕ) → HaltReason → Type 0

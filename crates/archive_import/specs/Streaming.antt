@@ -46,16 +46,16 @@ halt_of_refusal no_list = unknown_list
 halt_of_refusal list_full = full
 halt_of_refusal other = declined other
 
-abbrev pub halt_of : ImportError → Option HaltReason
-halt_of (Mbox (Preamble offset)) = Some (no_mbox offset)
-halt_of (Mbox Read) = Some not_read
-halt_of (Mbox Memory) = Some no_room
-halt_of (Mbox Failed) = None
-halt_of (Store fault) = option_map halt_of_refusal (refusal_of_fault fault)
+abbrev pub halt_reason_of : ImportError → Option HaltReason
+halt_reason_of (Mbox (Preamble offset)) = Some (no_mbox offset)
+halt_reason_of (Mbox Read) = Some not_read
+halt_reason_of (Mbox Memory) = Some no_room
+halt_reason_of (Mbox Failed) = None
+halt_reason_of (Store fault) = option_map halt_of_refusal (refusal_of_fault fault)
 
 -- how many messages were done, and why no more were; none where the database was at fault, or had no memory
 abbrev pub halt_reason : ImportStop → Option (ℕ × HaltReason)
-halt_reason stop = option_map (λ halt. (stop.done, halt)) (halt_of stop.fault)
+halt_reason stop = option_map (λ halt. (stop.done, halt)) (halt_reason_of stop.fault)
 
 -- memory was refused: E14, or M3
 abbrev pub IsImportMemoryRefusal : ImportError → Type 0
@@ -117,30 +117,30 @@ IsInputImported list text ends a b report = (ends ≡ 1) × IsImported list text
 
 -- nothing was read
 pub record IsCutterAtStart (cutter : CutterState) : Type 0 where
-  pub empty : cutter ≡ record { stream = []; taken = []; waiting = []; phase = Running }
-  pub given : IsCutterConsistent cutter
+  pub is_empty : cutter ≡ record { stream = []; taken = []; waiting = []; phase = Running }
+  pub is_consistent : IsCutterConsistent cutter
 
 -- all messages that are settled were taken, and it goes on
-pub record IsCutterSettled (cutter : CutterState) : Type 0 where
-  pub goes_on : cutter.phase ≡ Running
-  pub none : cutter.waiting ≡ []
-  pub given : IsCutterConsistent cutter
+pub record IsCutterDrained (cutter : CutterState) : Type 0 where
+  pub phase_is_running : cutter.phase ≡ Running
+  pub none_waiting : cutter.waiting ≡ []
+  pub is_consistent : IsCutterConsistent cutter
 
 -- The messages that waited were taken, where all were held; nothing more was read, and no read failed.
 pub record TakesWaiting {A : Type 0} (old new : CutterState) (result : Result A ImportStop) : Type 0 where
-  pub taken : OnOk result ((new.taken ≡ old.taken ++ old.waiting) × (new.waiting ≡ []))
-  pub stream : new.stream ≡ old.stream
-  pub phase : new.phase ≡ old.phase
-  pub given : IsCutterConsistent new
-  pub kind : IfErr result (λ stop. FaultHasReadFailures stop.fault 0)
+  pub takes_waiting : OnOk result ((new.taken ≡ old.taken ++ old.waiting) × (new.waiting ≡ []))
+  pub stream_is_same : new.stream ≡ old.stream
+  pub phase_is_same : new.phase ≡ old.phase
+  pub is_consistent : IsCutterConsistent new
+  pub no_read_failure : IfErr result (λ stop. FaultHasReadFailures stop.fault 0)
 
 -- This was read of an input, by what it told before and after: after Ok to its end, which was met once, and all that is settled was
 -- taken, and else never; and so many reads failed.
 pub record ReadsInputThroughCutter (before after : List ℕ) (ended ends failed fails : ℕ) (cutter : CutterState) {A : Type 0} (result : Result A ImportStop) : Type 0 where
-  pub told : after ≡ before ++ cutter.stream
-  pub settled : OnOk result (IsCutterSettled cutter)
-  pub end : OnOk result (ends ≡ ended + 1)
-  pub no_end : IfErr result (λ _. ends ≡ ended)
+  pub stream_is_read : after ≡ before ++ cutter.stream
+  pub settles_if_ok : OnOk result (IsCutterDrained cutter)
+  pub ok_means_end : OnOk result (ends ≡ ended + 1)
+  pub err_means_no_end : IfErr result (λ _. ends ≡ ended)
   pub failures : (more : ℕ) × (fails ≡ failed + more) × ResultHasReadFailures result more
 
 -- ---- what becomes of a store
@@ -160,6 +160,6 @@ EndsReading g old new result Stops = EndsImport g old new (HoldsTables g) IsImpo
 pub record CrashImportsInput {S : Type 0} (g : Ghosts S) (old new : Open S) (list text : List ℕ) (ends : ℕ) (result : Result Report ImportStop) : Type 0 where
   -- Within the call: so many first messages of the bytes that the input has. They begin with what was read, and are what was read where the
   -- end was met, as in each run over these bytes. Nothing else is named but the archive before.
-  pub within : (rest : List ℕ) → (ends ≡ 1 → rest ≡ []) → CrashLeavesRelatedArchive g (store_connection old) (store_connection new) (HasAddedReadAtLeast list (text ++ rest) 1 0)
+  pub when_crashed : (rest : List ℕ) → (ends ≡ 1 → rest ≡ []) → CrashLeavesRelatedArchive g (store_connection old) (store_connection new) (HasAddedReadAtLeast list (text ++ rest) 1 0)
   -- once it has stopped: at least those that it told, of what was read
-  pub stopped : IfErr result (λ stop. CrashLeavesRelatedArchive g (store_connection old) (store_connection new) (HasAddedReadAtLeast list text ends stop.done))
+  pub when_stopped : IfErr result (λ stop. CrashLeavesRelatedArchive g (store_connection old) (store_connection new) (HasAddedReadAtLeast list text ends stop.done))

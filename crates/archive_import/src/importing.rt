@@ -16,7 +16,7 @@ ghost use Rattle.archive_desk.specs.Holding.{CallsStoreWithTables};
 ghost use Rattle.archive_desk.specs.Importing.{IsBrokenAdd};
 ghost use Rattle.archive_import.specs.Streaming.{CrashImportsInput, EndsReading, ImportsInput, halt_reason, ResultHasReadFailures};
 ghost use Rattle.archive_import.specs.Streaming.{FaultHasReadFailures, IsCutterAtStart, IsImportError, IsBrokenInputImport, IsInputImported, HasAddedReadAtLeast};
-ghost use Rattle.archive_import.specs.Streaming.{IsCutterSettled, ReadsInputThroughCutter, RowsRefuseReadItem, TakesWaiting};
+ghost use Rattle.archive_import.specs.Streaming.{IsCutterDrained, ReadsInputThroughCutter, RowsRefuseReadItem, TakesWaiting};
 ghost use Rattle.archive_import.specs.Intake.{IsUnderWay, IsAddError, IsErrorAfterFailedRead, IsStoreFault, RowsRefusePending, RowsRefusePendingOrMore, RowsRefusePendingRead, ReportsWithinItems};
 
 use crate::intake::Intake;
@@ -159,7 +159,7 @@ fn add_last<S: Alter>(
     cutter: &mut Cutter,
     intake: &mut Intake,
 ) -> Result<(), ImportStop>
-    requires { IsCutterSettled cutter.old }
+    requires { IsCutterDrained cutter.old }
     ensures adds { CallsStoreWithTables S.Store store.old store.new halt_reason result
         (λ b c _. (a : Archive) → IsUnderWay list.now a b cutter.old.taken intake.old
         → IsInputImported list.now cutter.old.stream 1 a c intake.new.report)

@@ -4,8 +4,8 @@ use Rattle.std.specs.List.{All}
 use Rattle.std.proofs.lemmas.List.Elements.{All-head, All-tail, All-filter, All-map, All-weaker}
 use Rattle.mbox_items.specs.Division.{Item, DividesIntoItems, is_empty_or_ends_in_lf}
 use Rattle.mbox_items.specs.Written.{IsItem, whole_item}
-use Rattle.mbox_core.proofs.DivisionLaws.{one_division}
-use Rattle.mbox_core.proofs.WrittenLaws.{written_is_cut}
+use Rattle.mbox_core.proofs.DivisionLaws.{each_text_has_at_most_one_division}
+use Rattle.mbox_core.proofs.WrittenLaws.{written_messages_are_cut_again}
 use Rattle.archive_model.specs.Records.{Archive, Message}
 use Rattle.archive_model.specs.Questions.{messages_in}
 use Rattle.archive_model.specs.Keys.{key_of}
@@ -22,7 +22,7 @@ pub record IsSoundShown (s : ShownMessage) : Type 0 where
   pub key : s.key ≡ key_of s.item.text
 
 sound_shown : (m : Message) → IsSoundMessage m → IsSoundShown (shown_message m)
-sound_shown m sound = record { complete = sound.complete; item = sound.item; key = sound.key }
+sound_shown m sound = record { complete = sound.ends_with_newline; item = sound.item_is_writable; key = sound.key_is_of_text }
 
 pub all_sound : (archive : Archive) (ask : Ask) → HasSoundMessages archive → All IsSoundShown (shown_view archive ask)
 all_sound archive ask sound =
@@ -59,10 +59,10 @@ all_items : (view : List ShownMessage) → All IsSoundShown view → All IsItem 
 all_items view all = All-map IsItem (λ s. s.item) view (All-weaker IsSoundShown (λ s. IsItem s.item) (λ s sound. sound.item) view all)
 
 divided : (view : List ShownMessage) → All IsSoundShown view → DividesIntoItems (export_text view) (items view)
-divided view all = subst (DividesIntoItems (export_text view)) (all_whole view all) (written_is_cut (items view) (all_items view all))
+divided view all = subst (DividesIntoItems (export_text view)) (all_whole view all) (written_messages_are_cut_again (items view) (all_items view all))
 
 pub mbox_tells_view : (v w : List ShownMessage) → All IsSoundShown v → All IsSoundShown w → export_text v ≡ export_text w → v ≡ w
 mbox_tells_view v w hv hw e =
     from_items v hv
-    ∙ ap (map shown_again) (one_division (export_text w) (items v) (items w) (subst (λ (text : List ℕ). DividesIntoItems text (items v)) e (divided v hv)) (divided w hw))
+    ∙ ap (map shown_again) (each_text_has_at_most_one_division (export_text w) (items v) (items w) (subst (λ (text : List ℕ). DividesIntoItems text (items v)) e (divided v hv)) (divided w hw))
     ∙ sym (from_items w hw)

@@ -94,23 +94,23 @@ shown_to_a_moderator : (seen_of one moderator).shown ≡ shown_message kept ∷ 
 unfolding message_facts ruling_on
 shown_to_a_moderator = refl
 
-told_of_the_shown : (seen_of one None).told first_key ≡ is_shown
+told_of_the_shown : (seen_of one None).visibility first_key ≡ is_shown
 unfolding message_facts ruling_on
 told_of_the_shown = refl
 
 -- that the archive holds the message is told to whoever knows its key, and by which rule it is denied
-told_of_the_withdrawn : (seen_of one None).told second_key ≡ is_denied (codes "withdrawn")
+told_of_the_withdrawn : (seen_of one None).visibility second_key ≡ is_denied (codes "withdrawn")
 unfolding message_facts ruling_on
 told_of_the_withdrawn = refl
 
-told_a_moderator : (seen_of one moderator).told second_key ≡ is_shown
+told_a_moderator : (seen_of one moderator).visibility second_key ≡ is_shown
 unfolding message_facts ruling_on
 told_a_moderator = refl
 
-told_of_another : (seen_of one None).told third_key ≡ is_absent
+told_of_another : (seen_of one None).visibility third_key ≡ is_absent
 told_of_another = refl
 
-told_where_it_never_came : (seen_of without_it None).told second_key ≡ is_absent
+told_where_it_never_came : (seen_of without_it None).visibility second_key ≡ is_absent
 told_where_it_never_came = refl
 
 -- and nothing else of it
@@ -150,7 +150,7 @@ unfolding message_facts ruling_on
 lists_alike = λ i. record {
   shown = shown_message kept ∷ [];
   rows = (seen_of without_it None).rows;
-  told = λ key. told_alike (is_key key) (bytes_eq first_key key) (bytes_eq second_key key) i;
+  visibility = λ key. told_alike (is_key key) (bytes_eq first_key key) (bytes_eq second_key key) i;
 }
 
 -- the public sees the same of both

@@ -95,8 +95,8 @@ pub sent : (token : Option (List ℕ)) → IsAsking token → (path : List ℕ) 
 sent token is path can =
     let all : list_all is_visible (47 ∷ path) ≡ true = rw (slash_visible, can.visible) refl in
     record {
-      rest = [];
-      reads = (
+      after_head = [];
+      reads_head = (
         record {
           method = (omega arith, get_token);
           target = (omega arith, passes is_visible is_uri_byte uri_byte (47 ∷ path) all);
@@ -106,8 +106,8 @@ sent token is path can =
         },
         sym (append-nil (print_request (get_request token (47 ∷ path)))),
       );
-      short = short token is path can.low;
-      few = few token;
+      at_most_8192 = short token is path can.low;
+      at_most_64_fields = few token;
     }
 
 -- ---- the paths of a list and of a message

@@ -45,13 +45,13 @@ use Rattle.archive_laws.proofs.RowsLemmas.{nothing, EachPlaceOnce, rows_are, row
 -- ---- names and tokens
 
 names_alike : (a b : Archive) → IsWellFormedArchive a → IsWellFormedArchive b → lists_page (list_names a) ≡ lists_page (list_names b) → list_names a ≡ list_names b
-names_alike a b ha hb e = page_tells_names (list_names a) (list_names b) (all_in_order a.lists ha.named.lists) (all_in_order b.lists hb.named.lists) e
+names_alike a b ha hb e = page_tells_names (list_names a) (list_names b) (all_in_order a.lists ha.has_valid_names.lists) (all_in_order b.lists hb.has_valid_names.lists) e
 
 lists_alike : (a b : Archive) → list_names a ≡ list_names b → (name : List ℕ) → has_list a name ≡ has_list b name
 lists_alike a b same name =
-    list_any-IsPermutation (λ known. bytes_eq known name) a.lists (list_names a) (are_names a).all
+    list_any-IsPermutation (λ known. bytes_eq known name) a.lists (list_names a) (are_names a).is_permutation
     ∙ ap (list_any (λ known. bytes_eq known name)) same
-    ∙ sym (list_any-IsPermutation (λ known. bytes_eq known name) b.lists (list_names b) (are_names b).all)
+    ∙ sym (list_any-IsPermutation (λ known. bytes_eq known name) b.lists (list_names b) (are_names b).is_permutation)
 
 name_known : (names : List (List ℕ)) → All IsName names → (name : List ℕ) → list_any (λ known. bytes_eq known name) names ≡ true → IsName name
 name_known [] all name h = absurd (true≢false (sym h))
@@ -134,13 +134,13 @@ module _ (each : EachPlaceOnce) (a b : Archive) (ha : IsWellFormedArchive a) (hb
 
     views_alike : Same (mbox name) → view_a ≡ view_b
     views_alike same =
-        mbox_tells_view view_a view_b (all_sound a (of_a name) ha.sound) (all_sound b (of_b name) hb.sound)
+        mbox_tells_view view_a view_b (all_sound a (of_a name) ha.messages_are_sound) (all_sound b (of_b name) hb.messages_are_sound)
         (ap (λ (r : Reply). r.body) (there (mbox_reply (export_text view_a)) (mbox_reply (export_text view_b)) same))
 
     keyed : All (λ (s : ShownMessage). IsLine s.key × (length s.key ≡ 64)) view_a
     keyed = All-weaker IsSoundShown (λ s. IsLine s.key × (length s.key ≡ 64))
         (λ s sound. (subst IsLine (sym sound.key) (key_line s.item.text), ap (λ (k : List ℕ). length k) sound.key ∙ key_length s.item.text))
-        view_a (all_sound a (of_a name) ha.sound)
+        view_a (all_sound a (of_a name) ha.messages_are_sound)
 
     text_of : List ShownMessage → Row → List ℕ
     text_of view r = tree_row name (tree_line (lines_of view) r)
@@ -167,7 +167,7 @@ module _ (each : EachPlaceOnce) (a b : Archive) (ha : IsWellFormedArchive a) (hb
     unfolding text_of
     rows_of_one v w e =
         rows_alike name (name_line name is) view_a keyed
-        (one_place view_a nothing (keys_apart name (is_shown (of_a name) (reader_facts a (of_a name))) a.messages ha.apart.messages))
+        (one_place view_a nothing (keys_apart name (is_shown (of_a name) (reader_facts a (of_a name))) a.messages ha.names_are_unique.messages))
         (depth_limited_rows v view_a) (depth_limited_rows w view_a) (rows_are each v view_a) (rows_are each w view_a) e
 
     threads_alike : view_a ≡ view_b → Same (threads name) → depth_limited_rows merge_a view_a ≡ depth_limited_rows merge_b view_b
@@ -196,7 +196,7 @@ module _ (each : EachPlaceOnce) (a b : Archive) (ha : IsWellFormedArchive a) (hb
     list_alike mails trees keys =
         let same = views_alike mails in
         let rows = threads_alike same trees in
-        λ i. record { shown = same i; rows = rows i; told = λ key. key_alike key (keys key) i }
+        λ i. record { shown = same i; rows = rows i; visibility = λ key. key_alike key (keys key) i }
 
   -- the names of the lists, and each list
   by_alike : (token : Option (List ℕ)) → IsAsking token → AreAnsweredAlike rules day token a b → reader_of a token ≡ Some x → reader_of b token ≡ Some y
@@ -218,7 +218,7 @@ module _ (each : EachPlaceOnce) (a b : Archive) (ha : IsWellFormedArchive a) (hb
 
       listed : (name : List ℕ) → has_list a name ≡ true → visible_list a (of_a name) ≡ visible_list b (of_b name)
       listed name in_a =
-          let is : IsName name = name_known a.lists ha.named.lists name in_a in
+          let is : IsName name = name_known a.lists ha.has_valid_names.lists name in_a in
           list_alike name is in_a (sym (lists_alike a b names name) ∙ in_a)
           (at (codes "l/" ++ (name ++ codes "/mbox")) (mbox name) (path_sendable name is (codes "/mbox") mbox_sendable) (mbox_path name is) (mbox_routed name is))
           (at (codes "l/" ++ (name ++ codes "/threads")) (threads name) (path_sendable name is (codes "/threads") threads_sendable) (threads_path name is) (threads_routed name is))
@@ -260,7 +260,7 @@ module _ (each : EachPlaceOnce) (a b : Archive) (rules : List Rule) (day : ℤ) 
       nobody : (archive : Archive) → IsWellFormedArchive archive → is_token t ≡ false → archive_visible_by_token archive rules day token ≡ None
       nobody archive h other =
           ap (archive_visible_by_token archive rules day) some
-          ∙ ap (λ o. option_map (archive_visible_to archive rules day) (option_map Some (option_map (λ (p : Person). p.name) o))) (nobody_by archive.persons h.named.tokens t other)
+          ∙ ap (λ o. option_map (archive_visible_to archive rules day) (option_map Some (option_map (λ (p : Person). p.name) o))) (nobody_by archive.persons h.has_valid_names.tokens t other)
 
       by : (v : Bool) → is_token t ≡ v → archive_visible_by_token a rules day token ≡ archive_visible_by_token b rules day token
       by true e = by_readers (subst IsAsking (sym some) e) alike (reader_of a token) (reader_of b token) refl refl
@@ -283,8 +283,8 @@ none_alike name = λ i j d before within. absurd (omega (arith, within))
 
 pub empty_in_order : IsWellFormedArchive empty_archive
 empty_in_order = record {
-  sound = All-nil IsSoundMessage;
-  apart = record {
+  messages_are_sound = All-nil IsSoundMessage;
+  names_are_unique = record {
     lists = none_alike (λ (list : List ℕ). list);
     persons = none_alike (λ (p : Person). p.name);
     tokens = none_alike (λ (p : Person). p.token);
@@ -292,7 +292,7 @@ empty_in_order = record {
     messages = none_alike message_identity;
     addresses = none_alike (λ (a : Address). a.person);
   };
-  named = record {
+  has_valid_names = record {
     lists = All-nil IsName;
     persons = All-nil (λ (p : Person). is_name p.name ≡ true);
     tokens = All-nil HasToken;

@@ -31,7 +31,7 @@ pub data KeyVisibility : Type 0 where
 pub record VisibleList : Type 0 where
   pub shown : List ShownMessage
   pub rows : List Row
-  pub told : (key : List ℕ) → KeyVisibility
+  pub visibility : (key : List ℕ) → KeyVisibility
 
 -- The names of the lists, in the order of their bytes, and what is seen of each of them.
 pub record VisibleArchive : Type 0 where
@@ -60,7 +60,7 @@ abbrev pub visible_list : Archive → Ask → VisibleList
 visible_list archive ask = record {
   shown = shown_view archive ask;
   rows = depth_limited_rows (merge_of archive ask.list) (shown_view archive ask);
-  told = visibility_of_key archive ask;
+  visibility = visibility_of_key archive ask;
 }
 
 abbrev pub archive_visible_to : Archive → List Rule → ℤ → (reader : Option (List ℕ)) → VisibleArchive
@@ -107,7 +107,7 @@ thread_reply_from list key s = option_map_or (λ range. page_reply (thread_page 
 
 abbrev pub list_reply_from : Route → VisibleList → Reply
 list_reply_from lists s = not_found
-list_reply_from (message list key) s = reply_by_visibility key s.shown (s.told key)
+list_reply_from (message list key) s = reply_by_visibility key s.shown (s.visibility key)
 list_reply_from (month list text) s = month_reply list text s.shown
 list_reply_from (threads list) s = page_reply (threads_page list (tree_lines_of_rows s s.rows))
 list_reply_from (thread list key) s = thread_reply_from list key s

@@ -24,9 +24,9 @@ get_request token path =
 
 -- An archive such as commands make: its messages are sound, nothing has another's name, and names and tokens are such.
 pub record IsWellFormedArchive (archive : Archive) : Type 0 where
-  pub sound : HasSoundMessages archive
-  pub apart : HasUniqueNames archive
-  pub named : HasValidNamesAndTokens archive
+  pub messages_are_sound : HasSoundMessages archive
+  pub names_are_unique : HasUniqueNames archive
+  pub has_valid_names : HasValidNamesAndTokens archive
 
 -- every request by this token, or without one, has the same reply, where its head is read: it has at most 8,192 bytes and 64 fields
 abbrev pub AreAnsweredAlike : List Rule → ℤ → (token : Option (List ℕ)) → (a b : Archive) → Type 0

@@ -14,19 +14,19 @@ use thread_core::laws::each_place_stands_in_one_row;
 
 /// The reply to a request is a function of what its reader sees: nothing else of an archive turns up in any reply.
 #[tactic(auto, using(crate::proofs::SeenLemmas::of_what_is_seen))]
-pub fn replies_are_of_what_is_seen()
+pub fn replies_depend_on_visible_only()
     ensures { RepliesDependOnVisibleOnly }
 {}
 
 /// All that is seen can be asked for: two archives in order answer every request by one token alike exactly where the same is seen
 /// of them by it. The empty archive is in order, and one in order stays so, whatever is commanded.
-pub fn all_that_is_seen_is_told()
+pub fn replies_reveal_all_visible()
     ensures exactly { RepliesRevealAllVisible }
     ensures empty { IsWellFormedArchive empty_archive }
     ensures commands { (archive : Archive) (commands : List Command) → All AddsWritableItem commands → IsWellFormedArchive archive → IsWellFormedArchive (run archive commands).archive }
 {
-    each_place_stands_in_one_row();
+    each_message_is_in_one_row();
     commands_keep_soundness();
     names_stay_unique();
-    names_and_tokens_are_such();
+    names_and_tokens_stay_valid();
 }

@@ -35,45 +35,45 @@ module _ {St : Type 0} (answers : St → St → ConnectionTranscript → Connect
   one_answered : (outcome : ConnectionResult) (before after : ServerState LoopbackState St) → ServesOneConnection answers CallsAcceptOnce ClosesConnection outcome before after
       → AccountsForAcceptCalls before.listener after.listener
   one_answered outcome before after (inl takes) =
-      let given = given_one takes.accepted.answer before.listener takes.listening takes.accepted.asked takes.accepted.given in
+      let given = given_one takes.accepts_peer.answer before.listener takes.listening takes.accepts_peer.state_is_after_call takes.accepts_peer.fault_is_of_answer in
       let more : length after.listener.exchanges ≡ length takes.listening.exchanges + 1 =
-      ap (λ (l : List Exchange). length l) (close_adds_one_exchange takes.listening after.listener _ _ takes.closed) ∙ length-append takes.listening.exchanges (_ ∷ []) in
-      let times = ap (λ (l : LoopbackState). l.asked.times) takes.closed.noted in
-      let errors = ap (λ (l : LoopbackState). length l.asked.errors) takes.closed.noted in
+      ap (λ (l : List Exchange). length l) (close_adds_one_exchange takes.listening after.listener _ _ takes.closes_exchange) ∙ length-append takes.listening.exchanges (_ ∷ []) in
+      let times = ap (λ (l : LoopbackState). l.asked.times) takes.closes_exchange.exchange_is_added in
+      let errors = ap (λ (l : LoopbackState). length l.asked.errors) takes.closes_exchange.exchange_is_added in
       let before_it = ap (λ (l : List Exchange). length l) given.2 in
       record {
-        answered = 1;
-        errors = 0;
-        asked = omega (arith, times, given.0);
-        written = omega (arith, more, before_it);
-        refused = omega (arith, errors, given.1);
+        answer_count = 1;
+        error_count = 0;
+        calls_are_counted = omega (arith, times, given.0);
+        exchanges_are_counted = omega (arith, more, before_it);
+        errors_are_counted = omega (arith, errors, given.1);
       }
   one_answered outcome before after (inr misses) =
-      let missed = missed_one misses.missed.answer before.listener after.listener misses.missed.asked misses.missed.given in
+      let missed = missed_one misses.accepts_no_peer.answer before.listener after.listener misses.accepts_no_peer.state_is_after_call misses.accepts_no_peer.fault_is_of_answer in
       let same = ap (λ (l : List Exchange). length l) missed.2 in
       record {
-        answered = 0;
-        errors = 1;
-        asked = omega (arith, missed.0);
-        written = omega (arith, same);
-        refused = omega (arith, missed.1);
+        answer_count = 0;
+        error_count = 1;
+        calls_are_counted = omega (arith, missed.0);
+        exchanges_are_counted = omega (arith, same);
+        errors_are_counted = omega (arith, missed.1);
       }
 
   pub each_answered : EachAcceptedIsAnswered answers
   each_answered [] first last same = record {
-    answered = 0;
-    errors = 0;
-    asked = omega (arith, ap (λ (s : ServerState LoopbackState St). s.listener.asked.times) same);
-    written = omega (arith, ap (λ (s : ServerState LoopbackState St). length s.listener.exchanges) same);
-    refused = omega (arith, ap (λ (s : ServerState LoopbackState St). length s.listener.asked.errors) same);
+    answer_count = 0;
+    error_count = 0;
+    calls_are_counted = omega (arith, ap (λ (s : ServerState LoopbackState St). s.listener.asked.times) same);
+    exchanges_are_counted = omega (arith, ap (λ (s : ServerState LoopbackState St). length s.listener.exchanges) same);
+    errors_are_counted = omega (arith, ap (λ (s : ServerState LoopbackState St). length s.listener.asked.errors) same);
   }
   each_answered (outcome ∷ outcomes) first last (between, one, rest) =
       let here = one_answered outcome first between one in
       let there = each_answered outcomes between last rest in
       record {
-        answered = here.answered + there.answered;
-        errors = here.errors + there.errors;
-        asked = omega (arith, here.asked, there.asked);
-        written = omega (arith, here.written, there.written);
-        refused = omega (arith, here.refused, there.refused);
+        answer_count = here.answer_count + there.answer_count;
+        error_count = here.error_count + there.error_count;
+        calls_are_counted = omega (arith, here.calls_are_counted, there.calls_are_counted);
+        exchanges_are_counted = omega (arith, here.exchanges_are_counted, there.exchanges_are_counted);
+        errors_are_counted = omega (arith, here.errors_are_counted, there.errors_are_counted);
       }

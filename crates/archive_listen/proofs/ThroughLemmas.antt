@@ -20,8 +20,8 @@ module _ {Whole Part L : Type 0} (whole : Whole → Whole → ConnectionTranscri
     had_one : (outcome : ConnectionResult) (before after : ServerState L Whole) → ServesOneConnection whole accepts closes outcome before after
         → Had after.state → Had before.state
     had_one outcome before after (inl takes) had =
-        let a = takes.answered in back before.state after.state empty_transcript a.told a.answer a.answered had
-    had_one outcome before after (inr misses) had = subst Had misses.unanswered had
+        let a = takes.is_answered in back before.state after.state empty_transcript a.transcript a.answer a.is_answered had
+    had_one outcome before after (inr misses) had = subst Had misses.state_is_same had
 
     had_each : (outcomes : List ConnectionResult) (before after : ServerState L Whole) → ServesEachConnection whole accepts closes outcomes before after
         → Had after.state → Had before.state
@@ -33,12 +33,12 @@ module _ {Whole Part L : Type 0} (whole : Whole → Whole → ConnectionTranscri
         → ServesOneConnection whole accepts closes outcome before after
         → ServesOneConnection some accepts closes outcome (part_of before) (part_of after) × Holds after.state
     one_through outcome before after had holds (inl takes) =
-        let a = takes.answered in
-        let it = step before.state after.state empty_transcript a.told a.answer had holds a.answered in (
+        let a = takes.is_answered in
+        let it = step before.state after.state empty_transcript a.transcript a.answer had holds a.is_answered in (
           inl (record {
             listening = takes.listening;
-            accepted = takes.accepted;
-            told = takes.told;
+            accepts_peer = takes.accepts_peer;
+            transcript = takes.transcript;
             sent = takes.sent;
             answered = record { told = a.told; answer = a.answer; answered = it.0; read = a.read; written = a.written; reached = a.reached };
             closed = takes.closed;
@@ -46,8 +46,8 @@ module _ {Whole Part L : Type 0} (whole : Whole → Whole → ConnectionTranscri
           it.1,
         )
     one_through outcome before after had holds (inr misses) = (
-      inr (record { missed = misses.missed; unread = misses.unread; unanswered = ap part misses.unanswered }),
-      subst Holds (sym misses.unanswered) holds,
+      inr (record { accepts_no_peer = misses.accepts_no_peer; read_failed = misses.read_failed; state_is_same = ap part misses.state_is_same }),
+      subst Holds (sym misses.state_is_same) holds,
     )
 
     -- where `Had` holds at last and `Holds` at first, the whole run is one over the part, and `Holds` at last

@@ -15,13 +15,13 @@ begun_more (Some at) between last first second = subst (λ (s : Option Instant).
 
 -- none
 pub waits_none : (whole : ℕ) (state : TimedStreamState) → WaitsWithin whole state state
-waits_none whole state = record { begun = begun_none state.since; noted = omega arith; within = omega arith }
+waits_none whole state = record { begin_is_kept = begun_none state.since; latest_never_falls = omega arith; latest_is_bounded = omega arith }
 
 -- and more of them
 pub waits_more : (whole : ℕ) (first between last : TimedStreamState) → WaitsWithin whole first between → WaitsWithin whole between last
     → WaitsWithin whole first last
 waits_more whole first between last before after = record {
-  begun = begun_more first.since between last before.begun after.begun;
-  noted = omega (arith, before.noted, after.noted);
-  within = omega (arith, before.within, after.within);
+  begin_is_kept = begun_more first.since between last before.begin_is_kept after.begin_is_kept;
+  latest_never_falls = omega (arith, before.latest_never_falls, after.latest_never_falls);
+  latest_is_bounded = omega (arith, before.latest_is_bounded, after.latest_is_bounded);
 }

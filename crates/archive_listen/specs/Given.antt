@@ -7,11 +7,11 @@ use Rattle.archive_listen.specs.Sockets.{CallsAcceptOnce, ClosesConnection, Loop
 -- Each time that a listener asked the system between these states, it was given a connection, whose exchange it wrote down when it took it back, or
 -- an error.
 pub record AccountsForAcceptCalls (before after : LoopbackState) : Type 0 where
-  pub answered : ℕ
-  pub errors : ℕ
-  pub asked : after.asked.times ≡ before.asked.times + answered + errors
-  pub written : length after.exchanges ≡ length before.exchanges + answered
-  pub refused : length after.asked.errors ≡ length before.asked.errors + errors
+  pub answer_count : ℕ
+  pub error_count : ℕ
+  pub calls_are_counted : after.asked.times ≡ before.asked.times + answer_count + error_count
+  pub exchanges_are_counted : length after.exchanges ≡ length before.exchanges + answer_count
+  pub errors_are_counted : length after.asked.errors ≡ length before.asked.errors + error_count
 
 -- so it is in each run of connections, whatever answers them: no connection that the system gave is dropped unanswered
 abbrev pub EachAcceptedIsAnswered : {St : Type 0} → (answers : St → St → ConnectionTranscript → ConnectionTranscript → ConnectionResult → Type 0) → Type 0

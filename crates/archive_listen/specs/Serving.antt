@@ -33,29 +33,29 @@ service_answer_law answers old new before after outcome = answers old.service ne
 module _ {St : Type 0} (answers : St → St → ConnectionTranscript → ConnectionTranscript → ConnectionResult → Type 0) where
   -- One answer on a connection, and what the peer got of it.
   pub record AnswersConnection (old new : St) (before after : ConnectionTranscript) (sent : List ℕ) (outcome : ConnectionResult) : Type 0 where
-    pub told : ConnectionTranscript
+    pub transcript : ConnectionTranscript
     pub answer : ConnectionResult
-    pub answered : answers old new before told answer
-    pub read : after.read ≡ told.read
-    pub written : after.written ≡ told.written
-    pub reached : ClientReceives answer outcome told.written (told.write_failures < after.write_failures) sent
+    pub is_answered : answers old new before transcript answer
+    pub read_is_transcript : after.read ≡ transcript.read
+    pub written_is_transcript : after.written ≡ transcript.written
+    pub client_receives : ClientReceives answer outcome transcript.written (transcript.write_failures < after.write_failures) sent
 
   -- `accepts` and `closes` are what a listener says of a connection that it gives, or does not, and of one that it takes back.
   module _ {L : Type 0} (accepts : L → L → Option AcceptError → Type 0) (closes : L → L → Exchange → Bool → Type 0) where
     -- A connection was taken, answered once, and given back.
     pub record AcceptsAndAnswers (before after : ServerState L St) (outcome : ConnectionResult) : Type 0 where
       pub listening : L
-      pub accepted : accepts before.listener listening None
-      pub told : ConnectionTranscript
+      pub accepts_peer : accepts before.listener listening None
+      pub transcript : ConnectionTranscript
       pub sent : List ℕ
-      pub answered : AnswersConnection before.state after.state empty_transcript told sent outcome
-      pub closed : closes listening after.listener (record { read = told.read; sent = sent }) (is_reply_incomplete outcome)
+      pub is_answered : AnswersConnection before.state after.state empty_transcript transcript sent outcome
+      pub closes_exchange : closes listening after.listener (record { read = transcript.read; sent = sent }) (is_reply_incomplete outcome)
 
     -- Its peer was gone before it was taken: nothing was read, which is S1, and nothing was answered.
     pub record FindsClientGone (before after : ServerState L St) (outcome : ConnectionResult) : Type 0 where
-      pub missed : accepts before.listener after.listener (Some Peer)
-      pub unread : outcome ≡ Err Read
-      pub unanswered : after.state ≡ before.state
+      pub accepts_no_peer : accepts before.listener after.listener (Some Peer)
+      pub read_failed : outcome ≡ Err Read
+      pub state_is_same : after.state ≡ before.state
 
     abbrev pub ServesOneConnection : ConnectionResult → (before after : ServerState L St) → Type 0
     ServesOneConnection outcome before after = AcceptsAndAnswers before after outcome ⊎ FindsClientGone before after outcome
@@ -69,8 +69,8 @@ module _ {St : Type 0} (answers : St → St → ConnectionTranscript → Connect
     module _ (first : ServerState L St) (before after : ErrorStreamState) where
       -- A run of connections: each in its turn, with how it ended, and each fault told.
       pub record ServesAndReportsErrors (outcomes : List ConnectionResult) (last : ServerState L St) : Type 0 where
-        pub each : ServesEachConnection outcomes first last
-        pub told : WritesOutcomeLines outcomes before after
+        pub serves_each : ServesEachConnection outcomes first last
+        pub reports_outcomes : WritesOutcomeLines outcomes before after
 
       -- as many connections as were wanted
       abbrev pub ServesAllConnections : (count : ℕ) → (last : ServerState L St) → Type 0

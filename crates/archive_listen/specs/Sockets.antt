@@ -49,9 +49,9 @@ IsLocalhost (V6 ip) = ⊥
 
 -- An address that was had is the one that was asked for; but the system picks a port where port 0 was. No port that is had is 0.
 pub record IsBoundAddress (asked had : SocketAddr) : Type 0 where
-  pub ip : socket_ip had ≡ socket_ip asked
-  pub port : (socket_port asked ≡ 0) ⊎ (socket_port had ≡ socket_port asked)
-  pub some : 0 < socket_port had
+  pub ip_is_asked : socket_ip had ≡ socket_ip asked
+  pub port_is_asked : (socket_port asked ≡ 0) ⊎ (socket_port had ≡ socket_port asked)
+  pub port_is_positive : 0 < socket_port had
 
 -- What listens: its address, as the system tells it, what went over the connections that it took back, in their order, and what it asked the
 -- system for. How many it ended in order, and how long it could wait for the peer of the last one.
@@ -65,10 +65,10 @@ pub record LoopbackState : Type 0 where
 -- It listens on 127.0.0.1 alone, on the port that was asked for, or on one that the system picked where port 0 was. It took no
 -- connection back yet.
 pub record ListensOnLoopback (asked : ℕ) (loopback : LoopbackState) : Type 0 where
-  pub local : IsLocalhost (socket_ip loopback.address)
-  pub port : (asked ≡ 0) ⊎ (socket_port loopback.address ≡ asked)
-  pub some : 0 < socket_port loopback.address
-  pub fresh : loopback.exchanges ≡ []
+  pub is_localhost : IsLocalhost (socket_ip loopback.address)
+  pub port_is_asked : (asked ≡ 0) ⊎ (socket_port loopback.address ≡ asked)
+  pub port_is_positive : 0 < socket_port loopback.address
+  pub no_exchange_yet : loopback.exchanges ≡ []
 
 -- it does, and the port that is told is the one that it listens on
 pub record ListensOnReportedPort (asked : ℕ) (listening : BoundListener LoopbackState) : Type 0 where
@@ -78,12 +78,12 @@ pub record ListensOnReportedPort (asked : ℕ) (listening : BoundListener Loopba
 -- It asked the system once. It gives the connection that the system gave, or none, for what the error of the system stands for.
 pub record CallsAcceptOnce (before after : LoopbackState) (fault : Option AcceptError) : Type 0 where
   pub answer : Result Instant ErrorKind
-  pub asked : after ≡ record before { asked = after_accept_call answer before.asked }
-  pub given : fault ≡ accept_error_of_result answer
+  pub state_is_after_call : after ≡ record before { asked = after_accept_call answer before.asked }
+  pub fault_is_of_answer : fault ≡ accept_error_of_result answer
 
 -- what stood written down stands
 pub accept_keeps_exchanges : (before after : LoopbackState) (fault : Option AcceptError) → CallsAcceptOnce before after fault → after.exchanges ≡ before.exchanges
-accept_keeps_exchanges before after fault accepted = ap (λ (l : LoopbackState). l.exchanges) accepted.asked
+accept_keeps_exchanges before after fault accepted = ap (λ (l : LoopbackState). l.exchanges) accepted.state_is_after_call
 
 -- one more that is ended in order, unless its reply broke off
 abbrev pub graceful_closes_after : (broke_off : Bool) → ℕ → ℕ
@@ -98,19 +98,19 @@ reply_seconds written = 30 + written / 1_000_000
 -- How long a peer is waited for at most that was sent so many bytes: ten seconds for its head, the time of its reply, and a second for what it
 -- sends past its head.
 pub record IsWithinTimeLimits (sent : ℕ) (waited : Waited) : Type 0 where
-  pub head : as_nanos waited.head ≤ 10 * 1_000_000_000
-  pub reply : as_nanos waited.reply ≤ reply_seconds sent * 1_000_000_000
-  pub rest : as_nanos waited.rest ≤ 1_000_000_000
+  pub head_in_time : as_nanos waited.head ≤ 10 * 1_000_000_000
+  pub reply_in_time : as_nanos waited.reply ≤ reply_seconds sent * 1_000_000_000
+  pub drain_in_time : as_nanos waited.rest ≤ 1_000_000_000
 
 -- It takes a connection back: what went over it is written down, it is ended in order unless its reply broke off, and its peer was waited for
 -- within its times.
 pub record ClosesConnection (before after : LoopbackState) (over : Exchange) (broke_off : Bool) : Type 0 where
-  pub noted : after ≡ record before { exchanges = before.exchanges ++ over ∷ []; ended = graceful_closes_after broke_off before.ended; waited = after.waited }
-  pub waited : IsWithinTimeLimits (length over.sent) after.waited
+  pub exchange_is_added : after ≡ record before { exchanges = before.exchanges ++ over ∷ []; ended = graceful_closes_after broke_off before.ended; waited = after.waited }
+  pub in_time_limits : IsWithinTimeLimits (length over.sent) after.waited
 
 pub close_adds_one_exchange : (before after : LoopbackState) (over : Exchange) (broke_off : Bool) → ClosesConnection before after over broke_off
     → after.exchanges ≡ before.exchanges ++ over ∷ []
-close_adds_one_exchange before after over broke_off closed = ap (λ (l : LoopbackState). l.exchanges) closed.noted
+close_adds_one_exchange before after over broke_off closed = ap (λ (l : LoopbackState). l.exchanges) closed.exchange_is_added
 
 -- ---- how long a peer is waited for
 
@@ -121,10 +121,10 @@ wait_seconds true = 5
 
 -- The time that the next bytes of a request may take, which is not past ten seconds of the whole head (profile).
 pub record IsHeadTimeLimit (begun : Bool) (span : Span) : Type 0 where
-  pub most : as_nanos span.most ≡ wait_seconds begun * 1_000_000_000
-  pub whole : as_nanos span.whole ≡ 10 * 1_000_000_000
+  pub each_wait_limit : as_nanos span.most ≡ wait_seconds begun * 1_000_000_000
+  pub whole_limit : as_nanos span.whole ≡ 10 * 1_000_000_000
 
 -- The time that the next write of a reply may take, thirty seconds, which is not past the time of the whole reply.
 pub record IsReplyTimeLimit (written : ℕ) (span : Span) : Type 0 where
-  pub most : as_nanos span.most ≡ 30 * 1_000_000_000
-  pub whole : as_nanos span.whole ≡ reply_seconds written * 1_000_000_000
+  pub each_wait_limit : as_nanos span.most ≡ 30 * 1_000_000_000
+  pub whole_limit : as_nanos span.whole ≡ reply_seconds written * 1_000_000_000

@@ -5,6 +5,6 @@ ghost use Rattle.archive_listen.specs.Serving.{service_answer_law};
 use crate::connections::Service;
 
 /// Each connection that the system gives a `Loopback` is answered and taken back, in any run of any service.
-pub fn each_connection_that_is_given_is_answered<St, V: Service<St>>()
+pub fn each_accepted_connection_is_answered<St, V: Service<St>>()
     ensures { EachAcceptedIsAnswered (service_answer_law V.answers) }
 {}

@@ -36,7 +36,7 @@ in_order = refl
 
 -- a text that does not end in LF
 cut_off : (list key : List ℕ) (month : ℤ) → ¬ IsSoundlyIndexed (under month (message list key (codes "hello")))
-cut_off list key month sound = absurd (let cut = sound.message.complete in cc)
+cut_off list key month sound = absurd (let cut = sound.message_is_sound.ends_with_newline in cc)
 
 -- one that is filed under an author whom its text does not name
 its_author : (list key : List ℕ) → (message_index_columns (message list key (codes "\n"))).author ≡ []
@@ -44,7 +44,7 @@ unfolding fields_of header_blocks lines content is_empty_line
 its_author list key = refl
 
 of_another : (list key : List ℕ) → ¬ IsSoundlyIndexed (message list key (codes "\n"), record { sent = pos 0; month = pos 23640; author = codes "x" })
-of_another list key sound = not_same (ap (λ (f : IndexColumns). f.author) sound.filing ∙ its_author list key)
+of_another list key sound = not_same (ap (λ (f : IndexColumns). f.author) sound.columns_are_of_text ∙ its_author list key)
   where
     not_same : codes "x" ≡ [] → ⊥
     not_same e = absurd cc
@@ -60,12 +60,12 @@ of_two : IsFirstDamaged (record {
   addresses = [];
 }) (codes "a") (codes "2")
 of_two = record {
-  before = [];
-  it = under (pos 0) (message (codes "a") (codes "2") (codes "hello"));
-  after = under (pos 0) (message (codes "soc") (codes "1") (codes "hello")) ∷ [];
-  place = refl;
-  sound = All-nil IsSoundlyIndexed;
-  damaged = cut_off (codes "a") (codes "2") (pos 0);
+  messages_before = [];
+  damaged_message = under (pos 0) (message (codes "a") (codes "2") (codes "hello"));
+  messages_after = under (pos 0) (message (codes "soc") (codes "1") (codes "hello")) ∷ [];
+  messages_are = refl;
+  sound_before = All-nil IsSoundlyIndexed;
+  is_damaged = cut_off (codes "a") (codes "2") (pos 0);
   list_matches = refl;
   key_matches = refl;
 }

@@ -7,7 +7,7 @@ use Rattle.archive_model.specs.Commands.{Command, list_add, person_add, withdraw
 use Rattle.archive_model.specs.Machine.{default_list_option, step}
 use Rattle.archive_model.specs.Questions.{merge_of, address_of, message_of}
 use Rattle.archive_model.specs.Runs.{run}
-use Rattle.archive_model.specs.Lasting.{NoCommandSatisfies, sets_merge, sets_address, ends_withdrawal, sets_embargo}
+use Rattle.archive_model.specs.Lasting.{NoCommandSatisfies, changes_merge, changes_address, ends_withdrawal, changes_embargo}
 use Rattle.archive_model.specs.Lasting.{HoldsForMessageAtKey, is_unknown_to_version_one, is_address_set, IsVersionOneArchive, IsVersionTwoArchive}
 use Rattle.archive_model.proofs.LastingLemmas.{merged, merge_stays, at_first, addressed, address_stays, withdrawn_stays, embargo_stays, of_first, of_second}
 
@@ -58,9 +58,9 @@ of_others = merge_set (codes "news") false ∷ list_add soc ∷ address_set anna
 stays_chosen : merge_of (run (step archive (merge_set soc false)).0 of_others).archive soc ≡ false
 stays_chosen =
     merge_stays (step archive (merge_set soc false)).0 soc of_others
-    (none_of (sets_merge soc) (merge_set (codes "news") false) (list_add soc ∷ address_set anna (codes "Anna@Example.org") ∷ []) refl
-    (none_of (sets_merge soc) (list_add soc) (address_set anna (codes "Anna@Example.org") ∷ []) refl
-    (none_of (sets_merge soc) (address_set anna (codes "Anna@Example.org")) [] refl (nothing (sets_merge soc)))))
+    (none_of (changes_merge soc) (merge_set (codes "news") false) (list_add soc ∷ address_set anna (codes "Anna@Example.org") ∷ []) refl
+    (none_of (changes_merge soc) (list_add soc) (address_set anna (codes "Anna@Example.org") ∷ []) refl
+    (none_of (changes_merge soc) (address_set anna (codes "Anna@Example.org")) [] refl (nothing (changes_merge soc)))))
 
 comes_gathered : merge_of (step archive (list_add (codes "b"))).0 (codes "b") ≡ true
 comes_gathered = at_first archive (codes "b") refl refl
@@ -72,7 +72,7 @@ given = addressed archive anna (codes "Anna@Example.org") refl
 stays_given : address_of (run (step archive (address_set anna (codes "a@b"))).0 (address_set (codes "bob") (codes "c@d") ∷ [])).archive anna ≡ Some (codes "a@b")
 stays_given =
     address_stays (step archive (address_set anna (codes "a@b"))).0 anna (address_set (codes "bob") (codes "c@d") ∷ [])
-    (none_of (sets_address anna) (address_set (codes "bob") (codes "c@d")) [] refl (nothing (sets_address anna)))
+    (none_of (changes_address anna) (address_set (codes "bob") (codes "c@d")) [] refl (nothing (changes_address anna)))
 
 -- ---- messages
 
@@ -96,7 +96,7 @@ is_the_message = refl
 stays_held_back : HoldsForMessageAtKey (run (step archive (embargo soc (codes "k1") (pos 12143))).0 (lift soc (codes "k2") ∷ [])).archive soc (codes "k1") (λ m. m.embargo ≡ Some (pos 12143))
 stays_held_back =
     embargo_stays archive soc (codes "k1") (pos 12143) (lift soc (codes "k2") ∷ []) refl
-    (none_of (sets_embargo soc (codes "k1")) (lift soc (codes "k2")) [] refl (nothing (sets_embargo soc (codes "k1"))))
+    (none_of (changes_embargo soc (codes "k1")) (lift soc (codes "k2")) [] refl (nothing (changes_embargo soc (codes "k1"))))
 
 -- ---- files of older versions
 

@@ -22,7 +22,7 @@ use Rattle.archive_model.specs.Machine.{StepOutcome, refuse, default_list_option
 use Rattle.archive_model.specs.Machine.{new_message, with_message, change_at_key, with_changed_message, with_withdrawal, with_embargo, step}
 use Rattle.archive_model.specs.Runs.{run}
 use Rattle.archive_model.specs.Sound.{HasOneOptionPerList}
-use Rattle.archive_model.specs.Lasting.{NoCommandSatisfies, sets_merge, sets_address, ends_withdrawal, sets_embargo}
+use Rattle.archive_model.specs.Lasting.{NoCommandSatisfies, changes_merge, changes_address, ends_withdrawal, changes_embargo}
 use Rattle.archive_model.specs.Lasting.{HoldsForMessageAtKey, is_address_set, is_unknown_to_version_one, IsVersionOneArchive, IsVersionTwoArchive}
 use Rattle.archive_model.proofs.RunLemmas.{EachCommandKeeps, run_keeps}
 
@@ -117,7 +117,7 @@ merged a list merge each there =
     ap (λ (b : Archive). merge_of b list) (merge_left a list merge there)
     ∙ of_its_list list merge a.options (ap (list_any (is_list list)) each ∙ there)
 
-pub merge_kept : (list : List ℕ) (merge : Bool) → EachCommandKeeps (λ a. merge_of a list ≡ merge) (λ c. sets_merge list c ≡ false)
+pub merge_kept : (list : List ℕ) (merge : Bool) → EachCommandKeeps (λ a. merge_of a list ≡ merge) (λ c. changes_merge list c ≡ false)
 merge_kept list merge = record {
   lists = λ a name q named new is. with_another list name a.options ∙ is;
   persons = λ a name token q named known new free is. is;
@@ -132,9 +132,9 @@ merge_kept list merge = record {
   addresses = λ a person address q known is. is;
 }
 
-pub merge_stays : (a : Archive) (list : List ℕ) (commands : List Command) → NoCommandSatisfies (sets_merge list) commands → merge_of (run a commands).archive list ≡ merge_of a list
+pub merge_stays : (a : Archive) (list : List ℕ) (commands : List Command) → NoCommandSatisfies (changes_merge list) commands → merge_of (run a commands).archive list ≡ merge_of a list
 merge_stays a list commands none =
-    run_keeps (λ b. merge_of b list ≡ merge_of a list) (λ c. sets_merge list c ≡ false) (merge_kept list (merge_of a list)) a commands none refl
+    run_keeps (λ b. merge_of b list ≡ merge_of a list) (λ c. changes_merge list c ≡ false) (merge_kept list (merge_of a list)) a commands none refl
 
 -- what one that is done leaves, and what it needed
 list_left : (a : Archive) (name : List ℕ) → (step a (list_add name)).1 ≡ done
@@ -245,7 +245,7 @@ to_another person a new apart = cases (has_address a new.person)
     cases true = to_another_anew person new apart a.addresses
     cases false = to_another_first person new apart a.addresses
 
-pub address_kept : (person : List ℕ) (address : Option (List ℕ)) → EachCommandKeeps (λ a. address_of a person ≡ address) (λ c. sets_address person c ≡ false)
+pub address_kept : (person : List ℕ) (address : Option (List ℕ)) → EachCommandKeeps (λ a. address_of a person ≡ address) (λ c. changes_address person c ≡ false)
 address_kept person address = record {
   lists = λ a name q named new is. is;
   persons = λ a name token q named known new free is. is;
@@ -260,9 +260,9 @@ address_kept person address = record {
   addresses = λ a other text q known is. to_another person a (record { person = other; address = normalize_address text }) q ∙ is;
 }
 
-pub address_stays : (a : Archive) (person : List ℕ) (commands : List Command) → NoCommandSatisfies (sets_address person) commands → address_of (run a commands).archive person ≡ address_of a person
+pub address_stays : (a : Archive) (person : List ℕ) (commands : List Command) → NoCommandSatisfies (changes_address person) commands → address_of (run a commands).archive person ≡ address_of a person
 address_stays a person commands none =
-    run_keeps (λ b. address_of b person ≡ address_of a person) (λ c. sets_address person c ≡ false) (address_kept person (address_of a person)) a commands none refl
+    run_keeps (λ b. address_of b person ≡ address_of a person) (λ c. changes_address person c ≡ false) (address_kept person (address_of a person)) a commands none refl
 
 -- ---- a message, as long as it is withdrawn or held back
 
@@ -400,7 +400,7 @@ withdrawal_kept list key party some = record {
   addresses = λ a person address q known is. is;
 }
 
-embargo_kept : (list key : List ℕ) (until : ℤ) → EachCommandKeeps (Stands list key (IsUntil until)) (λ c. sets_embargo list key c ≡ false)
+embargo_kept : (list key : List ℕ) (until : ℤ) → EachCommandKeeps (Stands list key (IsUntil until)) (λ c. changes_embargo list key c ≡ false)
 embargo_kept list key until = record {
   lists = λ a name q named new is. is;
   persons = λ a name token q named known new free is. is;
@@ -473,9 +473,9 @@ withdrawn_stays a list key party commands some is none =
     (set_stands list key (with_withdrawal party) (IsBy party) (λ m. refl) (λ m. refl) a (step a (withdraw list key party)).0 (withdrawal_left a list key party is))).1
 
 pub embargo_stays : (a : Archive) (list key : List ℕ) (until : ℤ) (commands : List Command) → (step a (embargo list key until)).1 ≡ done
-    → NoCommandSatisfies (sets_embargo list key) commands → HoldsForMessageAtKey (run (step a (embargo list key until)).0 commands).archive list key (IsUntil until)
+    → NoCommandSatisfies (changes_embargo list key) commands → HoldsForMessageAtKey (run (step a (embargo list key until)).0 commands).archive list key (IsUntil until)
 embargo_stays a list key until commands is none =
-    (run_keeps (Stands list key (IsUntil until)) (λ c. sets_embargo list key c ≡ false) (embargo_kept list key until) (step a (embargo list key until)).0 commands none
+    (run_keeps (Stands list key (IsUntil until)) (λ c. changes_embargo list key c ≡ false) (embargo_kept list key until) (step a (embargo list key until)).0 commands none
     (set_stands list key (with_embargo (Some until)) (IsUntil until) (λ m. refl) (λ m. refl) a (step a (embargo list key until)).0 (embargo_left a list key until is))).1
 
 -- ---- files of older versions

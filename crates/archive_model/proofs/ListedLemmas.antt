@@ -42,7 +42,7 @@ not_all [] it after all = All-head IsSoundlyIndexed it after all
 not_all (f ∷ before) it after all = not_all before it after (All-tail IsSoundlyIndexed f (before ++ it ∷ after) all)
 
 pub not_both : (a : Archive) (list key : List ℕ) → HasNoDamagedMessage a → IsFirstDamaged a list key → ⊥
-not_both a list key whole first = first.damaged (not_all first.before first.it first.after (subst (All IsSoundlyIndexed) first.place (sound_in_order a whole)))
+not_both a list key whole first = first.is_damaged (not_all first.messages_before first.damaged_message first.messages_after (subst (All IsSoundlyIndexed) first.messages_are (sound_in_order a whole)))
 
 head_of : (f g : IndexedMessage) (fs gs : List IndexedMessage) → f ∷ fs ≡ g ∷ gs → f ≡ g
 head_of f g fs gs same = cc
@@ -61,7 +61,8 @@ same_first (f ∷ xs) (g ∷ ys) x y us vs same p q n m =
 pub one_first : (a : Archive) (list key other_list other_key : List ℕ) → IsFirstDamaged a list key → IsFirstDamaged a other_list other_key
     → (list ≡ other_list) × (key ≡ other_key)
 one_first a list key other_list other_key first other =
-    let same = same_first first.before other.before first.it other.it first.after other.after (sym first.place ∙ other.place) first.sound other.sound first.damaged other.damaged in
+    let same = same_first first.messages_before other.messages_before first.damaged_message other.damaged_message first.messages_after other.messages_after
+    (sym first.messages_are ∙ other.messages_are) first.sound_before other.sound_before first.is_damaged other.is_damaged in
     (sym first.list_matches ∙ ap (λ (f : IndexedMessage). f.0.list) same ∙ other.list_matches, sym first.key_matches ∙ ap (λ (f : IndexedMessage). f.0.key) same ∙ other.key_matches)
 
 -- ---- whole, and sound with what is filed right
@@ -73,11 +74,11 @@ sound_each [] (f ∷ fs) same all = absurd (omega (arith, same))
 sound_each (m ∷ ms) [] same all = absurd (omega (arith, same))
 sound_each (m ∷ ms) (f ∷ fs) same all =
     let rest = sound_each ms fs (omega (arith, same)) all.1 in
-    ((all.0.message, rest.0), ap₂ ◌∷◌ all.0.filing rest.1)
+    ((all.0.message_is_sound, rest.0), ap₂ ◌∷◌ all.0.columns_are_of_text rest.1)
 
 each_sound : (ms : List Message) → AllByRecursion IsSoundMessage ms → AllByRecursion IsSoundlyIndexed (zip ms (map message_index_columns ms))
 each_sound [] all = tt
-each_sound (m ∷ ms) all = (record { message = all.0; filing = refl }, each_sound ms all.1)
+each_sound (m ∷ ms) all = (record { message_is_sound = all.0; columns_are_of_text = refl }, each_sound ms all.1)
 
 pub whole_is_sound : (a : Archive) → length a.index_columns ≡ length a.messages → HasNoDamagedMessage a → HasSoundMessages a × IsIndexedCorrectly a
 whole_is_sound a same whole =

@@ -176,8 +176,8 @@ unique (x ∷ xs) (y ∷ ys) up down same =
 -- ---- the names of all lists
 
 pub are_names : (a : Archive) → AreListNames a (list_names a)
-are_names a = record { all = same_names a.lists; in_order = sorted (sort_by_bytes a.lists) (rises a.lists) }
+are_names a = record { is_permutation = same_names a.lists; is_sorted = sorted (sort_by_bytes a.lists) (rises a.lists) }
 
 pub names_are : (a : Archive) (names : List Name) → AreListNames a names → names ≡ list_names a
-names_are a names h = unique names (sort_by_bytes a.lists) (risen names h.in_order) (rises a.lists)
-    (λ z. sum_by-IsPermutation (one z) a.lists names h.all ∙ sym (sum_by-IsPermutation (one z) a.lists (sort_by_bytes a.lists) (same_names a.lists)))
+names_are a names h = unique names (sort_by_bytes a.lists) (risen names h.is_sorted) (rises a.lists)
+    (λ z. sum_by-IsPermutation (one z) a.lists names h.is_permutation ∙ sym (sum_by-IsPermutation (one z) a.lists (sort_by_bytes a.lists) (same_names a.lists)))

@@ -18,9 +18,9 @@ pub record WholeLaws : Type 0 where
 
 new_is_sound : WholeLaws → (list : List ℕ) (item : Item) → IsItem item → IsSoundMessage (new_message list item)
 new_is_sound laws list item is = record {
-  complete = laws.whole item.text;
-  item = laws.items item is;
-  key = refl;
+  ends_with_newline = laws.whole item.text;
+  item_is_writable = laws.items item is;
+  key_is_of_text = refl;
 }
 
 change_is_sound : (list key : List ℕ) (change : Message → Message) → ((m : Message) → IsSoundMessage m → IsSoundMessage (change m))
@@ -38,10 +38,10 @@ changes_are_sound a list key change keeps sound =
     (All-weaker IsSoundMessage (λ m. IsSoundMessage (change_at_key list key change m)) (change_is_sound list key change keeps) a.messages sound)
 
 withdrawal_is_sound : (party : ℤ) (m : Message) → IsSoundMessage m → IsSoundMessage (with_withdrawal party m)
-withdrawal_is_sound party m sound = record { complete = sound.complete; item = sound.item; key = sound.key }
+withdrawal_is_sound party m sound = record { ends_with_newline = sound.ends_with_newline; item_is_writable = sound.item_is_writable; key_is_of_text = sound.key_is_of_text }
 
 embargo_is_sound : (until : Option ℤ) (m : Message) → IsSoundMessage m → IsSoundMessage (with_embargo until m)
-embargo_is_sound until m sound = record { complete = sound.complete; item = sound.item; key = sound.key }
+embargo_is_sound until m sound = record { ends_with_newline = sound.ends_with_newline; item_is_writable = sound.item_is_writable; key_is_of_text = sound.key_is_of_text }
 
 pub soundness : WholeLaws → EachChangeKeeps HasSoundMessages AddsWritableItem
 soundness laws = record {

@@ -9,8 +9,8 @@ use Rattle.archive_model.specs.Sound.{IsSoundMessage}
 
 -- its sender, arrival and text make a complete item, its key is that text's, and what is filed of it is what its text says
 pub record IsSoundlyIndexed (f : IndexedMessage) : Type 0 where
-  pub message : IsSoundMessage f.0
-  pub filing : f.1 ≡ message_index_columns f.0
+  pub message_is_sound : IsSoundMessage f.0
+  pub columns_are_of_text : f.1 ≡ message_index_columns f.0
 
 -- every message is undamaged: it can be written, its key is its text's, and it is filed by what its text says
 abbrev pub HasNoDamagedMessage : Archive → Type 0
@@ -36,11 +36,11 @@ sort_by_list_name (f ∷ fs) = insert_by_list_name f (sort_by_list_name fs)
 -- Profile: a check names this message of all damaged ones: the first, lists in the byte order of their names, each list in
 -- mailbox order.
 pub record IsFirstDamaged (archive : Archive) (list key : List ℕ) : Type 0 where
-  pub before : List IndexedMessage
-  pub it : IndexedMessage
-  pub after : List IndexedMessage
-  pub place : sort_by_list_name (indexed_messages archive) ≡ before ++ it ∷ after
-  pub sound : All IsSoundlyIndexed before
-  pub damaged : ¬ IsSoundlyIndexed it
-  pub list_matches : it.0.list ≡ list
-  pub key_matches : it.0.key ≡ key
+  pub messages_before : List IndexedMessage
+  pub damaged_message : IndexedMessage
+  pub messages_after : List IndexedMessage
+  pub messages_are : sort_by_list_name (indexed_messages archive) ≡ messages_before ++ damaged_message ∷ messages_after
+  pub sound_before : All IsSoundlyIndexed messages_before
+  pub is_damaged : ¬ IsSoundlyIndexed damaged_message
+  pub list_matches : damaged_message.0.list ≡ list
+  pub key_matches : damaged_message.0.key ≡ key

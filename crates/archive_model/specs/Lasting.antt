@@ -13,14 +13,14 @@ abbrev pub NoCommandSatisfies : (Command → Bool) → List Command → Type 0
 NoCommandSatisfies is_one commands = All (λ command. is_one command ≡ false) commands
 
 -- it chooses how the threads of this list are made
-abbrev pub sets_merge : (list : List ℕ) → Command → Bool
-sets_merge list (merge_set other merge) = bytes_eq other list
-sets_merge list command = false
+abbrev pub changes_merge : (list : List ℕ) → Command → Bool
+changes_merge list (merge_set other merge) = bytes_eq other list
+changes_merge list command = false
 
 -- it gives this person an address
-abbrev pub sets_address : (person : List ℕ) → Command → Bool
-sets_address person (address_set other address) = bytes_eq other person
-sets_address person command = false
+abbrev pub changes_address : (person : List ℕ) → Command → Bool
+changes_address person (address_set other address) = bytes_eq other person
+changes_address person command = false
 
 -- it ends the withdrawal of the message of this list and key
 abbrev pub ends_withdrawal : (list key : List ℕ) → Command → Bool
@@ -28,10 +28,10 @@ ends_withdrawal list key (restore other_list other_key) = bytes_eq other_list li
 ends_withdrawal list key command = false
 
 -- it sets the embargo of the message of this list and key, or lifts it
-abbrev pub sets_embargo : (list key : List ℕ) → Command → Bool
-sets_embargo list key (embargo other_list other_key until_day) = bytes_eq other_list list && bytes_eq other_key key
-sets_embargo list key (lift other_list other_key) = bytes_eq other_list list && bytes_eq other_key key
-sets_embargo list key command = false
+abbrev pub changes_embargo : (list key : List ℕ) → Command → Bool
+changes_embargo list key (embargo other_list other_key until_day) = bytes_eq other_list list && bytes_eq other_key key
+changes_embargo list key (lift other_list other_key) = bytes_eq other_list list && bytes_eq other_key key
+changes_embargo list key command = false
 
 -- ---- messages
 

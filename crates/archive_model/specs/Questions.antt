@@ -30,8 +30,8 @@ list_names archive = sort_by_bytes archive.lists
 
 -- what they are, whatever puts them in order
 pub record AreListNames (archive : Archive) (names : List (List ℕ)) : Type 0 where
-  pub all : IsPermutation archive.lists names
-  pub in_order : IsSorted (slice_cmp nat_cmp) names
+  pub is_permutation : IsPermutation archive.lists names
+  pub is_sorted : IsSorted (slice_cmp nat_cmp) names
 
 abbrev pub has_person : Archive → List ℕ → Bool
 has_person archive name = list_any (λ p. bytes_eq p.name name) archive.persons

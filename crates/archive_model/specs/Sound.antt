@@ -17,9 +17,9 @@ item_of m = record { envelope = record { sender = m.sender; arrival = m.arrival 
 
 -- its sender, arrival and text make a complete item, and its key is that text's
 pub record IsSoundMessage (m : Message) : Type 0 where
-  pub complete : is_empty_or_ends_in_lf m.text ≡ true
-  pub item : IsItem (item_of m)
-  pub key : m.key ≡ key_of m.text
+  pub ends_with_newline : is_empty_or_ends_in_lf m.text ≡ true
+  pub item_is_writable : IsItem (item_of m)
+  pub key_is_of_text : m.key ≡ key_of m.text
 
 -- every message can be written to an mbox (RFC 4155) as it is, and its key is that of its text
 abbrev pub HasSoundMessages : Archive → Type 0

@@ -11,10 +11,10 @@ ghost use Rattle.archive_model.specs.Runs.{run, taken};
 ghost use Rattle.archive_model.specs.Questions.{AreListNames, address_of, list_names, has_list, merge_of, messages_in};
 ghost use Rattle.archive_model.specs.Sound.{AddsWritableItem, HasSoundMessages, IsIndexedCorrectly, HasUniqueNames, HasValidNamesAndTokens, HasOneOptionPerList};
 ghost use Rattle.archive_model.specs.Damage.{HasNoDamagedMessage, IsFirstDamaged};
-ghost use Rattle.archive_model.specs.Lasting.{NoCommandSatisfies, sets_merge, sets_address, ends_withdrawal, sets_embargo};
+ghost use Rattle.archive_model.specs.Lasting.{NoCommandSatisfies, changes_merge, changes_address, ends_withdrawal, changes_embargo};
 ghost use Rattle.archive_model.specs.Lasting.{HoldsForMessageAtKey, is_address_set, is_unknown_to_version_one, IsVersionOneArchive, IsVersionTwoArchive};
 
-use mbox_items::laws::{whole_is_whole, whole_items_are_items};
+use mbox_items::laws::{a_whole_text_is_its_own_whole_text, whole_items_stay_items};
 
 /// A command that is refused leaves the archive as it was.
 pub fn a_refusal_changes_nothing()
@@ -27,19 +27,19 @@ pub fn commands_keep_soundness()
     ensures step { (a : Archive) (command : Command) → AddsWritableItem command → HasSoundMessages a → HasSoundMessages (step a command).0 }
     ensures run { (a : Archive) (commands : List Command) → All AddsWritableItem commands → HasSoundMessages a → HasSoundMessages (run a commands).archive }
 {
-    whole_is_whole();
-    whole_items_are_items();
+    a_whole_text_is_its_own_whole_text();
+    whole_items_stay_items();
 }
 
 /// Where what is filed of each message is what its text says, the same holds after a command, and after any number of them.
-pub fn commands_file_right()
+pub fn commands_keep_index_columns_correct()
     ensures step { (a : Archive) (command : Command) → IsIndexedCorrectly a → IsIndexedCorrectly (step a command).0 }
     ensures run { (a : Archive) (commands : List Command) → IsIndexedCorrectly a → IsIndexedCorrectly (run a commands).archive }
 {}
 
 /// An archive that is whole has no message that is the first that is not sound, and no archive has two. An archive is whole where
 /// its messages are sound and filed right, and, where it files each message, nowhere else.
-pub fn whole_and_damaged_are_apart()
+pub fn no_archive_is_whole_and_damaged()
     ensures apart { (a : Archive) (list key : List ℕ) → HasNoDamagedMessage a → IsFirstDamaged a list key → ⊥ }
     ensures alone { (a : Archive) (list key other_list other_key : List ℕ) → IsFirstDamaged a list key → IsFirstDamaged a other_list other_key
         → (list ≡ other_list) × (key ≡ other_key) }
@@ -48,7 +48,7 @@ pub fn whole_and_damaged_are_apart()
 {}
 
 /// Some commands and then others do what they do together, and are answered alike.
-pub fn commands_follow_one_another()
+pub fn a_run_is_its_parts_in_turn()
     ensures archive { (a : Archive) (xs ys : List Command) → (run a (xs ++ ys)).archive ≡ (run (run a xs).archive ys).archive }
     ensures replies { (a : Archive) (xs ys : List Command) → (run a (xs ++ ys)).replies ≡ (run a xs).replies ++ (run (run a xs).archive ys).replies }
 {}
@@ -62,19 +62,19 @@ pub fn names_stay_unique()
 
 /// Where lists and persons have names, persons have tokens and addresses are such, the same holds after a command, and after
 /// any number of them.
-pub fn names_and_tokens_are_such()
+pub fn names_and_tokens_stay_valid()
     ensures step { (a : Archive) (command : Command) → HasValidNamesAndTokens a → HasValidNamesAndTokens (step a command).0 }
     ensures run { (a : Archive) (commands : List Command) → HasValidNamesAndTokens a → HasValidNamesAndTokens (run a commands).archive }
 {}
 
 /// Where each list has one option, and there is no other, the same holds after a command, and after any number of them.
-pub fn each_list_has_its_option()
+pub fn each_list_keeps_one_option()
     ensures step { (a : Archive) (command : Command) → HasOneOptionPerList a → HasOneOptionPerList (step a command).0 }
     ensures run { (a : Archive) (commands : List Command) → HasOneOptionPerList a → HasOneOptionPerList (run a commands).archive }
 {}
 
 /// The names of all lists are these names and in the order of their bytes, and no other order of them is.
-pub fn list_names_are_in_order()
+pub fn list_names_are_sorted()
     ensures are { (a : Archive) → AreListNames a (list_names a) }
     ensures alone { (a : Archive) (names : List (List ℕ)) → AreListNames a names → names ≡ list_names a }
 {}
@@ -94,33 +94,33 @@ pub fn a_list_holds_the_first_of_each_key()
 /// What is set is what is told. A list is threaded as was chosen for it last, and gathered by subject where nothing was; the
 /// address of a person is the one that was given last, as it is kept. No other command changes that, be it of another list or
 /// person or of something else.
-pub fn what_is_set_is_told()
+pub fn settings_read_back()
     ensures merged { (a : Archive) (list : List ℕ) (merge : Bool) → HasOneOptionPerList a → has_list a list ≡ true
         → merge_of (step a (merge_set list merge)).0 list ≡ merge }
-    ensures merge_stays { (a : Archive) (list : List ℕ) (commands : List Command) → NoCommandSatisfies (sets_merge list) commands
+    ensures merge_stays { (a : Archive) (list : List ℕ) (commands : List Command) → NoCommandSatisfies (changes_merge list) commands
         → merge_of (run a commands).archive list ≡ merge_of a list }
     ensures at_first { (a : Archive) (name : List ℕ) → HasOneOptionPerList a → (step a (list_add name)).1 ≡ done
         → merge_of (step a (list_add name)).0 name ≡ true }
     ensures addressed { (a : Archive) (person address : List ℕ) → (step a (address_set person address)).1 ≡ done
         → address_of (step a (address_set person address)).0 person ≡ Some (normalize_address address) }
-    ensures address_stays { (a : Archive) (person : List ℕ) (commands : List Command) → NoCommandSatisfies (sets_address person) commands
+    ensures address_stays { (a : Archive) (person : List ℕ) (commands : List Command) → NoCommandSatisfies (changes_address person) commands
         → address_of (run a commands).archive person ≡ address_of a person }
 {}
 
 /// A message that was withdrawn stays so, by whom it was, whatever is commanded but to restore it; and one that was held back
 /// stays so, up to that day, whatever is commanded but to set its embargo anew or to lift it.
-pub fn what_is_withheld_stays_so()
+pub fn marks_stay_until_lifted()
     ensures withdrawn { (a : Archive) (list key : List ℕ) (party : ℤ) (commands : List Command) → party ≢ pos 0
         → (step a (withdraw list key party)).1 ≡ done → NoCommandSatisfies (ends_withdrawal list key) commands
         → HoldsForMessageAtKey (run (step a (withdraw list key party)).0 commands).archive list key (λ m. m.withdrawn ≡ party) }
     ensures held_back { (a : Archive) (list key : List ℕ) (until : ℤ) (commands : List Command)
-        → (step a (embargo list key until)).1 ≡ done → NoCommandSatisfies (sets_embargo list key) commands
+        → (step a (embargo list key until)).1 ≡ done → NoCommandSatisfies (changes_embargo list key) commands
         → HoldsForMessageAtKey (run (step a (embargo list key until)).0 commands).archive list key (λ m. m.embargo ≡ Some until) }
 {}
 
 /// The commands that programs of an older version knew keep an archive such as a file of that version is read as, as the empty one
 /// is: the first knew neither how lists are threaded nor addresses, the second no addresses.
-pub fn an_older_file_is_the_archive_of_its_commands()
+pub fn older_commands_keep_an_older_version_archive()
     ensures first { (a : Archive) (commands : List Command) → NoCommandSatisfies is_unknown_to_version_one commands → IsVersionOneArchive a → IsVersionOneArchive (run a commands).archive }
     ensures second { (a : Archive) (commands : List Command) → NoCommandSatisfies is_address_set commands → IsVersionTwoArchive a → IsVersionTwoArchive (run a commands).archive }
 {}

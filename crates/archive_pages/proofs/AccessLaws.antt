@@ -32,7 +32,7 @@ decided-front [] after r f none fit = rw fit refl
 decided-front (q ∷ before) after r f none fit = rw none.0 (decided-front before after r f none.1 fit)
 
 decided : (rules : List Rule) (r : Rule) (f : Facts) → IsFirstToFit rules f r → verdict_of rules f ≡ ruling_of_rule r
-decided rules r f it = rw it.stand (decided-front it.before it.after r f it.none it.fit)
+decided rules r f it = rw it.rules_are (decided-front it.rules_before it.rules_after r f it.none_fits_before it.fits_facts)
 
 undecided : (rules : List Rule) (f : Facts) → NoRuleFits rules f → verdict_of rules f ≡ denied (codes "default")
 undecided [] f none = refl
@@ -44,7 +44,7 @@ later q rules f none (inl (r, it)) =
 later q rules f none (inr all) = inr (none, all)
 
 decide_by : (q : Rule) (rules : List Rule) (f : Facts) (b : Bool) → fits q f ≡ b → Decision rules f → Decision (q ∷ rules) f
-decide_by q rules f true is rest = inl (q, record { before = []; after = rules; stand = refl; none = tt; fit = is })
+decide_by q rules f true is rest = inl (q, record { rules_before = []; rules_after = rules; rules_are = refl; none_fits_before = tt; fits_facts = is })
 decide_by q rules f false is rest = later q rules f is rest
 
 decide : (rules : List Rule) (f : Facts) → Decision rules f
@@ -57,15 +57,15 @@ abbrev IsRefused : List Rule → Facts → Type 0
 IsRefused rules f = ((name : List ℕ) × IsDeniedBy rules f name) ⊎ NoRuleFits rules f
 
 allowed_is : (rules : List Rule) (f : Facts) → (is : IsAllowed rules f) → verdict_of rules f ≡ allowed is.rule.name
-allowed_is rules f is = decided rules is.rule f is.first ∙ ap (λ b. cond b (allowed is.rule.name) (denied is.rule.name)) is.allows
+allowed_is rules f is = decided rules is.rule f is.is_first_to_fit ∙ ap (λ b. cond b (allowed is.rule.name) (denied is.rule.name)) is.rule_allows
 
 denied_is : (rules : List Rule) (f : Facts) (name : List ℕ) → IsDeniedBy rules f name → verdict_of rules f ≡ denied name
-denied_is rules f name is = decided rules is.rule f is.first
-    ∙ ap (λ b. cond b (allowed is.rule.name) (denied is.rule.name)) is.denies ∙ ap denied is.named
+denied_is rules f name is = decided rules is.rule f is.is_first_to_fit
+    ∙ ap (λ b. cond b (allowed is.rule.name) (denied is.rule.name)) is.rule_denies ∙ ap denied is.name_is
 
 by_effect : (rules : List Rule) (f : Facts) (r : Rule) (b : Bool) → r.allows ≡ b → IsFirstToFit rules f r → IsAllowed rules f ⊎ IsRefused rules f
-by_effect rules f r true is first = inl (record { rule = r; first = first; allows = is })
-by_effect rules f r false is first = inr (inl (r.name, record { rule = r; first = first; denies = is; named = refl }))
+by_effect rules f r true is first = inl (record { rule = r; is_first_to_fit = first; rule_allows = is })
+by_effect rules f r false is first = inr (inl (r.name, record { rule = r; is_first_to_fit = first; rule_denies = is; name_is = refl }))
 
 by_decision : (rules : List Rule) (f : Facts) → Decision rules f → IsAllowed rules f ⊎ IsRefused rules f
 by_decision rules f (inl (r, first)) = by_effect rules f r r.allows refl first
@@ -100,8 +100,8 @@ module _ (archive : Archive) (rules : List Rule) (day : ℤ) (head : RequestHead
 
     of_message : AsksForMessage archive head reader list key → reply_of archive rules day head ≡ lookup_reply (asked_for_key archive ask key)
     of_message it = routed archive rules day head reader (message list key) it.asks_for
-        ∙ ap (λ b. cond b (reply_by_key archive ask key) not_found) it.listed
-        ∙ ap (λ b. cond b (lookup_reply (asked_for_key archive ask key)) not_found) it.keyed
+        ∙ ap (λ b. cond b (reply_by_key archive ask key) not_found) it.list_exists
+        ∙ ap (λ b. cond b (lookup_reply (asked_for_key archive ask key)) not_found) it.key_is_valid
 
     held_reply : AsksForMessage archive head reader list key → (m : Message) → message_of archive list key ≡ Some m
         → reply_of archive rules day head ≡ lookup_reply (asked_under_ruling m (verdict_of rules (facts_on archive ask m)))
@@ -144,7 +144,7 @@ module _ (archive : Archive) (rules : List Rule) (day : ℤ) (head : RequestHead
     )
 
   pub serves : ServesWhatIsAllowed archive rules day head
-  serves = record { exactly = served_exactly; whole = served_whole }
+  serves = record { served_iff_allowed = served_exactly; serves_message = served_whole }
 
   -- ---- 403
 
@@ -176,7 +176,7 @@ module _ (archive : Archive) (rules : List Rule) (day : ℤ) (head : RequestHead
         → (cond b (lookup_reply (asked_for_key archive (ask_of_reader rules day reader list) key)) not_found).status ≡ 403 → Denies
     by_key list key asked listed false keyed status = other 404 refl status
     by_key list key asked listed true keyed status =
-        by_message reader list key (record { asks_for = asked; listed = listed; keyed = keyed }) (message_of archive list key) refl status
+        by_message reader list key (record { asks_for = asked; list_exists = listed; key_is_valid = keyed }) (message_of archive list key) refl status
 
     by_list : (list key : List ℕ) → AsksFor archive head reader (message list key) → (b : Bool) → has_list archive list ≡ b
         → (cond b (reply_by_key archive (ask_of_reader rules day reader list) key) not_found).status ≡ 403 → Denies
@@ -211,7 +211,7 @@ module _ (archive : Archive) (rules : List Rule) (day : ℤ) (head : RequestHead
         → (option_map_or (route_reply archive (ask_of_reader rules day reader)) o not_found).status ≡ 403 → Denies
     by_found reader who None found status = other 404 refl status
     by_found reader who (Some route) found status =
-        by_route reader route (record { token = token; path = path; request = request; who = who; where_to = found }) status
+        by_route reader route (record { token = token; path = path; request_is = request; reader_is = who; route_is = found }) status
 
     by_reader : (o : Option (Option (List ℕ))) → reader_of archive token ≡ o
         → (option_map_or (path_reply archive rules day path) o unauthorized).status ≡ 403 → Denies
@@ -231,9 +231,9 @@ module _ (archive : Archive) (rules : List Rule) (day : ℤ) (head : RequestHead
 
   pub denies : DeniesWhatIsDenied archive rules day head
   denies = record {
-    exactly = (by_request (request_of head) refl, is_denied);
-    named = λ reader list key name it held. denied_by_name reader list key name it held;
-    default = λ reader list key it held. denied_by_default reader list key it held;
+    denied_iff_403 = (by_request (request_of head) refl, is_denied);
+    names_first_rule = λ reader list key name it held. denied_by_name reader list key name it held;
+    names_default = λ reader list key it held. denied_by_default reader list key it held;
   }
 
   -- ---- listings

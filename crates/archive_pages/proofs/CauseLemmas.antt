@@ -117,7 +117,7 @@ module _ (a : Archive) (can : CanBeRead a) (rules : List Rule) (day : ℤ) where
   ]
 
   pub nothing_unread : (told_before told_after : List ℕ) → ¬ IsInputDataUnreadable told_before told_after rules day a
-  nothing_unread told_before told_after = λ it. request_read (request_of it.head) it.unread
+  nothing_unread told_before told_after = λ it. request_read (request_of it.head) it.data_is_unreadable
 
 -- ---- at a place that is kept stands an outline
 
@@ -249,8 +249,8 @@ module _ {S : Type 0} (g : Ghosts S) where
       (λ bad. elim (it.1 bad) [
         | inl more ↦ inl (omega (arith, grows, more))
         | inr why ↦ inr (λ returned held free.
-            let there = first.1 (last.returned returned) held in
-            elim (why returned there.0 (first.0.limit ∙ free)) [
+            let there = first.1 (last.disk_was_clean returned) held in
+            elim (why returned there.0 (first.0.step_limit_is_same ∙ free)) [
               | inl more ↦ inl (failed_since more)
               | inr bad ↦ inr (implies _ there.1.1 (subst Unread there.1.0 bad))
             ])

@@ -35,11 +35,11 @@ module _ {S : Type 0} (g : Ghosts S) (rules : List Rule) (day : ℤ) (given all 
   module _ (store : Store S) where
     pub to_bad : IsRequestReadOfInput given all Malformed → SendsReply (λ r. r ≡ bad_request) before after result → IsAnsweredFromStore g store store rules day given all before after result
     to_bad is sent = record {
-      head = λ h begins. absurd (is.head h begins);
-      direct = λ h begins. absurd (is.head h begins);
+      head = λ h begins. absurd (is.when_head h begins);
+      direct = λ h begins. absurd (is.when_head h begins);
       none = λ nothing. (stays_there_in g (HoldsTables g) store, sends_as (λ r. r ≡ bad_request) (λ r. (r ≡ bad_request) ⊎ (r ≡ head_too_large)) before after result (λ r e. inl e) sent);
-      many = λ h exceeds. absurd (bad_large (is.many h exceeds));
-      long = λ enough nothing could. absurd (bad_large (is.long enough nothing could));
+      many = λ h exceeds. absurd (bad_large (is.when_too_many_fields h exceeds));
+      long = λ enough nothing could. absurd (bad_large (is.when_too_long enough nothing could));
       few = λ nothing less fields. sent;
     }
 
@@ -49,20 +49,20 @@ module _ {S : Type 0} (g : Ghosts S) (rules : List Rule) (day : ℤ) (given all 
 
     pub to_large : IsRequestReadOfInput given all TooLarge → SendsReply (λ r. r ≡ head_too_large) before after result → IsAnsweredFromStore g store store rules day given all before after result
     to_large is sent = record {
-      head = λ h begins. absurd (is.head h begins);
-      direct = λ h begins. absurd (is.head h begins);
+      head = λ h begins. absurd (is.when_head h begins);
+      direct = λ h begins. absurd (is.when_head h begins);
       none = λ nothing. (stays_there_in g (HoldsTables g) store, sends_as (λ r. r ≡ head_too_large) (λ r. (r ≡ bad_request) ⊎ (r ≡ head_too_large)) before after result (λ r e. inr e) sent);
       many = λ h exceeds. sent;
       long = λ enough nothing could. sent;
-      few = λ nothing less fields. absurd (large_cases less fields (is.large refl));
+      few = λ nothing less fields. absurd (large_cases less fields (is.too_large_means_too_long refl));
     }
 
 begins_still : (given more : List ℕ) (h : RequestHead) → BeginsWithHead given h → BeginsWithHead (given ++ more) h
 begins_still given more h it = record {
-  rest = it.rest ++ more;
-  reads = ReadsRequest-append given h it.rest more it.reads;
-  short = it.short;
-  few = it.few;
+  after_head = it.after_head ++ more;
+  reads_head = ReadsRequest-append given h it.after_head more it.reads_head;
+  at_most_8192 = it.at_most_8192;
+  at_most_64_fields = it.at_most_64_fields;
 }
 
 module _ {S : Type 0} (g : Ghosts S) (rules : List Rule) (day : ℤ) (given more before after : List ℕ) (result : Result ℕ ServeFault) where
@@ -71,23 +71,23 @@ module _ {S : Type 0} (g : Ghosts S) (rules : List Rule) (day : ℤ) (given more
       → IfSome (pathless_reply (model_request request)) (λ wanted. SendsReply (λ reply. reply ≡ wanted) before after result)
       → IsAnsweredFromStore g old new rules day given (given ++ more) before after result
   to_whole old new request is sent direct = record {
-    head = λ h begins. subst (λ q. ServesFromArchive g old new (λ a reply. reply ≡ request_reply a rules day q) before after result) (is.head h begins) sent;
-    direct = λ h begins. subst (λ q. IfSome (pathless_reply q) (λ wanted. SendsReply (λ reply. reply ≡ wanted) before after result)) (is.head h begins) direct;
-    none = λ nothing. absurd (nothing is.whole.0 (begins_still given more is.whole.0 is.whole.1));
-    many = λ h exceeds. absurd (whole_large request (is.many h exceeds));
-    long = λ enough nothing could. absurd (whole_large request (is.long enough nothing could));
-    few = λ nothing less fields. absurd (nothing is.whole.0 (begins_still given more is.whole.0 is.whole.1));
+    head = λ h begins. subst (λ q. ServesFromArchive g old new (λ a reply. reply ≡ request_reply a rules day q) before after result) (is.when_head h begins) sent;
+    direct = λ h begins. subst (λ q. IfSome (pathless_reply q) (λ wanted. SendsReply (λ reply. reply ≡ wanted) before after result)) (is.when_head h begins) direct;
+    none = λ nothing. absurd (nothing is.when_read.0 (begins_still given more is.when_read.0 is.when_read.1));
+    many = λ h exceeds. absurd (whole_large request (is.when_too_many_fields h exceeds));
+    long = λ enough nothing could. absurd (whole_large request (is.when_too_long enough nothing could));
+    few = λ nothing less fields. absurd (nothing is.when_read.0 (begins_still given more is.when_read.0 is.when_read.1));
   }
 
 -- what of an archive cannot be read that is asked for
 pub unread_in : (told_before told_after given : List ℕ) (rules : List Rule) (day : ℤ) (a : Archive) (read : RequestRead) → told_after ≡ told_before ++ given → IsRequestOfGivenHead given read
     → IsReadRequestDataUnreadable rules day read a → IsInputDataUnreadable told_before told_after rules day a
 unread_in told_before told_after given rules day a (Whole request) told begun it = record {
-  given = given;
-  told = told;
+  input_read = given;
+  input_is_given = told;
   head = begun.0;
-  begins = begun.1;
-  unread = subst (λ q. IsRequestDataUnreadable rules day q a) begun.2 it;
+  begins_with_head = begun.1;
+  data_is_unreadable = subst (λ q. IsRequestDataUnreadable rules day q a) begun.2 it;
 }
 unread_in told_before told_after given rules day a Malformed told begun it = absurd it
 unread_in told_before told_after given rules day a TooLarge told begun it = absurd it
@@ -96,8 +96,8 @@ unread_in told_before told_after given rules day a TooLarge told begun it = absu
 
 pub begun_by : (given : List ℕ) (read : RequestRead) (Ended None Open : Type 0) → (Ended × None × IsRequestReadOfInput given given read) ⊎ (Open × IsRequestReadFinal given read)
     → IsRequestOfGivenHead given read
-begun_by given read Ended None Open (inl (ended, none, is)) = is.whole
-begun_by given read Ended None Open (inr (still, settled)) = (settled []).whole
+begun_by given read Ended None Open (inl (ended, none, is)) = is.when_read
+begun_by given read Ended None Open (inr (still, settled)) = (settled []).when_read
 
 pub said_either : (given : List ℕ) (read : RequestRead) (Ended None Open : Type 0) (Says : List ℕ → Type 0)
     → ((more : List ℕ) → IsRequestReadOfInput given (given ++ more) read → Says (given ++ more))

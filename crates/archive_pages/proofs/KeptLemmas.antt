@@ -47,9 +47,9 @@ module _ {S : Type 0} (g : Ghosts S) (before after : List ℕ) (result : Result 
       -- and one of which nothing is said
       pub serves_some : ServesFromArchiveIf g old new If Says before after result → ServesFromArchive g old new (λ a r. ⊤) before after result
       serves_some serves = record {
-        sent = sent_as (λ a r. If a → Says a r) (λ a r. ⊤) (λ returned held r it. tt) serves.sent;
-        shut = λ returned shut. sends_as (λ r. (r ≡ unavailable) ⊎ ((a : Archive) → Says a r)) (λ r. (r ≡ unavailable) ⊎ ((a : Archive) → ⊤)) before after result
-            (λ r it. inr (λ a. tt)) (serves.shut returned shut);
+        sends_from_archive = sent_as (λ a r. If a → Says a r) (λ a r. ⊤) (λ returned held r it. tt) serves.sends_from_archive;
+        when_store_closed = λ returned shut. sends_as (λ r. (r ≡ unavailable) ⊎ ((a : Archive) → Says a r)) (λ r. (r ≡ unavailable) ⊎ ((a : Archive) → ⊤)) before after result
+            (λ r it. inr (λ a. tt)) (serves.when_store_closed returned shut);
       }
 
       pub stays_kept : ServesFromArchiveIf g old new If Says before after result → StoreKeepsArchive g old new result
@@ -61,8 +61,8 @@ module _ {S : Type 0} (g : Ghosts S) (before after : List ℕ) (result : Result 
       -- where what is kept is of the archive that the store remembers, it is served out of that archive
       pub serves_of_remembered : IsTrueOfRememberedArchive g old new If → ServesFromArchiveIf g old new If Says before after result → ServesFromArchive g old new Says before after result
       serves_of_remembered of serves = record {
-        sent = sent_as (λ a r. If a → Says a r) Says (λ returned held r says. says (of returned held)) serves.sent;
-        shut = serves.shut;
+        sends_from_archive = sent_as (λ a r. If a → Says a r) Says (λ returned held r says. says (of returned held)) serves.sends_from_archive;
+        when_store_closed = serves.when_store_closed;
       }
 
     -- ---- what was found, or 503
@@ -72,9 +72,9 @@ module _ {S : Type 0} (g : Ghosts S) (before after : List ℕ) (result : Result 
         → MatchResult search_result (λ x. SendsReply (IsReplyOr503 (made x)) before after result) (λ _. SendsReply (λ r. r ≡ unavailable) before after result)
         → ServesFromArchiveIf g old new If Says before after result
     finds_serves (Ok x) made If Holds Says finds says sent = record {
-      sent = found_sent g before after result old new (made x) (λ a r. If a → Says a r)
+      sends_from_archive = found_sent g before after result old new (made x) (λ a r. If a → Says a r)
           (goes_in_as g (HoldsTables g) old new (λ a b. (b ≡ a) × (If a → Holds a x)) (λ a b. (b ≡ a) × (If a → Says a (made x))) (λ a b h. (h.0, (λ is. says a x (h.1 is)))) finds.0) sent;
-      shut = λ returned shut. sends_as (IsReplyOr503 (made x)) (λ r. (r ≡ unavailable) ⊎ ((a : Archive) → Says a r)) before after result
+      when_store_closed = λ returned shut. sends_as (IsReplyOr503 (made x)) (λ r. (r ≡ unavailable) ⊎ ((a : Archive) → Says a r)) before after result
           (λ r it. elim it [ inl is ↦ inr (λ a. subst (Says a) (sym is) (says a x (finds.1 returned shut a))) | inr none ↦ inl none ]) sent;
     }
     finds_serves (Err e) made If Holds Says finds says sent = serves_whatever If Says (serves_none g before after result old new Says finds sent)
@@ -85,8 +85,8 @@ module _ {S : Type 0} (g : Ghosts S) (before after : List ℕ) (result : Result 
       (first : RelatesTableArchives g old mid (λ a b. (b ≡ a) × P a)) (says : (a : Archive) (r : Reply) → P a → Says a r → Says' a r) where
     pub serves_if_after : IsTrueOfEveryArchive g old mid P → ServesFromArchiveIf g mid new If Says before after result → ServesFromArchiveIf g old new If Says' before after result
     serves_if_after every second = record {
-      sent = sent_after g before after result old mid new P (λ a r. If a → Says a r) (λ a r. If a → Says' a r) first (λ a r p it is. says a r p (it is)) second.sent;
-      shut = λ returned shut.
-          let was = (lasts_kept mid new If Says second).returned returned in
-          of_shut_when g before after result Says Says' P says (every was shut) (second.shut returned (λ up. shut (first.0.stays_shut was up)));
+      sends_from_archive = sent_after g before after result old mid new P (λ a r. If a → Says a r) (λ a r. If a → Says' a r) first (λ a r p it is. says a r p (it is)) second.sends_from_archive;
+      when_store_closed = λ returned shut.
+          let was = (lasts_kept mid new If Says second).disk_was_clean returned in
+          of_shut_when g before after result Says Says' P says (every was shut) (second.when_store_closed returned (λ up. shut (first.0.closed_stays_closed was up)));
     }

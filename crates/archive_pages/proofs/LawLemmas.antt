@@ -104,16 +104,16 @@ by_request rules day a b other_method alike = refl
 by_request rules day a b no_token alike = refl
 by_request rules day a b (asks token path) alike =
     let it = alike token path refl in
-    by_reader rules day a b path (reader_of a token) (reader_of b token) it.0.known it.0.names it.0.views it.0.merges it.1
+    by_reader rules day a b path (reader_of a token) (reader_of b token) it.0.same_tokens_known it.0.same_list_names it.0.same_views it.0.same_merging it.1
 
-pub equal_views : EqualViews
-equal_views rules day head a b alike = by_request rules day a b (request_of head) alike
+pub equal_views_give_equal_replies : EqualViews
+equal_views_give_equal_replies rules day head a b alike = by_request rules day a b (request_of head) alike
 
 -- ---- what a request asks for
 
 pub routed : (archive : Archive) (rules : List Rule) (day : ℤ) (head : RequestHead) (reader : Option (List ℕ)) (route : Route) → AsksFor archive head reader route
     → reply_of archive rules day head ≡ route_reply archive (ask_of_reader rules day reader) route
 routed archive rules day head reader route asked =
-    ap (request_reply archive rules day) asked.request
-    ∙ ap (λ o. option_map_or (path_reply archive rules day asked.path) o unauthorized) asked.who
-    ∙ ap (λ o. option_map_or (route_reply archive (ask_of_reader rules day reader)) o not_found) asked.where_to
+    ap (request_reply archive rules day) asked.request_is
+    ∙ ap (λ o. option_map_or (path_reply archive rules day asked.path) o unauthorized) asked.reader_is
+    ∙ ap (λ o. option_map_or (route_reply archive (ask_of_reader rules day reader)) o not_found) asked.route_is

@@ -119,10 +119,10 @@ module _ {S : Type 0} (g : Ghosts S) (ask : Ask) (kept later : CacheState) (old 
   pub mbox_unlisted : (before after : List ℕ) (result : Result ℕ ServeFault) → RelatesTableArchives g old mid (λ a b. (b ≡ a) × (If a → At None a)) × IsTrueOfEveryArchive g old mid (At None)
       → SendsReply (λ r. r ≡ not_found) before after result → ServesFromArchiveIf g old mid If MboxFor before after result
   mbox_unlisted before after result found sent = record {
-    sent = found_sent g before after result old mid not_found (λ a r. If a → MboxFor a r)
+    sends_from_archive = found_sent g before after result old mid not_found (λ a r. If a → MboxFor a r)
         (goes_in_as g (HoldsTables g) old mid (λ a b. (b ≡ a) × (If a → At None a)) (λ a b. (b ≡ a) × (If a → MboxFor a not_found)) (λ a b h. (h.0, (λ of. unlisted a (h.1 of)))) found.0)
         (sends_as (λ r. r ≡ not_found) (IsReplyOr503 not_found) before after result (λ r is. inl is) sent);
-    shut = λ returned shut. sends_as (λ r. r ≡ not_found) (λ r. (r ≡ unavailable) ⊎ ((a : Archive) → MboxFor a r)) before after result
+    when_store_closed = λ returned shut. sends_as (λ r. r ≡ not_found) (λ r. (r ≡ unavailable) ⊎ ((a : Archive) → MboxFor a r)) before after result
         (λ r is. inr (λ a. is ∙ unlisted a (found.1 returned shut a))) sent;
   }
     where
@@ -153,6 +153,6 @@ module _ {S : Type 0} (g : Ghosts S) (ask : Ask) (kept later : CacheState) (old 
     pub mbox_served : (new : Store S) (before after : List ℕ) (result : Result ℕ ServeFault) → StaysOpenUnlessDiskFails g mid new
         → SendsFromArchive g mid new (λ a r. r ≡ mbox_reply (mbox_text_of_lines a ask.list outline.lines)) before after result → ServesFromArchiveIf g old new If MboxFor before after result
     mbox_served new before after result lasts sent = record {
-      sent = sent_after g before after result old mid new Known (λ a r. r ≡ mbox_reply (mbox_text_of_lines a ask.list outline.lines)) (λ a r. If a → MboxFor a r) known says sent;
-      shut = λ returned shut. absurd (nowhere (found.1 (lasts.returned returned) shut empty_archive));
+      sends_from_archive = sent_after g before after result old mid new Known (λ a r. r ≡ mbox_reply (mbox_text_of_lines a ask.list outline.lines)) (λ a r. If a → MboxFor a r) known says sent;
+      when_store_closed = λ returned shut. absurd (nowhere (found.1 (lasts.disk_was_clean returned) shut empty_archive));
     }

@@ -7,7 +7,7 @@ use Rattle.policy_core.specs.declared.access.Withdrawn.{Withdrawn}
 use Rattle.policy_core.specs.declared.access.Withdrawn.TheVariants.{No}
 use Rattle.archive_model.specs.Records.{Archive}
 use Rattle.archive_model.specs.Commands.{Command, withdraw, embargo, done}
-use Rattle.archive_model.specs.Lasting.{NoCommandSatisfies, ends_withdrawal, sets_embargo}
+use Rattle.archive_model.specs.Lasting.{NoCommandSatisfies, ends_withdrawal, changes_embargo}
 use Rattle.archive_model.specs.Machine.{step}
 use Rattle.archive_model.specs.Messages.{withdrawal_number}
 use Rattle.archive_model.specs.Questions.{person_of_token}
@@ -20,7 +20,7 @@ use Rattle.archive_requests.specs.Requests.{asks, request_of}
 use Rattle.archive_requests.specs.Routes.{Route, route_of}
 use Rattle.archive_pages.specs.Answers.{reader_of, ask_of_reader, shown_view, reply_of}
 use Rattle.archive_pages.specs.Laws.{AsksFor, IsWithheldFromAskers, WithheldLeavesNoTrace, IsAsIfItNeverCame, IsHiddenInReplies, StaysAsIfItNeverCame, StaysEmbargoed, HaveSameViews, list_of_route}
-use Rattle.archive_pages.proofs.LawLemmas.{equal_views}
+use Rattle.archive_pages.proofs.LawLemmas.{equal_views_give_equal_replies}
 
 -- ---- what does not turn on messages
 
@@ -45,20 +45,20 @@ module _ (archive : Archive) (rules : List Rule) (day : ℤ) (head : RequestHead
     seen route asked x y where_to names first second =
         let both : x ≡ y = some_is x y (sym first ∙ same_reader archive never refl token ∙ second) in
         ap (map shown_message) (leaves_no_trace archive (ask_of_reader rules day x asked) list key
-        (hidden x route asked (record { token = token; path = path; request = request; who = first; where_to = where_to }) names))
+        (hidden x route asked (record { token = token; path = path; request_is = request; reader_is = first; route_is = where_to }) names))
         ∙ ap (λ (reader : Option (List ℕ)). shown_view never (ask_of_reader rules day reader asked)) both
 
     look : HaveSameViews rules day token path archive never
     look = record {
-      names = refl;
-      known = ap (λ o. is_some o) (same_reader archive never refl token);
-      merges = λ route asked where_to names. refl;
-      views = seen;
+      same_list_names = refl;
+      same_tokens_known = ap (λ o. is_some o) (same_reader archive never refl token);
+      same_merging = λ route asked where_to names. refl;
+      same_views = seen;
     }
 
 pub no_trace : WithheldLeavesNoTrace
 no_trace archive rules day head list key none hidden =
-    equal_views rules day head archive (without_message archive list key)
+    equal_views_give_equal_replies rules day head archive (without_message archive list key)
     (λ token path request. (look archive rules day head list key hidden token path request, (λ route where_to. none token path route request where_to)))
 
 -- ---- a message that was just withdrawn
@@ -69,9 +69,9 @@ asked_before : (archive : Archive) (list key : List ℕ) (by : Withdrawn) (head 
 asked_before archive list key by head reader route it = record {
   token = it.token;
   path = it.path;
-  request = it.request;
-  who = same_reader archive (step archive (withdraw list key (withdrawal_number by))).0 (sym (all_else_alike archive list key (withdrawal_number by))) it.token ∙ it.who;
-  where_to = it.where_to;
+  request_is = it.request_is;
+  reader_is = same_reader archive (step archive (withdraw list key (withdrawal_number by))).0 (sym (all_else_alike archive list key (withdrawal_number by))) it.token ∙ it.reader_is;
+  route_is = it.route_is;
 }
 
 pub promised : IsAsIfItNeverCame
@@ -98,7 +98,7 @@ WithdrawnLater = (a : Archive) (ask : Ask) (list key : List ℕ) (by : Withdrawn
 
 abbrev pub HeldBackLater : Type 0
 HeldBackLater = (a : Archive) (ask : Ask) (list key : List ℕ) (until : ℤ) (commands : List Command)
-    → (step a (embargo list key until)).1 ≡ done → NoCommandSatisfies (sets_embargo list key) commands
+    → (step a (embargo list key until)).1 ≡ done → NoCommandSatisfies (changes_embargo list key) commands
     → IsMessageHiddenIfDenied (DeniesEmbargoed until) (run (step a (embargo list key until)).0 commands).archive ask list key
 
 pub stays_withdrawn : WithdrawnLater → StaysAsIfItNeverCame

@@ -42,8 +42,8 @@ module _ {S F : Type 0} (g : Ghosts S) (old new : Store S) where
 
   -- for a reason of which more is known
   pub why_as : (result : Result Made F) (P Q : Archive → Type 0) → ((a : Archive) → P a → Q a) → EndsFindingReply g old new result P → EndsFindingReply g old new result Q
-  why_as (Ok x) P Q implies why = record { caused = why.caused; served = why.served }
-  why_as (Err e) P Q implies why = record { caused = (why.caused.0, cause_as g old new P Q implies why.caused.1); served = why.served }
+  why_as (Ok x) P Q implies why = record { fault_has_cause = why.fault_has_cause; status_is_not_503 = why.status_is_not_503 }
+  why_as (Err e) P Q implies why = record { fault_has_cause = (why.fault_has_cause.0, cause_as g old new P Q implies why.fault_has_cause.1); status_is_not_503 = why.status_is_not_503 }
 
   module _ (result : Result Made F) {asked known : Ask} (is : asked ≡ known) where
     -- found for what is asked

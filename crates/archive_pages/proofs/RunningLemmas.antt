@@ -44,13 +44,13 @@ module _ {S : Type 0} (g : Ghosts S) (mid new : Store S) (archive : Archive) (re
     sent_from : (h : RequestHead) → SendsFromArchive g mid new (λ a reply. reply ≡ reply_of a rules day h) before after result
         → SendsReply (IsReplyOr503 (reply_of archive rules day h)) before after result ⊎ IsReplyBrokenOff result (BreaksOffMbox (λ reply. reply ≡ reply_of archive rules day h) before after)
     sent_from h (inl goes) =
-        let it = ran (goes.0.returned returned) in
+        let it = ran (goes.0.disk_was_clean returned) in
         inl (sends_as (λ reply. reply ≡ reply_of (archive_in g mid) rules day h) (IsReplyOr503 (reply_of archive rules day h)) before after result
         (λ reply is. inl (subst (λ a. reply ≡ reply_of a rules day h) it.1 is)) (goes.1 returned it.0).1.1)
     sent_from h (inr (inl (goes, sent))) =
         inl (sends_as (λ reply. reply ≡ unavailable) (IsReplyOr503 (reply_of archive rules day h)) before after result (λ reply is. inr is) sent)
     sent_from h (inr (inr (goes, broken))) =
-        let it = ran (goes.0.returned returned) in
+        let it = ran (goes.0.disk_was_clean returned) in
         inr (broken_as result (λ n. StoreHasCleanDisk g new → HoldsTables g mid → BreaksOffMbox (λ reply. reply ≡ reply_of (archive_in g mid) rules day h) before after n)
         (BreaksOffMbox (λ reply. reply ≡ reply_of archive rules day h) before after)
         (λ n breaks. breaks_as (λ reply. reply ≡ reply_of (archive_in g mid) rules day h) (λ reply. reply ≡ reply_of archive rules day h) before after n
@@ -59,7 +59,7 @@ module _ {S : Type 0} (g : Ghosts S) (mid new : Store S) (archive : Archive) (re
     answered_from : (given all : List ℕ) → IsAnsweredFromStore g mid new rules day given all before after result
         → IsAnsweredFromArchive archive rules day given all before after result
     answered_from given all it = record {
-      head = λ h begins. sent_from h (it.head h begins).sent;
+      head = λ h begins. sent_from h (it.head h begins).sends_from_archive;
       direct = it.direct;
       none = λ no. (it.none no).1;
       many = it.many;
@@ -85,7 +85,7 @@ module _ {S : Type 0} (g : Ghosts S) (mid new : Store S) (archive : Archive) (re
   shut_sent : (h : RequestHead) → ServesFromArchive g mid new (λ a reply. reply ≡ reply_of a rules day h) before after result
       → SendsReply (IsReplyOr503 (reply_of archive rules day h)) before after result ⊎ IsReplyBrokenOff result (BreaksOffMbox (λ reply. reply ≡ reply_of archive rules day h) before after)
   shut_sent h serves = inl (sends_as (λ r. (r ≡ unavailable) ⊎ ((a : Archive) → r ≡ reply_of a rules day h)) (IsReplyOr503 (reply_of archive rules day h)) before after result
-      (λ r it. elim it [ inl none ↦ inr none | inr every ↦ inl (every archive) ]) (serves.shut returned shut))
+      (λ r it. elim it [ inl none ↦ inr none | inr every ↦ inl (every archive) ]) (serves.when_store_closed returned shut))
 
   shut_answered : (given all : List ℕ) → IsAnsweredFromStore g mid new rules day given all before after result
       → IsAnsweredFromArchive archive rules day given all before after result
@@ -131,7 +131,7 @@ module _ {S : Type 0} (g : Ghosts S) (old mid new : Store S) (first : Result ℕ
       → IfAnsweredOrUnread result (ReadsRequestInput told_before told_after ends_before ends_after (λ given all. IsAnsweredFromStore g mid new rules day given all before after result))
       ((given : List ℕ) × (told_after ≡ told_before ++ given) × HasNoRequest given × (after ≡ before) × RelatesTableArchives g mid new (λ a b. b ≡ a))
       → AnswersRequestFromArchive (archive_in g old) rules day told_before told_after ends_before ends_after before after result
-  answers_second was returned held said = answers_left g mid new (archive_in g old) returned (λ up. left.same.1 was held up) rules day result
+  answers_second was returned held said = answers_left g mid new (archive_in g old) returned (λ up. left.archive_is_same.1 was held up) rules day result
       told_before told_after ends_before ends_after before after said
 
 pub answers_first : {S : Type 0} (g : Ghosts S) (old mid : Store S) → StoreHasCleanDisk g mid → HoldsTables g old → (rules : List Rule) (day : ℤ)
@@ -149,7 +149,7 @@ module _ {D : Type 0} {g : DiskGhosts D} (closed opened : Held (FileStore D g)) 
     → Finds files opened → IsOpened opened → HoldsArchive over_files opened archive) where
   pub answers_reopened : AnswersFromReopenedFile closed opened files store new archive
   answers_reopened holds it returned rules day read_before read_after ends_before ends_after told_before told_after result said =
-      let found = again holds it.live it.copied it.found it.opens in
+      let found = again holds it.is_live it.is_copied it.finds_files it.is_opened in
       answers_from over_files store new archive returned
-      (λ was. it.adopted archive found was) rules day
+      (λ was. it.keeps_archive archive found was) rules day
       result read_before read_after ends_before ends_after told_before told_after said

@@ -80,9 +80,9 @@ module _ {S : Type 0} (g : Ghosts S) where
     pub serves_at_once : (store : Store S) (made : Reply) (Says : Archive → Reply → Type 0) → ((a : Archive) → Says a made)
         → SendsReply (λ r. r ≡ made) before after result → ServesFromArchive g store store Says before after result
     serves_at_once store made Says says sent = record {
-      sent = inl (goes_in_as g (HoldsTables g) store store (λ a b. b ≡ a) (λ a b. (b ≡ a) × SendsReply (Says a) before after result)
+      sends_from_archive = inl (goes_in_as g (HoldsTables g) store store (λ a b. b ≡ a) (λ a b. (b ≡ a) × SendsReply (Says a) before after result)
           (λ a b same. (same, sends_as (λ r. r ≡ made) (Says a) before after result (λ r is. subst (Says a) (sym is) (says a)) sent)) (stays_there_in g (HoldsTables g) store));
-      shut = λ returned shut. sends_as (λ r. r ≡ made) (λ r. (r ≡ unavailable) ⊎ ((a : Archive) → Says a r)) before after result
+      when_store_closed = λ returned shut. sends_as (λ r. r ≡ made) (λ r. (r ≡ unavailable) ⊎ ((a : Archive) → Says a r)) before after result
           (λ r is. inr (λ a. subst (Says a) (sym is) (says a))) sent;
     }
 
@@ -99,8 +99,8 @@ module _ {S : Type 0} (g : Ghosts S) where
         → RelatesTableArchives g old new (λ a b. (b ≡ a) × Says a made) × IsTrueOfEveryArchive g old new (λ a. Says a made)
         → SendsReply (IsReplyOr503 made) before after result → ServesFromArchive g old new Says before after result
     serves_found old new made Says goes sent = record {
-      sent = found_sent old new made Says goes.0 sent;
-      shut = λ returned shut. sends_as (IsReplyOr503 made) (λ r. (r ≡ unavailable) ⊎ ((a : Archive) → Says a r)) before after result
+      sends_from_archive = found_sent old new made Says goes.0 sent;
+      when_store_closed = λ returned shut. sends_as (IsReplyOr503 made) (λ r. (r ≡ unavailable) ⊎ ((a : Archive) → Says a r)) before after result
           (λ r it. elim it [ inl is ↦ inr (λ a. subst (Says a) (sym is) (goes.1 returned shut a)) | inr none ↦ inl none ]) sent;
     }
 
@@ -108,13 +108,13 @@ module _ {S : Type 0} (g : Ghosts S) where
     pub serves_none : (old new : Store S) (Says : Archive → Reply → Type 0) → RelatesTableArchivesIfOpen g old new (λ a b. b ≡ a)
         → SendsReply (λ r. r ≡ unavailable) before after result → ServesFromArchive g old new Says before after result
     serves_none old new Says goes sent = record {
-      sent = inr (inl (goes, sent));
-      shut = λ returned shut. sends_as (λ r. r ≡ unavailable) (λ r. (r ≡ unavailable) ⊎ ((a : Archive) → Says a r)) before after result (λ r is. inl is) sent;
+      sends_from_archive = inr (inl (goes, sent));
+      when_store_closed = λ returned shut. sends_as (λ r. r ≡ unavailable) (λ r. (r ≡ unavailable) ⊎ ((a : Archive) → Says a r)) before after result (λ r is. inl is) sent;
     }
 
     -- whatever was served, the store lasts
     pub serves_lasts : (old new : Store S) (Says : Archive → Reply → Type 0) → ServesFromArchive g old new Says before after result → StaysOpenUnlessDiskFails g old new
-    serves_lasts old new Says serves = elim serves.sent [ inl goes ↦ goes.0 | inr other ↦ elim other [ inl it ↦ it.0.0 | inr it ↦ it.0.0 ] ]
+    serves_lasts old new Says serves = elim serves.sends_from_archive [ inl goes ↦ goes.0 | inr other ↦ elim other [ inl it ↦ it.0.0 | inr it ↦ it.0.0 ] ]
 
     -- a question before
     left_after : (old mid new : Store S) (P : Archive → Type 0) → RelatesTableArchives g old mid (λ a b. (b ≡ a) × P a) → RelatesTableArchivesIfOpen g mid new (λ a b. b ≡ a)
@@ -136,17 +136,17 @@ module _ {S : Type 0} (g : Ghosts S) where
         broken_as result (λ n. StoreHasCleanDisk g new → HoldsTables g mid → BreaksOffMbox (Says (archive_in g mid)) before after n)
             (λ n. StoreHasCleanDisk g new → HoldsTables g old → BreaksOffMbox (Says' (archive_in g old)) before after n)
             (λ n breaks returned held.
-            let there = first.1 (second.0.returned returned) held in
+            let there = first.1 (second.0.disk_was_clean returned) held in
             breaks_as (Says (archive_in g mid)) (Says' (archive_in g old)) before after n
             (λ r it. says (archive_in g old) r there.1.1 (subst (λ x. Says x r) there.1.0 it)) (breaks returned there.0)) broken,
       ))
 
       pub serves_after : IsTrueOfEveryArchive g old mid P → ServesFromArchive g mid new Says before after result → ServesFromArchive g old new Says' before after result
       serves_after every second = record {
-        sent = sent_after second.sent;
-        shut = λ returned shut.
-            let was = (serves_lasts mid new Says second).returned returned in
-            of_shut_when Says Says' P says (every was shut) (second.shut returned (λ up. shut (first.0.stays_shut was up)));
+        sends_from_archive = sent_after second.sends_from_archive;
+        when_store_closed = λ returned shut.
+            let was = (serves_lasts mid new Says second).disk_was_clean returned in
+            of_shut_when Says Says' P says (every was shut) (second.when_store_closed returned (λ up. shut (first.0.closed_stays_closed was up)));
       }
 
     -- what was found, or 503
@@ -171,18 +171,18 @@ module _ {S : Type 0} (g : Ghosts S) where
 
   -- a store that nobody asked
   pub stays_unasked : (store : Store S) (result : Result ℕ ServeFault) → StoreKeepsArchive g store store result
-  stays_unasked store result = record { same = if_open g store store (λ a b. b ≡ a) (stays_there_in g (HoldsTables g) store); ready = ready_at store result }
+  stays_unasked store result = record { archive_is_same = if_open g store store (λ a b. b ≡ a) (stays_there_in g (HoldsTables g) store); ready_unless_503 = ready_at store result }
 
   module _ (before after : List ℕ) (old new : Store S) (Says : Archive → Reply → Type 0) where
     same_left : (result : Result ℕ ServeFault) → ServesFromArchive g old new Says before after result → RelatesTableArchivesIfOpen g old new (λ a b. b ≡ a)
-    same_left result serves = elim serves.sent [
+    same_left result serves = elim serves.sends_from_archive [
       | inl goes ↦ if_open g old new (λ a b. b ≡ a) (goes_in_as g (HoldsTables g) old new (λ a b. (b ≡ a) × SendsReply (Says a) before after result) (λ a b. b ≡ a) (λ a b h. h.0) goes)
       | inr other ↦ elim other [ inl it ↦ it.0 | inr it ↦ it.0 ]
     ]
 
     ready_left : (result : Result ℕ ServeFault) → ServesFromArchive g old new Says before after result
         → IfOk result (λ status. status ≢ 503 → RelatesTableArchives g old new (λ a b. b ≡ a))
-    ready_left (Ok status) serves = λ other. elim serves.sent [
+    ready_left (Ok status) serves = λ other. elim serves.sends_from_archive [
       | inl goes ↦ goes_in_as g (HoldsTables g) old new (λ a b. (b ≡ a) × SendsReply (Says a) before after (Ok status)) (λ a b. b ≡ a) (λ a b h. h.0) goes
       | inr none ↦ elim none [ inl it ↦ absurd (other (it.1.2.0 ∙ ap (λ (r : Reply). r.status) it.1.1)) | inr it ↦ absurd it.1 ]
     ]
@@ -190,7 +190,7 @@ module _ {S : Type 0} (g : Ghosts S) where
 
     -- one that a reply was made of
     pub stays_served : (result : Result ℕ ServeFault) → ServesFromArchive g old new Says before after result → StoreKeepsArchive g old new result
-    stays_served result serves = record { same = same_left result serves; ready = ready_left result serves }
+    stays_served result serves = record { archive_is_same = same_left result serves; ready_unless_503 = ready_left result serves }
 
   -- a store that was answered out of before
   pub same_after : (old mid new : Store S) → RelatesTableArchivesIfOpen g old mid (λ a b. b ≡ a) → RelatesTableArchivesIfOpen g mid new (λ a b. b ≡ a)
@@ -198,8 +198,8 @@ module _ {S : Type 0} (g : Ghosts S) where
   same_after old mid new first second = (
     lasts_then _ _ _ first.0 second.0,
     λ returned held up.
-        let was = second.0.returned returned in
-        let there = first.1 was held (second.0.stays_shut returned up) in
+        let was = second.0.disk_was_clean returned in
+        let there = first.1 was held (second.0.closed_stays_closed returned up) in
         let here = second.1 returned there.0 up in
         (here.0, here.1 ∙ there.1),
   )

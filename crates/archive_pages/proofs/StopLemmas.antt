@@ -38,10 +38,10 @@ module _ {D : Type 0} {g : Ghosts D} where
       let lists = (opens.1 opens.0.is_open).0.lists in record {
         is_open = opens.0.is_open;
         autocommit = opens.0.autocommit;
-        settled = sym opens.0.clean;
+        committed_is = sym opens.0.clean;
         schema = lists_once _ _ _ (subst (λ (t : Trees). Lists (t catalog_tree) (file_state opened).now.schema) is lists) stored.lists;
         tables = subst AreArchiveTables (sym is) stored.tables;
-        whole = tt;
+        rollback_leaves_archive = tt;
       }
 
   pub answers_behind : (old cut opened : Held (FileStore D g)) (files : Files D) (store : Store (FileStore D g)) (step : Archive → StepOutcome) (reply : Option CommandReply)
@@ -49,13 +49,13 @@ module _ {D : Type 0} {g : Ghosts D} where
       → AnswersAfterCrash old cut opened files store step reply
   answers_behind old cut opened files store step reply stops kept safe does crash clean it =
       let before = archive_of (file_state old) in
-      let there = left_by (file_state cut) before (step before).0 reply it.db it.may (stops does crash clean kept safe) in
-      let is : (file_state opened).now.trees ≡ it.db = ap (λ (d : Database). d.trees) it.opens.0.clean ∙ it.found.holds it.db it.held in
-      let held = kept_of opened it.db there.0 it.opens is there.2 in (
+      let there = left_by (file_state cut) before (step before).0 reply it.db it.crash_may_leave (stops does crash clean kept safe) in
+      let is : (file_state opened).now.trees ≡ it.db = ap (λ (d : Database). d.trees) it.is_opened.0.clean ∙ it.finds_files.holds it.db it.files_hold_database in
+      let held = kept_of opened it.db there.0 it.is_opened is there.2 in (
         there.0,
         there.1,
         λ new returned rules day read_before read_after ends_before ends_after told_before told_after result said.
             answers_from over_files store new there.0 returned
-            (λ was. let found = it.adopted.found was held in (found.0, found.1 ∙ ap archive_in_trees is ∙ there.2.remembers)) rules day
+            (λ was. let found = it.is_adopted.archive_at_rest_is_same was held in (found.0, found.1 ∙ ap archive_in_trees is ∙ there.2.archive_is)) rules day
             result read_before read_after ends_before ends_after told_before told_after said,
       )

@@ -47,10 +47,10 @@ module _ (given more before after : List ℕ) (result : Result ℕ ServeFault) w
   pub unrouted_whole : (request : Asked) → IsRequestReadOfInput given (given ++ more) (Whole request)
       → IfSome (unrouted_reply (model_request request)) (λ wanted. SendsReply (λ reply. reply ≡ wanted) before after result) → Sends404IfUnrouted (given ++ more) before after result
   unrouted_whole request is sent =
-      λ h begins. subst (λ q. IfSome (unrouted_reply q) (λ wanted. SendsReply (λ reply. reply ≡ wanted) before after result)) (is.head h begins) sent
+      λ h begins. subst (λ q. IfSome (unrouted_reply q) (λ wanted. SendsReply (λ reply. reply ≡ wanted) before after result)) (is.when_head h begins) sent
 
   pub unrouted_bad : IsRequestReadOfInput given (given ++ more) Malformed → Sends404IfUnrouted (given ++ more) before after result
-  unrouted_bad is = λ h begins. absurd (is.head h begins)
+  unrouted_bad is = λ h begins. absurd (is.when_head h begins)
 
   pub unrouted_large : IsRequestReadOfInput given (given ++ more) TooLarge → Sends404IfUnrouted (given ++ more) before after result
-  unrouted_large is = λ h begins. absurd (is.head h begins)
+  unrouted_large is = λ h begins. absurd (is.when_head h begins)

@@ -35,8 +35,8 @@ IsPagesCacheCoherent pages archive = IsCacheCoherent archive pages.policy.now pa
 
 -- What a call leaves of pages: all but what is kept is as it was; and what is kept stays so, as `KeepsCacheCoherent` says.
 pub record ChangesOnlyPagesCache {S T : Type 0} (g : Ghosts S) (old new : Store S) (pages later : Pages T) : Type 0 where
-  pub same : later ≡ record pages { kept = later.kept }
-  pub keeps : KeepsCacheCoherent g old new pages.policy.now pages.day pages.kept later.kept
+  pub only_cache_differs : later ≡ record pages { kept = later.kept }
+  pub cache_stays_coherent : KeepsCacheCoherent g old new pages.policy.now pages.day pages.kept later.kept
 
 -- ---- what is found
 
@@ -56,8 +56,8 @@ module _ {S F : Type 0} (g : Ghosts S) (old new : Store S) (result : Result Made
 
   -- Why none is found. One that is found is not 503.
   pub record EndsFindingReply (Unread : Archive → Type 0) : Type 0 where
-    pub caused : FindsOrHasCause g old new result Unread
-    pub served : IfOk result (λ reply. (model_reply reply).status ≢ 503)
+    pub fault_has_cause : FindsOrHasCause g old new result Unread
+    pub status_is_not_503 : IfOk result (λ reply. (model_reply reply).status ≢ 503)
 
 -- ---- what goes out
 
@@ -71,13 +71,13 @@ module _ {W : Type 0} (takes : Takes W) (before after : W) where
 
   -- How a reply ends: no write failed where it went out whole, and each fault has its cause.
   pub record EndsReply (result : Result ℕ ServeFault) : Type 0 where
-    pub quiet : OnOk result (takes.failures after ≡ takes.failures before)
+    pub no_failure_if_ok : OnOk result (takes.failures after ≡ takes.failures before)
     pub cause : IfErr result (λ fault. HasReplyFaultCause (takes.told before) (takes.told after) (takes.failures before) (takes.failures after) fault)
 
   -- so does one that is made in memory; and where 503 goes out in its place, memory was refused once more
   pub record EndsReplyMadeInMemory (wants_before wants_after : ℕ) (made : Reply) (result : Result ℕ ServeFault) : Type 0 where
-    pub reply : EndsReply result
-    pub counted : SendsOr503 wants_before wants_after made result
+    pub ends_reply : EndsReply result
+    pub sends_or_503 : SendsOr503 wants_before wants_after made result
 
 module _ {S W : Type 0} (g : Ghosts S) (takes : Takes W) (old new : Store S) (before after : W) (result : Result ℕ ServeFault) where
   -- the reply that is made so of what the store remembers
@@ -91,14 +91,14 @@ module _ {S W : Type 0} (g : Ghosts S) (takes : Takes W) (old new : Store S) (be
 -- How a reply out of a store ends: 503 and S3 have their cause, too.
 module _ {S W : Type 0} (g : Ghosts S) (takes : Takes W) (old new : Store S) (before after : W) (result : Result ℕ ServeFault) (Unread : Archive → Type 0) where
   pub record EndsReplyFromStore : Type 0 where
-    pub reply : EndsReply takes before after result
-    pub caused : ServesOr503 g old new result Unread
+    pub ends_reply : EndsReply takes before after result
+    pub fault_has_cause : ServesOr503 g old new result Unread
 
   -- and what it leaves of pages
   pub record EndsReplyFromPages {T : Type 0} (pages later : Pages T) : Type 0 where
-    pub reply : EndsReply takes before after result
-    pub caused : ServesOr503 g old new result Unread
-    pub keeps : ChangesOnlyPagesCache g old new pages later
+    pub ends_reply : EndsReply takes before after result
+    pub fault_has_cause : ServesOr503 g old new result Unread
+    pub changes_only_cache : ChangesOnlyPagesCache g old new pages later
 
 -- ---- a request and its reply
 

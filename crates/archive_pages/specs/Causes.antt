@@ -34,7 +34,7 @@ Sent503OrBrokeOff (Err (Broken written)) = Unit {0}
 abbrev pub SendsOr503 : (wants_before wants_after : ℕ) → Reply → Result ℕ ServeFault → Type 0
 SendsOr503 before after wanted result = (before ≤ after) × (Sent503OrBrokeOff result → (before < after) ⊎ (wanted.status ≡ 503))
 
--- ---- what of an archive cannot be read, which no command writes (a law: `what_commands_write_can_be_read`)
+-- ---- what of an archive cannot be read, which no command writes (a law: `commands_write_readable_archives`)
 
 -- what a page or an mbox of a list is made of: one of its messages, or who asks
 abbrev pub IsListDataUnreadable : Ask → Archive → Type 0
@@ -79,11 +79,11 @@ IsReadRequestDataUnreadable rules day TooLarge archive = ⊥
 
 -- what a head asks for with which the bytes begin that an input told in between
 pub record IsInputDataUnreadable (told_before told_after : List ℕ) (rules : List Rule) (day : ℤ) (archive : Archive) : Type 0 where
-  pub given : List ℕ
-  pub told : told_after ≡ told_before ++ given
+  pub input_read : List ℕ
+  pub input_is_given : told_after ≡ told_before ++ input_read
   pub head : RequestHead
-  pub begins : BeginsWithHead given head
-  pub unread : IsRequestDataUnreadable rules day (request_of head) archive
+  pub begins_with_head : BeginsWithHead input_read head
+  pub data_is_unreadable : IsRequestDataUnreadable rules day (request_of head) archive
 
 -- this is so of the archive, or who asks is nobody whom it knows
 abbrev pub IsUnreadableOrReaderUnknown : (Archive → Type 0) → (reader : Option (List ℕ)) → Archive → Type 0

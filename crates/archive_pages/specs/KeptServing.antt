@@ -25,8 +25,8 @@ module _ {S : Type 0} (g : Ghosts S) (old new : Store S) (If : Archive → Type 
 
   -- The same of what `ServesFromArchive` says.
   pub record ServesFromStoreIf (Says : Archive → Reply → Type 0) (before after : List ℕ) (result : Result ℕ ServeFault) : Type 0 where
-    pub sent : SendsFromArchive g old new (λ a reply. If a → Says a reply) before after result
-    pub shut : StoreHasCleanDisk g new → IsStoreClosed g old → SendsReply (λ reply. (reply ≡ unavailable) ⊎ ((a : Archive) → Says a reply)) before after result
+    pub sends_from_archive : SendsFromArchive g old new (λ a reply. If a → Says a reply) before after result
+    pub when_store_closed : StoreHasCleanDisk g new → IsStoreClosed g old → SendsReply (λ reply. (reply ≡ unavailable) ⊎ ((a : Archive) → Says a reply)) before after result
 
 module _ {S : Type 0} (g : Ghosts S) (old new : Store S) (If : Archive → Type 0) where
   -- whatever is counted of the store

@@ -9,7 +9,7 @@ use Rattle.policy_core.specs.declared.access.Withdrawn.{Withdrawn}
 use Rattle.policy_core.specs.declared.access.Withdrawn.TheVariants.{No}
 use Rattle.archive_model.specs.Records.{Archive, Message}
 use Rattle.archive_model.specs.Commands.{Command, withdraw, embargo, done}
-use Rattle.archive_model.specs.Lasting.{NoCommandSatisfies, ends_withdrawal, sets_embargo}
+use Rattle.archive_model.specs.Lasting.{NoCommandSatisfies, ends_withdrawal, changes_embargo}
 use Rattle.archive_model.specs.Machine.{step}
 use Rattle.archive_model.specs.Messages.{withdrawal_number}
 use Rattle.archive_model.specs.Questions.{has_list, list_names, merge_of, message_of}
@@ -31,15 +31,15 @@ use Rattle.archive_pages.specs.Answers.{reader_of, ask_of_reader, shown_view, re
 pub record AsksFor (archive : Archive) (head : RequestHead) (reader : Option (List ℕ)) (route : Route) : Type 0 where
   pub token : Option (List ℕ)
   pub path : List ℕ
-  pub request : request_of head ≡ asks token path
-  pub who : reader_of archive token ≡ Some reader
-  pub where_to : route_of path ≡ Some route
+  pub request_is : request_of head ≡ asks token path
+  pub reader_is : reader_of archive token ≡ Some reader
+  pub route_is : route_of path ≡ Some route
 
 -- for a message by its key, of a list that is there
 pub record AsksForMessage (archive : Archive) (head : RequestHead) (reader : Option (List ℕ)) (list key : List ℕ) : Type 0 where
   pub asks_for : AsksFor archive head reader (message list key)
-  pub listed : has_list archive list ≡ true
-  pub keyed : is_key key ≡ true
+  pub list_exists : has_list archive list ≡ true
+  pub key_is_valid : is_key key ≡ true
 
 -- ---- one message
 
@@ -53,24 +53,24 @@ NoRuleFits rules f = AllByRecursion (λ r. fits r f ≡ false) rules
 
 -- it fits, and no rule before it does
 pub record IsFirstToFit (rules : List Rule) (f : Facts) (rule : Rule) : Type 0 where
-  pub before : List Rule
-  pub after : List Rule
-  pub stand : rules ≡ before ++ rule ∷ after
-  pub none : NoRuleFits before f
-  pub fit : fits rule f ≡ true
+  pub rules_before : List Rule
+  pub rules_after : List Rule
+  pub rules_are : rules ≡ rules_before ++ rule ∷ rules_after
+  pub none_fits_before : NoRuleFits rules_before f
+  pub fits_facts : fits rule f ≡ true
 
 -- the first rule that fits allows it
 pub record IsAllowed (rules : List Rule) (f : Facts) : Type 0 where
   pub rule : Rule
-  pub first : IsFirstToFit rules f rule
-  pub allows : rule.allows ≡ true
+  pub is_first_to_fit : IsFirstToFit rules f rule
+  pub rule_allows : rule.allows ≡ true
 
 -- the first rule that fits denies it, and has this name
 pub record IsDeniedBy (rules : List Rule) (f : Facts) (name : List ℕ) : Type 0 where
   pub rule : Rule
-  pub first : IsFirstToFit rules f rule
-  pub denies : rule.allows ≡ false
-  pub named : rule.name ≡ name
+  pub is_first_to_fit : IsFirstToFit rules f rule
+  pub rule_denies : rule.allows ≡ false
+  pub name_is : rule.name ≡ name
 
 -- the message of this key that the list holds, and this of the facts on which the rules decide
 abbrev pub HoldsMessageWithFacts : Archive → Ask → (key : List ℕ) → (Facts → Type 0) → Type 0
@@ -78,21 +78,21 @@ HoldsMessageWithFacts archive ask key P = (m : Message) × (message_of archive a
 
 -- A message is served exactly where the list holds it and the first rule that fits allows it. Then the reply is its whole text.
 pub record ServesWhatIsAllowed (archive : Archive) (rules : List Rule) (day : ℤ) (head : RequestHead) : Type 0 where
-  pub exactly : (reader : Option (List ℕ)) (list key : List ℕ) → AsksForMessage archive head reader list key
+  pub served_iff_allowed : (reader : Option (List ℕ)) (list key : List ℕ) → AsksForMessage archive head reader list key
       → ((reply_of archive rules day head).status ≡ 200) ↔ HoldsMessageWithFacts archive (ask_of_reader rules day reader list) key (IsAllowed rules)
-  pub whole : (reader : Option (List ℕ)) (list key : List ℕ) → AsksForMessage archive head reader list key
+  pub serves_message : (reader : Option (List ℕ)) (list key : List ℕ) → AsksForMessage archive head reader list key
       → (m : Message) → message_of archive list key ≡ Some m → IsAllowed rules (facts_on archive (ask_of_reader rules day reader list) m)
       → reply_of archive rules day head ≡ message_reply m.text
 
 -- 403 is answered exactly to a request for a message that the list holds and the rules deny. Then the reply names the first rule
 -- that fits, and `default` where none fits.
 pub record DeniesWhatIsDenied (archive : Archive) (rules : List Rule) (day : ℤ) (head : RequestHead) : Type 0 where
-  pub exactly : ((reply_of archive rules day head).status ≡ 403) ↔ ((reader : Option (List ℕ)) × (list : List ℕ) × (key : List ℕ)
+  pub denied_iff_403 : ((reply_of archive rules day head).status ≡ 403) ↔ ((reader : Option (List ℕ)) × (list : List ℕ) × (key : List ℕ)
       × AsksForMessage archive head reader list key
       × HoldsMessageWithFacts archive (ask_of_reader rules day reader list) key (λ f. ((name : List ℕ) × IsDeniedBy rules f name) ⊎ NoRuleFits rules f))
-  pub named : (reader : Option (List ℕ)) (list key name : List ℕ) → AsksForMessage archive head reader list key
+  pub names_first_rule : (reader : Option (List ℕ)) (list key name : List ℕ) → AsksForMessage archive head reader list key
       → HoldsMessageWithFacts archive (ask_of_reader rules day reader list) key (λ f. IsDeniedBy rules f name) → reply_of archive rules day head ≡ forbidden name
-  pub default : (reader : Option (List ℕ)) (list key : List ℕ) → AsksForMessage archive head reader list key
+  pub names_default : (reader : Option (List ℕ)) (list key : List ℕ) → AsksForMessage archive head reader list key
       → HoldsMessageWithFacts archive (ask_of_reader rules day reader list) key (NoRuleFits rules) → reply_of archive rules day head ≡ forbidden (codes "default")
 
 -- ---- listings
@@ -140,10 +140,10 @@ is_message_route (mbox list) = false
 -- the path names is threaded alike in both, and what the two readers are shown of it is equal in key, sender, arrival and whole
 -- text.
 pub record HaveSameViews (rules : List Rule) (day : ℤ) (token : Option (List ℕ)) (path : List ℕ) (a b : Archive) : Type 0 where
-  pub names : list_names a ≡ list_names b
-  pub known : is_some (reader_of a token) ≡ is_some (reader_of b token)
-  pub merges : (route : Route) (list : List ℕ) → route_of path ≡ Some route → list_of_route route ≡ Some list → merge_of a list ≡ merge_of b list
-  pub views : (route : Route) (list : List ℕ) (x y : Option (List ℕ)) → route_of path ≡ Some route → list_of_route route ≡ Some list
+  pub same_list_names : list_names a ≡ list_names b
+  pub same_tokens_known : is_some (reader_of a token) ≡ is_some (reader_of b token)
+  pub same_merging : (route : Route) (list : List ℕ) → route_of path ≡ Some route → list_of_route route ≡ Some list → merge_of a list ≡ merge_of b list
+  pub same_views : (route : Route) (list : List ℕ) (x y : Option (List ℕ)) → route_of path ≡ Some route → list_of_route route ≡ Some list
       → reader_of a token ≡ Some x → reader_of b token ≡ Some y
       → shown_view a (ask_of_reader rules day x list) ≡ shown_view b (ask_of_reader rules day y list)
 
@@ -200,5 +200,5 @@ StaysAsIfItNeverCame = (archive : Archive) (list key : List ℕ) (by : Withdrawn
 -- and so it is of one that is held back up to a day, whatever is commanded but to set its embargo anew or to lift it.
 abbrev pub StaysEmbargoed : Type 0
 StaysEmbargoed = (archive : Archive) (list key : List ℕ) (until : ℤ) (commands : List Command)
-    → (step archive (embargo list key until)).1 ≡ done → NoCommandSatisfies (sets_embargo list key) commands
+    → (step archive (embargo list key until)).1 ≡ done → NoCommandSatisfies (changes_embargo list key) commands
     → IsHiddenInReplies (DeniesEmbargoed until) (run (step archive (embargo list key until)).0 commands).archive list key

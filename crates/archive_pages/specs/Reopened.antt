@@ -20,13 +20,13 @@ module _ {D : Type 0} {g : Ghosts D} where
   -- what the calls say of a file from its close on: each field is a clause of the call that it names
   pub record IsReopened (closed opened : Held (FileStore D g)) (files : Files D) (store : Store (FileStore D g)) : Type 0 where
     -- `close_files`: the connection was live, and these files are what it held, if their disk returns what was written
-    pub live : IsLive (file_state closed)
-    pub copied : AreClean g files.log files.db → IsCopied closed files
+    pub is_live : IsLive (file_state closed)
+    pub is_copied : AreClean g files.log files.db → IsCopied closed files
     -- `open_files`
-    pub found : Finds files opened
-    pub opens : IsOpened opened
+    pub finds_files : Finds files opened
+    pub is_opened : IsOpened opened
     -- `Store::adopt`
-    pub adopted : (archive : Archive) → HoldsArchive over_files opened archive → StoreHasCleanDisk over_files store
+    pub keeps_archive : (archive : Archive) → HoldsArchive over_files opened archive → StoreHasCleanDisk over_files store
         → HoldsTables over_files store × (archive_in over_files store ≡ archive)
 
   -- the clause of `answer`

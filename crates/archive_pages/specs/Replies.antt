@@ -11,8 +11,8 @@ use Rattle.archive_pages.specs.declared.faults.ServeFault.TheVariants.{Read, Wri
 pub record Reply : Type 0 where
   pub status : ℕ
   pub content_type : List ℕ
-  pub sized : Bool
-  pub more : List (List ℕ)
+  pub has_content_length : Bool
+  pub extra_headers : List (List ℕ)
   pub body : List ℕ
 
 -- ---- its bytes
@@ -22,13 +22,13 @@ abbrev pub head_line : List ℕ → List ℕ
 head_line text = text ++ codes "\r\n"
 
 abbrev pub content_length_lines : Reply → List (List ℕ)
-content_length_lines r = if r.sized then (codes "Content-Length: " ++ decimal (length r.body)) ∷ [] else []
+content_length_lines r = if r.has_content_length then (codes "Content-Length: " ++ decimal (length r.body)) ∷ [] else []
 
 -- the status with its canonical phrase, and the fields of the head, in this order
 abbrev pub head_lines : Reply → List (List ℕ)
 head_lines r =
     (codes "HTTP/1.1 " ++ status_text r.status) ∷ (codes "Content-Type: " ++ r.content_type) ∷ content_length_lines r
-    ++ r.more ++ codes "Connection: close" ∷ []
+    ++ r.extra_headers ++ codes "Connection: close" ∷ []
 
 -- the head ends with an empty line
 unfoldable pub head_bytes : Reply → List ℕ
@@ -40,7 +40,7 @@ reply_bytes r = head_bytes r ++ r.body
 -- ---- replies that tell their length
 
 abbrev pub reply_with_length : (status : ℕ) → (content_type body : List ℕ) → Reply
-reply_with_length status content_type body = record { status = status; content_type = content_type; sized = true; more = []; body = body }
+reply_with_length status content_type body = record { status = status; content_type = content_type; has_content_length = true; extra_headers = []; body = body }
 
 -- ---- status 200
 
@@ -53,13 +53,13 @@ message_reply text = reply_with_length 200 (codes "message/rfc822") text
 
 -- an mbox (RFC 4155): it ends with the connection
 abbrev pub mbox_reply : (text : List ℕ) → Reply
-mbox_reply text = record { status = 200; content_type = codes "application/mbox"; sized = false; more = []; body = text }
+mbox_reply text = record { status = 200; content_type = codes "application/mbox"; has_content_length = false; extra_headers = []; body = text }
 
 -- ---- every other status
 
 abbrev pub plain_text_reply : (status : ℕ) → (more : List (List ℕ)) → (body : List ℕ) → Reply
 plain_text_reply status more body =
-    record { status = status; content_type = codes "text/plain; charset=us-ascii"; sized = true; more = more; body = body }
+    record { status = status; content_type = codes "text/plain; charset=us-ascii"; has_content_length = true; extra_headers = more; body = body }
 
 -- its body is the status in words
 abbrev pub status_text_reply : (status : ℕ) → (more : List (List ℕ)) → Reply

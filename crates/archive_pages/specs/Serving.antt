@@ -32,9 +32,9 @@ module _ {S : Type 0} (g : Ghosts S) (old new : Store S) where
       × IsReplyBrokenOff result (λ written. StoreHasCleanDisk g new → HoldsTables g old → BreaksOffMbox (Says (archive_in g old)) before after written)))
 
   pub record ServesFromStore (Says : Archive → Reply → Type 0) (before after : List ℕ) (result : Result ℕ ServeFault) : Type 0 where
-    pub sent : SendsFromArchive Says before after result
+    pub sends_from_archive : SendsFromArchive Says before after result
     -- out of a store that is shut 503, or a reply that is the same for every archive
-    pub shut : StoreHasCleanDisk g new → IsStoreClosed g old → SendsReply (λ reply. (reply ≡ unavailable) ⊎ ((a : Archive) → Says a reply)) before after result
+    pub when_store_closed : StoreHasCleanDisk g new → IsStoreClosed g old → SendsReply (λ reply. (reply ≡ unavailable) ⊎ ((a : Archive) → Says a reply)) before after result
 
 module _ {S : Type 0} (g : Ghosts S) (old new : Store S) where
   -- whatever is counted of the store
@@ -44,5 +44,5 @@ module _ {S : Type 0} (g : Ghosts S) (old new : Store S) where
   -- What an answer leaves of a store, whatever the request and the reply, and whatever the fault: the same archive, if the
   -- connection is still open; and where a reply other than 503 went out, it is open, and ready for the next request.
   pub record StoreKeepsArchive (result : Result ℕ ServeFault) : Type 0 where
-    pub same : RelatesTableArchivesIfOpen g old new (λ a b. b ≡ a)
-    pub ready : IfOk result (λ status. status ≢ 503 → RelatesTableArchives g old new (λ a b. b ≡ a))
+    pub archive_is_same : RelatesTableArchivesIfOpen g old new (λ a b. b ≡ a)
+    pub ready_unless_503 : IfOk result (λ status. status ≢ 503 → RelatesTableArchives g old new (λ a b. b ≡ a))

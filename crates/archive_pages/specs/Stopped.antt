@@ -24,13 +24,13 @@ module _ {D : Type 0} {g : Ghosts D} where
   -- follows are clauses of the calls that are named.
   pub record IsOpenedAfterCrash (cut opened : Held (FileStore D g)) (files : Files D) (store : Store (FileStore D g)) : Type 0 where
     pub db : Trees
-    pub may : (file_state cut).may_leave db
-    pub held : HoldsDatabase (image_of g files) db
+    pub crash_may_leave : (file_state cut).may_leave db
+    pub files_hold_database : HoldsDatabase (image_of g files) db
     -- `open_files`
-    pub found : Finds files opened
-    pub opens : IsOpened opened
+    pub finds_files : Finds files opened
+    pub is_opened : IsOpened opened
     -- `Store::adopt`
-    pub adopted : IsAdopted over_files opened store
+    pub is_adopted : IsAdopted over_files opened store
 
   -- A command to a connection of which a stop leaves what it remembers, as it is between calls, and a stop in the command or behind it. Then
   -- there is one archive out of which each request to the file that is opened again is answered: the one before the command, or the one

@@ -22,7 +22,7 @@ ghost use Rattle.archive_pages.specs.Reopened.{AnswersFromReopenedFile};
 ghost use Rattle.archive_pages.specs.Serving.{StoreKeepsArchive};
 ghost use Rattle.archive_pages.specs.Stopped.{AnswersAfterCrash};
 
-use archive_results::laws::what_is_withheld_is_so_later;
+use archive_results::laws::a_withheld_message_stays_withheld;
 use archive_store::laws::{
     a_crash_leaves_the_archive_before_a_command_or_after_it,
     a_file_opened_again_holds_the_same_archive,
@@ -32,15 +32,15 @@ use sqlite_disk::Disk;
 /// Where two archives have the same list names, a request's token is a person's in both or in
 /// neither, and the list is threaded alike in both and the readers' views of it are equal, the
 /// replies are equal byte for byte, but where one message is asked for by its key.
-#[tactic(auto, using(crate::proofs::LawLemmas::equal_views))]
-pub fn equal_views()
+#[tactic(auto, using(crate::proofs::LawLemmas::equal_views_give_equal_replies))]
+pub fn equal_views_give_equal_replies()
     ensures { EqualViews }
 {}
 
 /// A message is served, whole, exactly where the list holds it and the first rule that fits allows
 /// it.
 #[tactic(auto, using(crate::proofs::AccessLaws::serves))]
-pub fn what_is_allowed_is_served()
+pub fn an_allowed_message_is_served()
     ensures { (archive : Archive) (rules : List Rule) (day : ℤ) (head : RequestHead)
         → ServesWhatIsAllowed archive rules day head }
 {}
@@ -48,7 +48,7 @@ pub fn what_is_allowed_is_served()
 /// 403 is answered exactly to a request for a message that the list holds and the policy denies,
 /// with the name of the first rule that fits, and `default` where none fits.
 #[tactic(auto, using(crate::proofs::AccessLaws::denies))]
-pub fn what_is_denied_is_denied_by_its_rule()
+pub fn a_denied_message_gets_403_by_its_rule()
     ensures { (archive : Archive) (rules : List Rule) (day : ℤ) (head : RequestHead)
         → DeniesWhatIsDenied archive rules day head }
 {}
@@ -56,7 +56,7 @@ pub fn what_is_denied_is_denied_by_its_rule()
 /// Month, author, threads, thread and mbox are the results of RFC 5256 and RFC 4155 over the
 /// messages that the policy allows, alone.
 #[tactic(auto, using(crate::proofs::AccessLaws::shows))]
-pub fn results_are_of_what_is_allowed()
+pub fn results_depend_on_allowed_messages_only()
     ensures { (archive : Archive) (rules : List Rule) (day : ℤ) (head : RequestHead)
         → ShowsWhatIsAllowed archive rules day head }
 {}
@@ -64,25 +64,25 @@ pub fn results_are_of_what_is_allowed()
 /// What is withheld leaves no trace: the pages, the listings and the mbox of a reader to whom the
 /// policy does not show a message are those of the archive in which it never came, byte for byte.
 /// That is so of every archive, and so at any time, and of whatever hides the message.
-pub fn what_is_withheld_leaves_no_trace()
+pub fn a_withheld_message_leaves_no_trace()
     ensures always { WithheldLeavesNoTrace }
     ensures withdrawn { StaysAsIfItNeverCame }
     ensures held_back { StaysEmbargoed }
 {
-    what_is_withheld_is_so_later();
+    a_withheld_message_stays_withheld();
 }
 
 /// What an author is promised. Once a message is withdrawn, by its author or the board, the pages,
 /// the listings and the mbox of each reader who did not write it, and to whom the policy denies what
 /// this party withdrew, are those of the archive in which it never came, byte for byte.
-pub fn what_is_withdrawn_might_never_have_come()
+pub fn a_withdrawn_message_might_never_have_arrived()
     ensures { IsAsIfItNeverCame }
 {}
 
 /// A request to a file that was closed, opened again and taken over is answered out of the archive
 /// that the file held when it was closed, so out of the machine's run of the commands that made it:
 /// over any disk that keeps the clauses of `Disk` and returns what was written to it.
-pub fn a_file_opened_again_is_answered_alike<D: Disk>()
+pub fn a_reopened_file_gives_the_same_replies<D: Disk>()
     ensures { (closed opened : Held (FileStore D D.Disk)) (files : Files D)
         (store new : Store (FileStore D D.Disk)) (archive : Archive)
         → AnswersFromReopenedFile closed opened files store new archive }
@@ -94,7 +94,7 @@ pub fn a_file_opened_again_is_answered_alike<D: Disk>()
 /// the one behind it, and behind a command that was answered out of the latter alone. The clauses `step` and `crash` of the command
 /// are said of the end of a call, over any disk: over one that is frozen from some access on, a command ends with what a stop at
 /// that access leaves.
-pub fn a_file_opened_after_a_stop_is_answered_for_one_of_the_two<D: Disk>()
+pub fn a_file_opened_after_a_crash_gives_replies_of_before_or_after<D: Disk>()
     ensures { (old cut opened : Held (FileStore D D.Disk)) (files : Files D)
         (store : Store (FileStore D D.Disk)) (step : Archive → StepOutcome) (reply : Option CommandReply)
         → AnswersAfterCrash old cut opened files store step reply }
@@ -104,7 +104,7 @@ pub fn a_file_opened_after_a_stop_is_answered_for_one_of_the_two<D: Disk>()
 
 /// In memory each request is followed by the next, whatever was answered, 503 too: the store is
 /// ready for it, and remembers the same archive.
-pub fn in_memory_each_request_is_followed_by_the_next()
+pub fn in_memory_each_request_leaves_the_store_ready()
     ensures { (old new : Store MemStore) (result : Result ℕ ServeFault)
         → StoreKeepsArchive over_memory old new result
         → RelatesTableArchives over_memory old new (λ a b. b ≡ a) }

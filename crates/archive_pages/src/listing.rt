@@ -70,7 +70,7 @@ pub(crate) fn find_month<T: Threader, S: Alter>(
     let Some(outline) = kept.outline(place) else {
         return Err(Unavailable);
     };
-    match month_page(alloc, ask.list, asked, outline.lines()) {
+    match month_page(alloc, ask.list, asked, outline.text()) {
         Ok(page) => Ok(Reply::Page(page)),
         Err(refused) => {
             store.wants.increment(refused.into());
@@ -108,7 +108,7 @@ pub(crate) fn find_author<T: Threader, S: Alter>(
     let Some(outline) = kept.outline(place) else {
         return Err(Unavailable);
     };
-    match author_page(alloc, ask.list, &key, outline.lines()) {
+    match author_page(alloc, ask.list, &key, outline.text()) {
         Ok(page) => Ok(Reply::Page(page)),
         Err(refused) => {
             store.wants.increment(refused.into());

@@ -8,7 +8,7 @@ use crate::faults::ServeFault;
 use crate::replies::{Failure, Reply};
 use archive_store::RefusalCounter;
 use http::StatusCode;
-use mbox_core::device::{Sink, write_bytes, write_two};
+use mbox_core::device::{Sink, write_bytes, write_two_slices};
 use std::alloc::{AllocError, Global};
 
 /// Writes a reply that no request changes. It takes no memory.
@@ -61,7 +61,7 @@ fn write_sized<W: Sink>(
             return write_failure(output, Failure::Unavailable);
         }
     };
-    match write_two(output, head.as_bytes(), body) {
+    match write_two_slices(output, head.as_bytes(), body) {
         Ok(()) => Ok(status),
         Err(fault) => Err(ServeFault::from(fault)),
     }

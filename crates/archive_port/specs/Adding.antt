@@ -25,9 +25,9 @@ HasAddedFirstItems list items done a b = (done ≤ length items) × (b ≡ (take
 
 -- after the items before this place the list holds 50,000 messages, and the machine refuses the next for that
 pub record IsListFullAt (a : Archive) (list : List ℕ) (items : List Item) (at : ℕ) : Type 0 where
-  pub within : at < length items
-  pub full : 50000 ≤ length (messages_in (taken a list (take at items)).archive list)
-  pub refuses : (taken a list (take (at + 1) items)).replies ≡ (taken a list (take at items)).replies ++ refused list_full ∷ []
+  pub at_in_range : at < length items
+  pub list_is_full : 50000 ≤ length (messages_in (taken a list (take at items)).archive list)
+  pub item_is_refused : (taken a list (take (at + 1) items)).replies ≡ (taken a list (take at items)).replies ++ refused list_full ∷ []
 
 -- why items are refused from this place on
 abbrev pub IsRefusedAt : Archive → List ℕ → List Item → ℕ → Refusal → Type 0

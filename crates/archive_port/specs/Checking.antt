@@ -14,6 +14,6 @@ damaged_list_and_key (Failed fault) = None
 -- What Ok says of an archive: every message is undamaged. So each can be written to an mbox as it is, under the key of its text, and
 -- what is filed of each is what its text says: a store that holds these tables is ready.
 pub record PassesCheck (archive : Archive) : Type 0 where
-  pub whole : HasNoDamagedMessage archive
-  pub sound : HasSoundMessages archive
+  pub has_no_damage : HasNoDamagedMessage archive
+  pub messages_are_sound : HasSoundMessages archive
   pub is_indexed_correctly : IsIndexedCorrectly archive

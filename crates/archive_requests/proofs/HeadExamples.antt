@@ -44,12 +44,12 @@ reads n rest same = (
 -- lines end with CR LF or LF, an empty line may stand before the head, and what follows the head is no part of it
 a_head : BeginsWithHead (codes "\nGET / HTTP/1.1\r\nHost: a\n\r\nGET /x HTTP/1.1\r\n\r\n") (head (host ∷ []))
 unfolding print_request
-a_head = record { rest = codes "GET /x HTTP/1.1\r\n\r\n"; reads = reads 1 _ refl; short = omega arith; few = omega arith }
+a_head = record { after_head = codes "GET /x HTTP/1.1\r\n\r\n"; reads_head = reads 1 _ refl; at_most_8192 = omega arith; at_most_64_fields = omega arith }
 
 sixty_four_fields : BeginsWithHead (with_hosts 64 []) (head (hosts 64))
 unfolding print_request
-sixty_four_fields = record { rest = []; reads = reads 64 [] refl; short = omega arith; few = omega arith }
+sixty_four_fields = record { after_head = []; reads_head = reads 64 [] refl; at_most_8192 = omega arith; at_most_64_fields = omega arith }
 
 sixty_five_fields : BeginsWithTooManyFields (with_hosts 65 []) (head (hosts 65))
 unfolding print_request
-sixty_five_fields = record { rest = []; reads = reads 65 [] refl; short = omega arith; many = omega arith }
+sixty_five_fields = record { after_head = []; reads_head = reads 65 [] refl; at_most_8192 = omega arith; over_64_fields = omega arith }

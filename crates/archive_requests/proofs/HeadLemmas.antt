@@ -33,25 +33,25 @@ head_fits buf h rest x =
 pub begins : (buf : List ℕ) (headers : List HeaderSpan) (r : RequestSpans) → length headers ≡ 64 → length buf ≤ 8192
     → (h : RequestHead) → IsRequestAt buf headers r h → BeginsWithHead buf h
 begins buf headers r n short h at = record {
-  rest = drop r.len buf;
-  reads = at.reads;
-  short = let l = head_fits buf h (drop r.len buf) at.reads in omega (arith, l, short);
-  few = few_fields buf headers r n h at;
+  after_head = drop r.len buf;
+  reads_head = at.reads;
+  at_most_8192 = let l = head_fits buf h (drop r.len buf) at.reads in omega (arith, l, short);
+  at_most_64_fields = few_fields buf headers r n h at;
 }
 
 -- then no head of more fields is there
 pub not_more : (buf : List ℕ) (h k : RequestHead) → BeginsWithHead buf h → BeginsWithTooManyFields buf k → ⊥
 not_more buf h k b x =
-    let u = request_unique buf h k b.rest x.rest b.reads x.reads in
+    let u = request_unique buf h k b.after_head x.after_head b.reads_head x.reads_head in
     let same = ap (λ (g : RequestHead). length g.fields) u.0 in
-    let a = b.few in
-    let z = x.many in
+    let a = b.at_most_64_fields in
+    let z = x.over_64_fields in
     omega (arith, same, a, z)
 
 -- what follows leaves the head as it is
 pub stays : (buf more : List ℕ) (h k : RequestHead) → BeginsWithHead buf h → BeginsWithHead (buf ++ more) k → BeginsWithHead buf k
 stays buf more h k b x =
-    let u = request_prefix_free buf more h k b.rest x.rest b.reads x.reads in
+    let u = request_prefix_free buf more h k b.after_head x.after_head b.reads_head x.reads_head in
     rw u.0 at b
 
 -- bytes that never have a head begin with none
@@ -62,7 +62,7 @@ never_none buf h rest never x = never [] h (rest ++ []) (ReadsRequest-append buf
 pub is_it : (buf : List ℕ) (headers : List HeaderSpan) (r : RequestSpans) (h k : RequestHead)
     → IsRequestAt buf headers r h → BeginsWithHead buf k → IsRequestAt buf headers r k
 is_it buf headers r h k at b =
-    let u = request_unique buf h k (drop r.len buf) b.rest at.reads b.reads in
+    let u = request_unique buf h k (drop r.len buf) b.after_head at.reads b.reads_head in
     rw u.0 at at
 
 -- the first n bytes of a text that begins with no more than n bytes
@@ -87,15 +87,16 @@ never_cut n buf more le never can =
 -- the head of a beginning is in the first 8,192 bytes of the whole
 pub has_front : (buf more : List ℕ) (h : RequestHead) → BeginsWithHead buf h → HasNoRequest (take 8192 (buf ++ more)) → ⊥
 has_front buf more h b none =
-    none h (take (8192 - length (print_request h)) (b.rest ++ more)) (in_front 8192 (buf ++ more) h (b.rest ++ more) b.short (ReadsRequest-append buf h b.rest more b.reads))
+    none h (take (8192 - length (print_request h)) (b.after_head ++ more))
+    (in_front 8192 (buf ++ more) h (b.after_head ++ more) b.at_most_8192 (ReadsRequest-append buf h b.after_head more b.reads_head))
 
 -- what follows leaves a head of more fields as it is
 pub more_stays : (buf more : List ℕ) (h k : RequestHead) → BeginsWithHead buf h → BeginsWithTooManyFields (buf ++ more) k → ⊥
 more_stays buf more h k b x =
-    let u = request_prefix_free buf more h k b.rest x.rest b.reads x.reads in
+    let u = request_prefix_free buf more h k b.after_head x.after_head b.reads_head x.reads_head in
     let same = ap (λ (g : RequestHead). length g.fields) u.0 in
-    let a = b.few in
-    let z = x.many in
+    let a = b.at_most_64_fields in
+    let z = x.over_64_fields in
     omega (arith, same, a, z)
 
 -- a text whose last byte is a line feed

@@ -24,25 +24,25 @@ pub data Carries (given : List ℕ) : HeadRead → RequestRead → Type 0 where
 request_as : (given all : List ℕ) (read : HeadRead) (request : RequestRead) → Carries given read request
     → IsHeadReadOfInput given all read → IsRequestReadOfInput given all request
 request_as given all _ _ (whole head request says) x = record {
-  head = λ h b. says h (x.head h b);
-  whole = (x.whole.0, x.whole.1, says x.whole.0 x.whole.2);
-  many = λ h e. absurd (let no : heads.Whole head ≡ heads.TooLarge = x.many h e in cc);
-  long = λ l n c. absurd (let no : heads.Whole head ≡ heads.TooLarge = x.long l n c in cc);
-  large = λ e. absurd (let no : requests.Whole request ≡ requests.TooLarge = e in cc);
+  when_head = λ h b. says h (x.when_head h b);
+  when_read = (x.when_read.0, x.when_read.1, says x.when_read.0 x.when_read.2);
+  when_too_many_fields = λ h e. absurd (let no : heads.Whole head ≡ heads.TooLarge = x.when_too_many_fields h e in cc);
+  when_too_long = λ l n c. absurd (let no : heads.Whole head ≡ heads.TooLarge = x.when_too_long l n c in cc);
+  too_large_means_too_long = λ e. absurd (let no : requests.Whole request ≡ requests.TooLarge = e in cc);
 }
 request_as given all _ _ bad x = record {
-  head = λ h b. x.head h b;
-  whole = tt;
-  many = λ h e. absurd (let no : heads.Bad ≡ heads.TooLarge = x.many h e in cc);
-  long = λ l n c. absurd (let no : heads.Bad ≡ heads.TooLarge = x.long l n c in cc);
-  large = λ e. absurd (let no : requests.Malformed ≡ requests.TooLarge = e in cc);
+  when_head = λ h b. x.when_head h b;
+  when_read = tt;
+  when_too_many_fields = λ h e. absurd (let no : heads.Bad ≡ heads.TooLarge = x.when_too_many_fields h e in cc);
+  when_too_long = λ l n c. absurd (let no : heads.Bad ≡ heads.TooLarge = x.when_too_long l n c in cc);
+  too_large_means_too_long = λ e. absurd (let no : requests.Malformed ≡ requests.TooLarge = e in cc);
 }
 request_as given all _ _ large x = record {
-  head = λ h b. x.head h b;
-  whole = tt;
-  many = λ h e. refl;
-  long = λ l n c. refl;
-  large = λ e. x.large refl;
+  when_head = λ h b. x.when_head h b;
+  when_read = tt;
+  when_too_many_fields = λ h e. refl;
+  when_too_long = λ l n c. refl;
+  too_large_means_too_long = λ e. x.too_large_means_too_long refl;
 }
 
 module _ (before after : List ℕ) (met meets : ℕ) where
@@ -61,24 +61,24 @@ module _ (before after : List ℕ) (met meets : ℕ) where
       → (h : RequestHead) × BeginsWithHead c.0 h × HasSpansOfHead c.0 h head
   came_whole buffer head c =
       elim c.3 [
-        | inl ended ↦ ended.2.whole
-        | inr settled ↦ (settled.1 []).whole
+        | inl ended ↦ ended.2.when_read
+        | inr settled ↦ (settled.1 []).when_read
       ]
 
   -- the bytes that came are the front of the buffer
   pub came_front : (buffer : List ℕ) (head : Head) (c : Came buffer (heads.Whole head)) → take head.filled buffer ≡ c.0
-  came_front buffer head c = ap (λ n. take n buffer) (came_whole buffer head c).2.filled ∙ sym c.2
+  came_front buffer head c = ap (λ n. take n buffer) (came_whole buffer head c).2.filled_is_length ∙ sym c.2
 
   pub came_fits : (buffer : List ℕ) (head : Head) → Came buffer (heads.Whole head) → head.filled ≤ length buffer
   came_fits buffer head c =
       let size = ap length c.2 ∙ length-take (length c.0) buffer in
-      let filled = (came_whole buffer head c).2.filled in
+      let filled = (came_whole buffer head c).2.filled_is_length in
       omega (arith, size, filled)
 
   pub came_within : (buffer : List ℕ) (head : Head) → Came buffer (heads.Whole head)
       → IsRequestWithin (take head.filled buffer) head.fields head.spans
   came_within buffer head c =
-      subst (λ bytes. IsRequestWithin bytes head.fields head.spans) (sym (came_front buffer head c)) (came_whole buffer head c).2.within
+      subst (λ bytes. IsRequestWithin bytes head.fields head.spans) (sym (came_front buffer head c)) (came_whole buffer head c).2.spans_in_range
 
   pub asked : (buffer : List ℕ) (read : HeadRead) (request : RequestRead) (c : Came buffer read) → Carries c.0 read request → Asked request
   asked buffer read request c carries =

@@ -23,14 +23,14 @@ IsRequestOfGivenHead given TooLarge = ⊤
 -- What was read of an input whose bytes are all of these, of which the given ones came.
 pub record IsRequestReadOfInput (given all : List ℕ) (read : RequestRead) : Type 0 where
   -- what the head that the input begins with asks for, and else no request
-  pub head : (h : RequestHead) → BeginsWithHead all h → IsRequestOfHead h read
-  pub whole : IsRequestOfGivenHead given read
+  pub when_head : (h : RequestHead) → BeginsWithHead all h → IsRequestOfHead h read
+  pub when_read : IsRequestOfGivenHead given read
   -- too large where it begins with a head of more fields
-  pub many : (h : RequestHead) → BeginsWithTooManyFields all h → read ≡ TooLarge
+  pub when_too_many_fields : (h : RequestHead) → BeginsWithTooManyFields all h → read ≡ TooLarge
   -- too large where its first 8,192 bytes hold no head and could still become one
-  pub long : 8192 ≤ length all → HasNoRequest (take 8192 all) → CanBecomeHead (take 8192 all) → read ≡ TooLarge
+  pub when_too_long : 8192 ≤ length all → HasNoRequest (take 8192 all) → CanBecomeHead (take 8192 all) → read ≡ TooLarge
   -- and else only where so many bytes came, or more than 64 whole fields
-  pub large : read ≡ TooLarge → (8192 ≤ length given) ⊎ RequestExceeds 64 given
+  pub too_large_means_too_long : read ≡ TooLarge → (8192 ≤ length given) ⊎ RequestExceeds 64 given
 
 -- Whatever bytes follow, it is what is read of the whole input.
 abbrev pub IsRequestReadFinal : List ℕ → RequestRead → Type 0

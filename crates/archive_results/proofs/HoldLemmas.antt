@@ -77,7 +77,8 @@ module _ (each : (entries : List Entry) (merge : Bool) → HasEachPlaceOnce (len
       let at : ℕ = position_or_len (λ l. bytes_eq l.key key) (lines_of view) in
       let below : at < length (lines_of view) = position_within (λ l. bytes_eq l.key key) (lines_of view) passes in
       let low : at < length (map (λ s. thread_entry_of s.item) view) = omega (arith, below, same_length view) in
-      let there : list_any (is_row_of at) (thread_rows_of merge view) ≡ true = row_there at (thread_rows_of merge view) ((each (map (λ s. thread_entry_of s.item) view) merge).once at low) in
+      let there : list_any (is_row_of at) (thread_rows_of merge view) ≡ true = row_there at (thread_rows_of merge view)
+      ((each (map (λ s. thread_entry_of s.item) view) merge).each_place_once at low) in
       ap (λ (o : Option ℕ). is_none (thread_at merge view o)) (position_some (λ l. bytes_eq l.key key) (lines_of view) passes)
       ∙ ap (λ (o : Option ℕ). is_none (thread_from merge view at o)) (position_some (is_row_of at) (thread_rows_of merge view) there)
 

@@ -30,7 +30,7 @@ by_found : (archive : Archive) (ask : Ask) (m : Message) (person : List ℕ) (ad
     → is_own_by_address address m ≡ true → IsOwnMessage archive ask m
 by_found archive ask m person None is found own = absurd (true≢false (sym own))
 by_found archive ask m person (Some text) is found own =
-    record { person = person; reader = is; address = found ∙ ap (λ (t : List ℕ). Some t) ((bytes_eq-Decides text (author_of m.text)).0 own) }
+    record { person = person; reader_is_person = is; address_is_author = found ∙ ap (λ (t : List ℕ). Some t) ((bytes_eq-Decides text (author_of m.text)).0 own) }
 
 by_named : (archive : Archive) (ask : Ask) (m : Message) (reader : Option (List ℕ)) → ask.reader ≡ reader → is_own_by_address (option_and_then (address_of archive) reader) m ≡ true
     → IsOwnMessage archive ask m
@@ -39,8 +39,8 @@ by_named archive ask m (Some person) is own = by_found archive ask m person (add
 
 of_words : (archive : Archive) (ask : Ask) (m : Message) → IsOwnMessage archive ask m → is_own_by_address (reader_facts archive ask).address m ≡ true
 of_words archive ask m it =
-    ap (λ (reader : Option (List ℕ)). is_own_by_address (option_and_then (address_of archive) reader) m) it.reader
-    ∙ ap (λ (address : Option (List ℕ)). is_own_by_address address m) it.address ∙ itself (author_of m.text)
+    ap (λ (reader : Option (List ℕ)). is_own_by_address (option_and_then (address_of archive) reader) m) it.reader_is_person
+    ∙ ap (λ (address : Option (List ℕ)). is_own_by_address address m) it.address_is_author ∙ itself (author_of m.text)
 
 pub exactly : (archive : Archive) (ask : Ask) (m : Message) → (is_own_by_address (reader_facts archive ask).address m ≡ true) ↔ IsOwnMessage archive ask m
 exactly archive ask m = (by_named archive ask m ask.reader refl, of_words archive ask m)
@@ -66,7 +66,7 @@ found_is person (a ∷ addresses) all text e =
 
 authored_by : (archive : Archive) (ask : Ask) (m : Message) → HasValidNamesAndTokens archive → IsOwnMessage archive ask m → author_of m.text ≢ []
 authored_by archive ask m such it empty =
-    true≢false (sym (found_is it.person archive.addresses such.addresses (author_of m.text) it.address) ∙ ap is_address empty)
+    true≢false (sym (found_is it.person archive.addresses such.addresses (author_of m.text) it.address_is_author) ∙ ap is_address empty)
 
 pub authored : (archive : Archive) (ask : Ask) (m : Message) → HasValidNamesAndTokens archive → is_own_by_address (reader_facts archive ask).address m ≡ true → author_of m.text ≢ []
 authored archive ask m such own = authored_by archive ask m such ((exactly archive ask m).0 own)

@@ -13,7 +13,7 @@ use Rattle.archive_model.specs.Records.{Message, IndexColumns, Archive}
 use Rattle.archive_model.specs.Commands.{Command, add, withdraw, embargo, no_list, no_message, already_withdrawn, list_full, too_large, done, taken_in, already_known, refused}
 use Rattle.archive_model.specs.Filing.{IndexedMessage, item_index_columns}
 use Rattle.archive_model.specs.Keys.{item_key}
-use Rattle.archive_model.specs.Lasting.{NoCommandSatisfies, ends_withdrawal, sets_embargo, HoldsForMessageAtKey}
+use Rattle.archive_model.specs.Lasting.{NoCommandSatisfies, ends_withdrawal, changes_embargo, HoldsForMessageAtKey}
 use Rattle.archive_model.specs.Machine.{step, refuse, change_at_key, with_changed_message, with_withdrawal, keyed_message, with_message, longest_text, message_limit}
 use Rattle.archive_model.specs.Messages.{withdrawal_number}
 use Rattle.archive_model.specs.Questions.{has_list, has_message, message_of, messages_in, is_message_at_key, is_withdrawn}
@@ -144,7 +144,7 @@ StaysWithdrawn = (a : Archive) (list key : List ℕ) (party : ℤ) (commands : L
 
 abbrev pub StaysHeldBack : Type 0
 StaysHeldBack = (a : Archive) (list key : List ℕ) (until : ℤ) (commands : List Command) → (step a (embargo list key until)).1 ≡ done
-    → NoCommandSatisfies (sets_embargo list key) commands → HoldsForMessageAtKey (run (step a (embargo list key until)).0 commands).archive list key (λ m. m.embargo ≡ Some until)
+    → NoCommandSatisfies (changes_embargo list key) commands → HoldsForMessageAtKey (run (step a (embargo list key until)).0 commands).archive list key (λ m. m.embargo ≡ Some until)
 
 withheld_by : (b : Archive) (ask : Ask) (list key : List ℕ) (by : Withdrawn) → HoldsForMessageAtKey b list key (λ m. m.withdrawn ≡ withdrawal_number by)
     → IsMessageHiddenIfDenied (DeniesWithdrawnBy by) b ask list key
@@ -169,7 +169,7 @@ withheld_until b ask list key until marked others denies k d within of_key =
     held_back ask (reader_facts b ask) until (slice_index_or b.messages k d) denies (others k d within of_key) (marked k d within of_key)
 
 pub held_back_later : StaysHeldBack → (a : Archive) (ask : Ask) (list key : List ℕ) (until : ℤ) (commands : List Command)
-    → (step a (embargo list key until)).1 ≡ done → NoCommandSatisfies (sets_embargo list key) commands
+    → (step a (embargo list key until)).1 ≡ done → NoCommandSatisfies (changes_embargo list key) commands
     → IsMessageHiddenIfDenied (DeniesEmbargoed until) (run (step a (embargo list key until)).0 commands).archive ask list key
 held_back_later stays a ask list key until commands is none =
     withheld_until (run (step a (embargo list key until)).0 commands).archive ask list key until (stays a list key until commands is none)

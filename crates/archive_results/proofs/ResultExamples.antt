@@ -6,7 +6,7 @@ use Rattle.civil_time.specs.Calendar.{days_before_year, days_in_first_months, da
 use Rattle.civil_time.proofs.MonthLemmas.{month_is}
 use Rattle.mail_core.specs.DateTokens.{tokens_of, tokens_from, token_at, token_byte_kind}
 use Rattle.civil_time.specs.Zones.{hours_west}
-use Rattle.mail_core.specs.Sent.{date_at, second_at, time_at, signed_zone_at}
+use Rattle.mail_core.specs.Sent.{date_at, leading_two_digit_second, time_at, signed_zone_at}
 use Rattle.civil_time.specs.Names.{month_of_name}
 use Rattle.mail_core.specs.Lines.{lines, is_empty_line, content}
 use Rattle.mail_core.specs.Fields.{fields_of, header_blocks, unfolded}
@@ -48,19 +48,19 @@ unfolding lines is_empty_line content fields_of header_blocks unfolded tokens_of
 in_march = ap (λ (m : ℕ). m == 24038) (month_is 24038 (day_of_instant (line_of hello).sent) (omega arith) refl)
 
 in_february : is_of_month 24037 (line_of late) ≡ true
-unfolding lines is_empty_line content fields_of header_blocks unfolded tokens_of tokens_from token_at token_byte_kind date_at month_of_name time_at second_at signed_zone_at
+unfolding lines is_empty_line content fields_of header_blocks unfolded tokens_of tokens_from token_at token_byte_kind date_at month_of_name time_at leading_two_digit_second signed_zone_at
     hours_west days_before_year days_in_first_months
 in_february = ap (λ (m : ℕ). m == 24037) (month_is 24037 (day_of_instant (line_of late).sent) (omega arith) refl)
 
 not_when_it_came : is_of_month 24038 (line_of late) ≡ false
-unfolding lines is_empty_line content fields_of header_blocks unfolded tokens_of tokens_from token_at token_byte_kind date_at month_of_name time_at second_at signed_zone_at
+unfolding lines is_empty_line content fields_of header_blocks unfolded tokens_of tokens_from token_at token_byte_kind date_at month_of_name time_at leading_two_digit_second signed_zone_at
     hours_west days_before_year days_in_first_months
 not_when_it_came = ap (λ (m : ℕ). m == 24038) (month_is 24037 (day_of_instant (line_of late).sent) (omega arith) refl)
 
 -- ---- authors, in lower case
 
 by_anna : keys (author_lines (codes "anna@example.org") (hello ∷ re_hello ∷ late ∷ [])) ≡ codes "k3" ∷ codes "k1" ∷ []
-unfolding lines is_empty_line content fields_of header_blocks unfolded tokens_of tokens_from token_at token_byte_kind date_at month_of_name time_at second_at signed_zone_at
+unfolding lines is_empty_line content fields_of header_blocks unfolded tokens_of tokens_from token_at token_byte_kind date_at month_of_name time_at leading_two_digit_second signed_zone_at
     hours_west days_before_year days_in_first_months
 by_anna = refl
 

@@ -119,8 +119,8 @@ is_withheld ask reader m = not (asks_author ask reader) && not (is_shown ask rea
 -- A message is the reader's own: the reader is a person, and this person's address is the message's author key.
 pub record IsOwnMessage (archive : Archive) (ask : Ask) (m : Message) : Type 0 where
   pub person : List ℕ
-  pub reader : ask.reader ≡ Some person
-  pub address : address_of archive person ≡ Some (author_of m.text)
+  pub reader_is_person : ask.reader ≡ Some person
+  pub address_is_author : address_of archive person ≡ Some (author_of m.text)
 
 -- ---- the view, and one message
 

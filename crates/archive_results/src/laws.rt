@@ -7,7 +7,7 @@ ghost use Rattle.policy_core.specs.declared.access.Withdrawn.TheVariants.{No};
 ghost use Rattle.mbox_items.specs.Division.{Item};
 ghost use Rattle.archive_model.specs.Commands.{Command, add, withdraw, embargo, list_full, done, taken_in, refused};
 ghost use Rattle.archive_model.specs.Keys.{item_key};
-ghost use Rattle.archive_model.specs.Lasting.{NoCommandSatisfies, ends_withdrawal, sets_embargo};
+ghost use Rattle.archive_model.specs.Lasting.{NoCommandSatisfies, ends_withdrawal, changes_embargo};
 ghost use Rattle.archive_model.specs.Machine.{step};
 ghost use Rattle.archive_model.specs.Messages.{withdrawal_number};
 ghost use Rattle.archive_model.specs.Questions.{address_of};
@@ -21,20 +21,20 @@ ghost use Rattle.archive_results.specs.Promise.{DeniesWithdrawn, DeniesWithdrawn
 ghost use Rattle.archive_results.specs.Results.{view_holds_key, thread_lines, month_lines, author_lines};
 ghost use Rattle.archive_results.specs.Shown.{ShownMessage, shown_message};
 
-use archive_model::laws::what_is_withheld_stays_so;
-use thread_core::laws::each_place_stands_in_one_row;
+use archive_model::laws::marks_stay_until_lifted;
+use thread_core::laws::each_message_is_in_one_row;
 
 /// A view has no thread of a key exactly where it holds no message of that key.
-pub fn a_thread_is_missing_where_its_message_is()
+pub fn a_thread_is_absent_iff_its_message_is()
     ensures { (merge : Bool) (key : List ℕ) (view : List ShownMessage)
         → (thread_lines merge key view ≡ None) ↔ (view_holds_key key view ≡ false) }
 {
-    each_place_stands_in_one_row();
+    each_message_is_in_one_row();
 }
 
 /// Where what is filed of each message is what its text says, the lists by what is filed are the month's and the author's of the
 /// view, as its texts say.
-pub fn what_is_filed_right_is_found_by_its_text()
+pub fn correct_index_columns_give_month_and_author_lines()
     ensures month { (a : Archive) (ask : Ask) (month : ℕ) → IsIndexedCorrectly a
         → indexed_month_lines a ask (pos month) ≡ month_lines month (map shown_message (view_of a ask)) }
     ensures author { (a : Archive) (ask : Ask) (key : List ℕ) → IsIndexedCorrectly a
@@ -44,7 +44,7 @@ pub fn what_is_filed_right_is_found_by_its_text()
 /// A message is a reader's own exactly where the reader is a person, and the address of this person is the message's author key.
 /// So nobody in particular has an own message, nor has a person without an address, and a message without an author key is
 /// nobody's own.
-pub fn an_own_message_is_a_persons()
+pub fn an_own_message_has_the_readers_address()
     ensures exactly { (a : Archive) (ask : Ask) (m : Message)
         → (is_own_by_address (reader_facts a ask).address m ≡ true) ↔ IsOwnMessage a ask m }
     ensures nobody { (a : Archive) (ask : Ask) (m : Message) → ask.reader ≡ None
@@ -61,7 +61,7 @@ pub fn an_own_message_is_a_persons()
 /// what this party withdrew is that of the archive in which it never came: of one that was just taken in, the archive before, and
 /// at any time the archive of all commands but those about this message, where no list was full. All that the two archives remember
 /// beside messages is the same.
-pub fn what_is_withheld_might_never_have_come()
+pub fn a_withheld_message_might_never_have_arrived()
     ensures never { (a : Archive) (list : List ℕ) (item : Item)
         → length a.index_columns ≡ length a.messages
         → (step a (add list item)).1 ≡ taken_in
@@ -86,7 +86,7 @@ pub fn what_is_withheld_might_never_have_come()
 /// How long it is so. A message that was withdrawn is withheld, whatever is commanded later but to restore it, from each reader who
 /// did not write it and to whom the policy denies what this party withdrew, as rules and standings are when they ask. So is one
 /// that was held back up to a day, whatever is commanded but to set its embargo anew or to lift it.
-pub fn what_is_withheld_is_so_later()
+pub fn a_withheld_message_stays_withheld()
     ensures withdrawn { (a : Archive) (ask : Ask) (list key : List ℕ) (by : Withdrawn)
         (commands : List Command) → by ≢ No
         → (step a (withdraw list key (withdrawal_number by))).1 ≡ done
@@ -95,11 +95,11 @@ pub fn what_is_withheld_is_so_later()
         (step a (withdraw list key (withdrawal_number by))).0 commands).archive ask list key }
     ensures held_back { (a : Archive) (ask : Ask) (list key : List ℕ) (until : ℤ)
         (commands : List Command)
-        → (step a (embargo list key until)).1 ≡ done → NoCommandSatisfies (sets_embargo list key) commands
+        → (step a (embargo list key until)).1 ≡ done → NoCommandSatisfies (changes_embargo list key) commands
         → IsMessageHiddenIfDenied (DeniesEmbargoed until) (run
         (step a (embargo list key until)).0 commands).archive ask list key }
     ensures by_any { (ask : Ask) (reader : ReaderFacts) (by : Withdrawn) → by ≢ No
         → DeniesWithdrawn ask reader → DeniesWithdrawnBy by ask reader }
 {
-    what_is_withheld_stays_so();
+    marks_stay_until_lifted();
 }

@@ -24,20 +24,20 @@ module _ {S D : Type 0} (g : Ghosts S) (keeps : Keeps D (Open S)) (opens : Opene
   pub leads_by : (Becomes : Open S → Open S → Type 0) (R : Archive → Archive → Type 0) → ((o c : Open S) → Becomes o c → RelatesReadyArchives g o c R)
       → UsesDatabase keeps old new file Becomes → RelatesHeldArchives g keeps old new file R
   leads_by Becomes R goes works =
-      let it = goes works.before works.after works.becomes in
+      let it = goes works.store_before works.store_after works.store_changes in
       record {
         device = works.device;
-        before = works.before;
-        after = works.after;
-        opened = works.opened;
-        closed = works.closed;
-        becomes = λ returned first held right.
-            let was = opens old works.device file works.before first held works.opened (it.0.returned returned) in
-            let there = it.1 returned (ready_with g works.before first was.0 was.1 right) in (
-              archive_in g works.after,
-              subst (λ a. R a (archive_in g works.after)) was.1 there.1,
+        store_before = works.store_before;
+        store_after = works.store_after;
+        opens_database = works.opens_database;
+        closes_database = works.closes_database;
+        store_changes = λ returned first held right.
+            let was = opens old works.device file works.store_before first held works.opens_database (it.0.disk_was_clean returned) in
+            let there = it.1 returned (ready_with g works.store_before first was.0 was.1 right) in (
+              archive_in g works.store_after,
+              subst (λ a. R a (archive_in g works.store_after)) was.1 there.1,
               there.0.is_indexed_correctly,
-              closes old works.device new file works.before works.after first held works.opened works.closed returned there.0.held,
+              closes old works.device new file works.store_before works.store_after first held works.opens_database works.closes_database returned there.0.is_archive_at_rest,
             );
       }
 
@@ -45,19 +45,19 @@ module _ {S D : Type 0} (g : Ghosts S) (keeps : Keeps D (Open S)) (opens : Opene
   pub leads_held : (Becomes : Open S → Open S → Type 0) (Says : Archive → Type 0)
       → ((o c : Open S) → Becomes o c → RelatesTableArchives g o c (λ a b. (b ≡ a) × Says a)) → UsesDatabase keeps old new file Becomes → KeepsHeldArchive g keeps old new file Says
   leads_held Becomes Says goes works =
-      let it = goes works.before works.after works.becomes in
+      let it = goes works.store_before works.store_after works.store_changes in
       record {
         device = works.device;
-        before = works.before;
-        after = works.after;
-        opened = works.opened;
-        closed = works.closed;
-        becomes = λ returned archive held.
-            let was = opens old works.device file works.before archive held works.opened (it.0.returned returned) in
+        store_before = works.store_before;
+        store_after = works.store_after;
+        opens_database = works.opens_database;
+        closes_database = works.closes_database;
+        store_changes = λ returned archive held.
+            let was = opens old works.device file works.store_before archive held works.opens_database (it.0.disk_was_clean returned) in
             let there = it.1 returned was.0 in (
               subst Says was.1 there.1.1,
               subst (λ a. keeps.holds new file a) (there.1.0 ∙ was.1)
-                  (closes old works.device new file works.before works.after archive held works.opened works.closed returned there.0),
+                  (closes old works.device new file works.store_before works.store_after archive held works.opens_database works.closes_database returned there.0),
             );
       }
 
@@ -68,8 +68,8 @@ module _ {S L : Type 0} (g : Ghosts S) (accepts : L → L → Option AcceptError
   -- a disk that has returned what was written so far had done so before
   had_one : (outcome : ConnectionResult) (before after : ServerState L (Open S)) → ServesOneConnection (AnswersFromArchiveInRun g If archive rules day) accepts closes outcome before after
       → StoreHasCleanDisk g after.state → StoreHasCleanDisk g before.state
-  had_one outcome before after (inl takes) returned = takes.answered.answered.ends.stays.same.0.returned returned
-  had_one outcome before after (inr misses) returned = subst (λ (s : Open S). StoreHasCleanDisk g s) misses.unanswered returned
+  had_one outcome before after (inl takes) returned = takes.is_answered.is_answered.ends.archive_is_kept.archive_is_same.0.disk_was_clean returned
+  had_one outcome before after (inr misses) returned = subst (λ (s : Open S). StoreHasCleanDisk g s) misses.state_is_same returned
 
   pub had_before : (outcomes : List ConnectionResult) (before after : ServerState L (Open S))
       → ServesEachConnection (AnswersFromArchiveInRun g If archive rules day) accepts closes outcomes before after
@@ -82,9 +82,9 @@ module _ {S L : Type 0} (g : Ghosts S) (accepts : L → L → Option AcceptError
   remembers_one : If → (outcome : ConnectionResult) (before after : ServerState L (Open S)) → ServesOneConnection (AnswersFromArchiveInRun g If archive rules day) accepts closes outcome before after
       → (IsOpen g before.state → HoldsTables g before.state × (archive_in g before.state ≡ archive))
       → IsOpen g after.state → HoldsTables g after.state × (archive_in g after.state ≡ archive)
-  remembers_one so outcome before after (inl takes) holds = takes.answered.answered.left so
+  remembers_one so outcome before after (inl takes) holds = takes.is_answered.is_answered.left so
   remembers_one so outcome before after (inr misses) holds =
-      subst (λ (s : Open S). IsOpen g s → HoldsTables g s × (archive_in g s ≡ archive)) (sym misses.unanswered) holds
+      subst (λ (s : Open S). IsOpen g s → HoldsTables g s × (archive_in g s ≡ archive)) (sym misses.state_is_same) holds
 
   pub remembers_each : If → (outcomes : List ConnectionResult) (before after : ServerState L (Open S))
       → ServesEachConnection (AnswersFromArchiveInRun g If archive rules day) accepts closes outcomes before after

@@ -67,21 +67,21 @@ module _ {Y S F D C P T R O E I L K A B M : Type 0} (dev : DeviceContracts S F I
         is_day = given;
         listening = listening;
         ports = ports;
-        had = had;
-        said = said;
+        listens_on_port = had;
+        writes_listening_line = said;
         outcomes = outcomes;
-        count = count;
-        told = run.told;
+        count_is = count;
+        reports_outcomes = run.reports_outcomes;
         device = device;
         store = store;
         later = later;
-        opened = opened;
-        closed = closed;
-        all = dev.over last;
+        opens_database = opened;
+        closes_database = closed;
+        exchanges = dev.over last;
         went = ended ∙ (ap (λ (before : List Exchange). before ++ dev.over end) none.0 ∙ ap (λ (all : List Exchange). dev.went old.ports ++ all) same);
         serves_held_archive = λ returned archive held.
             serves_held dev.pages dev.over dev.accepts dev.shuts gets dev.databases opens closes old.databases device new.databases order.file rules day outcomes
-            (server_state listening.listener store) (server_state last later) archive none.1 opened closed run.each returned held;
+            (server_state listening.listener store) (server_state last later) archive none.1 opened closed run.serves_each returned held;
       }
 
   pub runs_over : (order : Order) → RunsOrder dev old new order (Ok tt) → RunsOrderOnArchive dev old new order
@@ -102,23 +102,23 @@ module _ {Y S F D C P T R O E I L K A B M : Type 0} (dev : DeviceContracts S F I
         (λ a b. ReadsOpenedFile dev.opens dev.input_of old.files order.mbox
         (λ text ended failed. (ended ≡ 1) × (failed ≡ 0) × IsImported order.list text a b report))
         (λ o c it. (
-          it.becomes.2.0,
+          it.input_becomes.2.0,
           λ returned ready.
-              let there = it.becomes.2.1 returned ready.held in
+              let there = it.input_becomes.2.1 returned ready.is_archive_at_rest in
               let a = archive_in dev.pages o in
               let items = there.1.1.items in (
-                ready_with dev.pages c (taken a order.list items).archive there.0 there.1.1.added.archive_is (taken_right a order.list items ready.is_indexed_correctly),
+                ready_with dev.pages c (taken a order.list items).archive there.0 there.1.1.adds_all.archive_is (taken_right a order.list items ready.is_indexed_correctly),
                 record {
-                  before = it.before;
-                  after = it.after;
-                  given = it.given;
+                  input_before = it.input_before;
+                  input_after = it.input_after;
+                  opens_input = it.opens_input;
                   text = it.text;
-                  ended = it.ended;
-                  failed = it.failed;
+                  end_count = it.end_count;
+                  failure_count = it.failure_count;
                   reads_text = it.reads_text;
                   adds_end_reads = it.adds_end_reads;
                   adds_failed_reads = it.adds_failed_reads;
-                  becomes = (it.becomes.0, it.becomes.1, there.1.1);
+                  input_becomes = (it.input_becomes.0, it.input_becomes.1, there.1.1);
                 },
               ),
         ))
@@ -134,9 +134,9 @@ module _ {Y S F D C P T R O E I L K A B M : Type 0} (dev : DeviceContracts S F I
       (
         text,
         sends.0,
-        leads_held dev.pages dev.databases opens closes old.databases new.databases order.asked.file
-            (λ o c. GetsMessage dev.pages o c (ask_of_values order.asked rules day) order.key (Ok text))
-            (λ a. message_or_refusal a (ask_of_values order.asked rules day) order.key ≡ Ok text.items)
+        leads_held dev.pages dev.databases opens closes old.databases new.databases order.ask.file
+            (λ o c. GetsMessage dev.pages o c (ask_of_values order.ask rules day) order.key (Ok text))
+            (λ a. message_or_refusal a (ask_of_values order.ask rules day) order.key ≡ Ok text.items)
             (λ o c goes. goes) works,
       ),
     ),
@@ -160,10 +160,11 @@ module _ {Y S F D C P T R O E I L K A B M : Type 0} (dev : DeviceContracts S F I
       leads_held dev.pages dev.databases opens closes old.databases new.databases order.file (λ o c. ChecksArchive dev.pages o c (Ok tt)) PassesCheck (λ o c goes. goes) works
   runs_over (Serve order) (inr (made, e, same)) = cc
   runs_over (Serve order) (inl (made, (rules, is, (clock, day, given, (works, same))), more)) =
-      let it = works.becomes in
+      let it = works.store_changes in
       let all = it.3 in
       let run = all.3 in
-      has_served order (λ n. n ≡ order.count) rules is clock day given works.device works.before works.after works.opened works.closed it.0 it.1 it.2 all.0 all.1 all.1 all.2 refl
+      has_served order (λ n. n ≡ order.count) rules is clock day given works.device works.store_before works.store_after works.opens_database works.closes_database it.0 it.1 it.2 all.0
+      all.1 all.1 all.2 refl
       run.0 run.1 run.2
 
   -- a server that was refused
@@ -172,16 +173,17 @@ module _ {Y S F D C P T R O E I L K A B M : Type 0} (dev : DeviceContracts S F I
   fewer order (inl (made, (inl (never, same)), more)) = absurd never
   fewer order (inl (made, (inr (rules, is, (inl (e, none, same)))), more)) = cc
   fewer order (inl (made, (inr (rules, is, (inr (clock, day, given, (inl (never, same)))))), more)) = absurd never
-  fewer order (inl (made, (inr (rules, is, (inr (clock, day, given, (inr (works, same)))))), more)) = elim works.becomes [
+  fewer order (inl (made, (inr (rules, is, (inr (clock, day, given, (inr (works, same)))))), more)) = elim works.store_changes [
     | inl none ↦ inl (none.1, none.2)
     | inr it ↦
         let all = it.3 in
         let run = all.3 in
         let end = all.1 in
         let last = run.1 in
-        inr (has_served order (λ n. n < order.count) rules is clock day given works.device works.before works.after works.opened works.closed it.0 it.1 it.2 all.0 end last.listener
+        inr (has_served order (λ n. n < order.count) rules is clock day given works.device works.store_before works.store_after works.opens_database works.closes_database it.0 it.1 it.2
+        all.0 end last.listener
         all.2 (accepts_none last.listener end _ run.5) run.0 run.2
-        (subst (λ (s : Open S). ServesAndReportsErrors (ServingAnswerLaw dev.pages rules day works.before works.after) dev.accepts dev.shuts (server_state it.0.listener works.before)
+        (subst (λ (s : Open S). ServesAndReportsErrors (ServingAnswerLaw dev.pages rules day works.store_before works.store_after) dev.accepts dev.shuts (server_state it.0.listener works.store_before)
         (error_stream_state dev.notes old.faults) (error_stream_state dev.notes new.faults) run.0 (server_state last.listener s)) (sym run.4) run.3))
   ]
 

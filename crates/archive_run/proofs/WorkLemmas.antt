@@ -15,7 +15,7 @@ use Rattle.archive_run.specs.declared.faults.RunError.TheVariants as refusal
 module _ {S D : Type 0} (keeps : Ghosts D (Store S)) (old device new : D) (file : List ℕ) (before after : Store S)
     (opened : keeps.opens old device file (Ok before)) (closed : keeps.closes device new after) where
   pub works : (Becomes : Store S → Store S → Type 0) → Becomes before after → UsesDatabase keeps old new file Becomes
-  works Becomes becomes = record { device = device; before = before; after = after; opened = opened; becomes = becomes; closed = closed }
+  works Becomes becomes = record { device = device; store_before = before; store_after = after; opens_database = opened; store_changes = becomes; closes_database = closed }
 
   -- whatever came of the work, after what an opening that failed would say
   pub worked : {A E : Type 0} (result : Result A E) (Said : A → Store S → Store S → Type 0) (Failed : E → Store S → Store S → Type 0) (Unopened : E → Type 0)
@@ -36,4 +36,4 @@ pub carried : {S : Type 0} (pages : Pages S) (old new : Store S) (command : Stor
     → CarriesOutCommand pages old new command result → EndsStoreCommand pages old new command result
     → MatchResult result (λ answer. CarriesOutCommand pages old new command (Ok answer)) (λ fault. RefusesCommand pages old new command (refusal.Store fault))
 carried pages old new command (Ok answer) it ends = it
-carried pages old new command (Err fault) it ends = (it, (ends.counted.1, ends.caused))
+carried pages old new command (Err fault) it ends = (it, (ends.refusals_counted.1, ends.fault_has_cause))

@@ -8,11 +8,11 @@ module _ {S D : Type 0} (keeps : Ghosts D (Store S)) (old new : D) (file : List 
   -- The database of this name was opened; this became of its store; and it was closed. Nothing else was asked of the device.
   pub record UsesDatabase (Becomes : Store S → Store S → Type 0) : Type 0 where
     pub device : D
-    pub before : Store S
-    pub after : Store S
-    pub opened : keeps.opens old device file (Ok before)
-    pub becomes : Becomes before after
-    pub closed : keeps.closes device new after
+    pub store_before : Store S
+    pub store_after : Store S
+    pub opens_database : keeps.opens old device file (Ok store_before)
+    pub store_changes : Becomes store_before store_after
+    pub closes_database : keeps.closes device new store_after
 
   -- It was not opened, for this fault.
   abbrev pub GivesNoDatabase : StoreFault → Type 0

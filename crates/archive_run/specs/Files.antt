@@ -8,16 +8,16 @@ module _ {F I : Type 0} (opens : Ghosts F I) (reads : Reads I) (files : F) (name
   -- The file of this name gave an input. From there on this text was read of it, it met its end so often, and failed so often;
   -- and this became of what was read.
   pub record ReadsOpenedFile (Becomes : (text : List ℕ) → (ended failed : ℕ) → Type 0) : Type 0 where
-    pub before : I
-    pub after : I
-    pub given : opens.inputs files name (Ok before)
+    pub input_before : I
+    pub input_after : I
+    pub opens_input : opens.inputs files name (Ok input_before)
     pub text : List ℕ
-    pub ended : ℕ
-    pub failed : ℕ
-    pub reads_text : reads.told after ≡ reads.told before ++ text
-    pub adds_end_reads : reads.ends after ≡ reads.ends before + ended
-    pub adds_failed_reads : reads.failures after ≡ reads.failures before + failed
-    pub becomes : Becomes text ended failed
+    pub end_count : ℕ
+    pub failure_count : ℕ
+    pub reads_text : reads.told input_after ≡ reads.told input_before ++ text
+    pub adds_end_reads : reads.ends input_after ≡ reads.ends input_before + end_count
+    pub adds_failed_reads : reads.failures input_after ≡ reads.failures input_before + failure_count
+    pub input_becomes : Becomes text end_count failure_count
 
   -- It gave none, for this fault.
   abbrev pub GivesNoInput : FileError → Type 0

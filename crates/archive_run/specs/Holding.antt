@@ -77,9 +77,9 @@ module _ {Y S F D C P T R O E I L K A B M : Type 0} (dev : DeviceContracts S F I
 
   -- What the definition gives the reader of the message went out, and the archive is as before.
   abbrev pub HasSentMessage : GetValues → Type 0
-  HasSentMessage order = RunsByPolicy old new dev.gives (Some order.asked.policy) (λ rules. RunsOnDay old new dev.clock order.asked.day (λ asked day result.
+  HasSentMessage order = RunsByPolicy old new dev.gives (Some order.ask.policy) (λ rules. RunsOnDay old new dev.clock order.ask.day (λ asked day result.
       (text : Vec ℕ Global) × WritesAndFlushes before after text.items
-      × RunKeepsArchive order.asked.file (λ a. message_or_refusal a (ask_of_values order.asked rules day) order.key ≡ Ok text.items))) (Ok tt)
+      × RunKeepsArchive order.ask.file (λ a. message_or_refusal a (ask_of_values order.ask rules day) order.key ≡ Ok text.items))) (Ok tt)
 
   -- The messages that the reader may see went out as an mbox, and the archive is as before.
   abbrev pub HasExported : AskValues → Type 0
@@ -99,20 +99,20 @@ module _ {Y S F D C P T R O E I L K A B M : Type 0} (dev : DeviceContracts S F I
     pub is_day : IsReadingDay dev.clock order.day true old.clock clock (Some day)
     pub listening : BoundListener L
     pub ports : P
-    pub had : dev.listens old.ports ports order.port (Ok listening)
-    pub said : WritesListeningLine listening.port before.written after.written after.passed
+    pub listens_on_port : dev.listens old.ports ports order.port (Ok listening)
+    pub writes_listening_line : WritesListeningLine listening.port before.written after.written after.passed
     pub outcomes : List ConnectionResult
-    pub count : Count (length outcomes)
-    pub told : WritesOutcomeLines outcomes (error_stream_state dev.notes old.faults) (error_stream_state dev.notes new.faults)
+    pub count_is : Count (length outcomes)
+    pub reports_outcomes : WritesOutcomeLines outcomes (error_stream_state dev.notes old.faults) (error_stream_state dev.notes new.faults)
     pub device : D
     pub store : Open S
     pub later : Open S
-    pub opened : dev.databases.opens old.databases device order.file (Ok store)
-    pub closed : dev.databases.closes device new.databases later
-    pub all : List Exchange
-    pub went : dev.went new.ports ≡ dev.went old.ports ++ all
+    pub opens_database : dev.databases.opens old.databases device order.file (Ok store)
+    pub closes_database : dev.databases.closes device new.databases later
+    pub exchanges : List Exchange
+    pub went : dev.went new.ports ≡ dev.went old.ports ++ exchanges
     pub serves_held_archive : StoreHasCleanDisk dev.pages later → (archive : Archive) → dev.databases.holds old.databases order.file archive
-        → ExchangesAreAnswered archive rules day outcomes all × (IsOpen dev.pages later → dev.databases.holds new.databases order.file archive)
+        → ExchangesAreAnswered archive rules day outcomes exchanges × (IsOpen dev.pages later → dev.databases.holds new.databases order.file archive)
 
   -- as many connections as were ordered
   abbrev pub HasServedAll : ServeValues → Type 0

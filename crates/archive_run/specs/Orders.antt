@@ -144,8 +144,8 @@ module _ {Y S F D C P T R O E I L K A B M : Type 0} (old new : Environment Y S F
     (pages : Pages S) (keeps : Keeps D (Open S)) (tells : Tells C) where
   -- by the rules of a policy, on the day of the order
   abbrev pub RunGetsMessageOnDay : GetValues → List Rule → Result ⊤ RunError → Type 0
-  RunGetsMessageOnDay order rules = RunsOnDay old new tells order.asked.day
-      (λ asked day. RunGetsMessage asked new takes passes pages keeps order.asked.file (ask_of_values order.asked rules day) order.key)
+  RunGetsMessageOnDay order rules = RunsOnDay old new tells order.ask.day
+      (λ asked day. RunGetsMessage asked new takes passes pages keeps order.ask.file (ask_of_values order.ask rules day) order.key)
 
   abbrev pub RunExportsListOnDay : AskValues → List Rule → Result ⊤ RunError → Type 0
   RunExportsListOnDay order rules = RunsOnDay old new tells order.day
@@ -154,7 +154,7 @@ module _ {Y S F D C P T R O E I L K A B M : Type 0} (old new : Environment Y S F
   -- by the rules of the named policy
   module _ (gives : Gives F) where
     abbrev pub RunsGet : GetValues → Result ⊤ RunError → Type 0
-    RunsGet order = RunsByPolicy old new gives (Some order.asked.policy) (RunGetsMessageOnDay order)
+    RunsGet order = RunsByPolicy old new gives (Some order.ask.policy) (RunGetsMessageOnDay order)
 
     abbrev pub RunsExport : AskValues → Result ⊤ RunError → Type 0
     RunsExport order = RunsByPolicy old new gives (Some order.policy) (RunExportsListOnDay order)

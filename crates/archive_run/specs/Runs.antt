@@ -38,9 +38,9 @@ module _ {Y S F D C P T R O E I L K A B M : Type 0} (dev : DeviceContracts S F I
     pub refusal : RunError
     pub stopped : Environment Y S F D C P T R O E I L K A B M
     pub cause : ((refusal ≡ Run Memory) × (stopped ≡ old)) ⊎ RunsOrder old stopped order (Err refusal)
-    pub told : WritesOnlyRefusalLine stopped new refusal
+    pub reports_refusal : WritesOnlyRefusalLine stopped new refusal
     -- of a server whose listener gave no more: what it served before
-    pub ends : HasServedUntilF4 dev old stopped order refusal
+    pub served_until_f4 : HasServedUntilF4 dev old stopped order refusal
 
   -- What is said where the words order nothing, by why they do not; and nothing else was touched.
   abbrev pub RunReportsOrderStop : (old new : Environment Y S F D C P T R O E I L K A B M) → OrderStop → (status : ℕ) → Type 0

@@ -61,12 +61,12 @@ module _ {S T : Type 0} (g : Ghosts S) (pages later : Pages T) (old new : Store 
     result = result;
     is = is;
     answered = answered;
-    ends = record { stays = stays; quiet = quiet; cause = cause; caused = caused };
+    ends = record { archive_is_kept = stays; no_failure_if_ok = quiet; cause = cause; fault_has_cause = caused };
     unrouted = with_routes pages.routes unrouted;
-    same_rules = ap (λ (p : Pages T). p.policy.now) keeps.same;
-    same_day = ap (λ (p : Pages T). p.day) keeps.same;
-    same_routes = ap (λ (p : Pages T). is_some p.routes) keeps.same;
-    keeps = keeps.keeps;
+    same_rules = ap (λ (p : Pages T). p.policy.now) keeps.only_cache_differs;
+    same_day = ap (λ (p : Pages T). p.day) keeps.only_cache_differs;
+    same_routes = ap (λ (p : Pages T). is_some p.routes) keeps.only_cache_differs;
+    keeps = keeps.cache_stays_coherent;
   }
 
 module _ {S : Type 0} (g : Ghosts S) (rules : List Rule) (day : ℤ) where
@@ -106,21 +106,21 @@ module _ {S : Type 0} (g : Ghosts S) (rules : List Rule) (day : ℤ) where
 
       left : IsOpen g new.state → HoldsTables g new.state × (archive_in g new.state ≡ archive)
       left up =
-          let was = sound.left (law.ends.stays.same.0.stays_shut had up) in
-          let now = law.ends.stays.same.1 had was.0 up in
+          let was = sound.left (law.ends.archive_is_kept.archive_is_same.0.closed_stays_closed had up) in
+          let now = law.ends.archive_is_kept.archive_is_same.1 had was.0 up in
           (now.0, now.1 ∙ was.1)
 
       stays_open : IsNeither503NorWriteError outcome → IsOpen g old.state → IsOpen g new.state
       stays_open steady up =
-          let goes = goes_by g old.state new.state before after law.result _ (subst IsNeither503NorWriteError law.is steady) answered law.ends.stays in
+          let goes = goes_by g old.state new.state before after law.result _ (subst IsNeither503NorWriteError law.is steady) answered law.ends.archive_is_kept in
           (goes.1 had (sound.left up).0).0.is_open
 
       kept_on : KeepsCacheCoherent g old.state new.state rules day old.service.kept new.service.kept → IsCacheCoherent archive rules day new.service.kept
       kept_on keeps = elim (cases_Bool (state g (store_connection old.state)).is_open) [
         | inl up ↦
             let was = sound.left up in
-            subst (λ a. IsCacheCoherent a rules day new.service.kept) was.1 (keeps.held had was.0 (serves_held_archive had was.0))
-        | inr down ↦ subst (λ kept. IsCacheCoherent archive rules day kept) (sym (keeps.shut had (λ up. let it = sym up ∙ down in absurd (cc)))) sound.kept
+            subst (λ a. IsCacheCoherent a rules day new.service.kept) was.1 (keeps.keeps_coherent had was.0 (serves_held_archive had was.0))
+        | inr down ↦ subst (λ kept. IsCacheCoherent archive rules day kept) (sym (keeps.when_store_closed had (λ up. let it = sym up ∙ down in absurd (cc)))) sound.kept
       ]
 
       sound_on : IsSound archive new
@@ -154,7 +154,7 @@ module _ {S : Type 0} (g : Ghosts S) (rules : List Rule) (day : ℤ) where
         × GoesOn after.state
     answers_each outcomes before after had goes each =
         each_had_through KeptLaw (AnswersFromArchiveInRun g If archive rules day) (λ (w : Serving). w.state) accepts closes (λ w. If → StoreHasCleanDisk g w.state) GoesOn
-        (λ old new first last outcome law returned i. law.ends.stays.same.0.returned (returned i))
+        (λ old new first last outcome law returned i. law.ends.archive_is_kept.archive_is_same.0.disk_was_clean (returned i))
         (λ old new first last outcome returned on law. (
           answers_in archive old new on.same first last outcome law If returned on.sound,
           record {
@@ -191,7 +191,7 @@ module _ {S L : Type 0} (g : Ghosts S) (accepts : L → L → Option AcceptError
 
     pub all_of_fresh : ServesAllConnections Law accepts closes (server_state listener (running_service keeper store)) before after count left_at
         → ServesAllConnections (ServingAnswerLaw g rules day store last) accepts closes (server_state listener store) before after count (server_state end last)
-    all_of_fresh it = (it.0, it.1, record { each = run_each last it.0 left_at refl it.2.each; told = it.2.told })
+    all_of_fresh it = (it.0, it.1, record { serves_each = run_each last it.0 left_at refl it.2.serves_each; reports_outcomes = it.2.reports_outcomes })
 
     pub fewer_of_fresh : ServesFewerConnections Law accepts closes (server_state listener (running_service keeper store)) before after count left_at
         → ServesFewerConnections (ServingAnswerLaw g rules day store last) accepts closes (server_state listener store) before after count (server_state end last)
@@ -200,7 +200,7 @@ module _ {S L : Type 0} (g : Ghosts S) (accepts : L → L → Option AcceptError
           it.0,
           server_state it.1.listener it.1.state.state,
           it.2,
-          record { each = run_each last it.0 it.1 same it.3.each; told = it.3.told },
+          record { serves_each = run_each last it.0 it.1 same it.3.serves_each; reports_outcomes = it.3.reports_outcomes },
           same,
           it.5,
         )

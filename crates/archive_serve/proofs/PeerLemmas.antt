@@ -27,25 +27,26 @@ module _ {S L : Type 0} (g : Ghosts S) (over : L → List Exchange) (accepts : L
     module _ (before between : ServerState L (Store S)) (outcome : ConnectionResult)
         (takes : AcceptsAndAnswers (AnswersFromArchiveInRun g If archive rules day) accepts closes before between outcome) where
       abbrev went : Exchange
-      went = exchange takes.told.read takes.sent
+      went = exchange takes.transcript.read takes.sent
 
       stands_last : over between.listener ≡ over before.listener ++ went ∷ []
       stands_last =
-          closes_one takes.listening between.listener went _ takes.closed
-          ∙ ap (λ (all : List Exchange). all ++ went ∷ []) (accepts_none before.listener takes.listening _ takes.accepted)
+          closes_one takes.listening between.listener went _ takes.closes_exchange
+          ∙ ap (λ (all : List Exchange). all ++ went ∷ []) (accepts_none before.listener takes.listening _ takes.accepts_peer)
 
       replied : If → ExchangeIsAnswered archive rules day outcome went
       replied i =
-          let a = takes.answered in
-          let it = a.answered in
+          let a = takes.is_answered in
+          let it = a.is_answered in
           record {
             result = it.result;
-            ends = a.told.ends;
-            written = a.told.written;
-            reply = subst (λ read. AnswersRequestFromArchive archive rules day [] read 0 a.told.ends [] a.told.written it.result) (sym a.read) (it.reply i);
-            made = a.told.write_failures;
-            passed = takes.told.write_failures;
-            sent = subst (λ answer. ClientReceives answer outcome a.told.written (a.told.write_failures < takes.told.write_failures) takes.sent) it.is a.reached;
+            ends = a.transcript.ends;
+            written = a.transcript.written;
+            answers_request = subst (λ read. AnswersRequestFromArchive archive rules day [] read 0 a.transcript.ends [] a.transcript.written it.result) (sym a.read_is_transcript)
+                (it.reply i);
+            made = a.transcript.write_failures;
+            bytes_passed = takes.transcript.write_failures;
+            client_receives = subst (λ answer. ClientReceives answer outcome a.transcript.written (a.transcript.write_failures < takes.transcript.write_failures) takes.sent) it.is a.client_receives;
           }
 
     each_replied : (outcomes : List ConnectionResult) (before after : ServerState L (Store S))
@@ -64,8 +65,8 @@ module _ {S L : Type 0} (g : Ghosts S) (over : L → List Exchange) (accepts : L
     each_replied (outcome ∷ outcomes) before after (between, inr misses, rest) i =
         let others = each_replied outcomes between after rest i in (
           others.0,
-          others.1 ∙ ap (λ (all : List Exchange). all ++ others.0) (accepts_none before.listener between.listener _ misses.missed),
-          replied_gone outcome outcomes others.0 misses.unread others.2,
+          others.1 ∙ ap (λ (all : List Exchange). all ++ others.0) (accepts_none before.listener between.listener _ misses.accepts_no_peer),
+          replied_gone outcome outcomes others.0 misses.read_failed others.2,
         )
 
   pub each_gets : EachGetsItsReply g over accepts closes

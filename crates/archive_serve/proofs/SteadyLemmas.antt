@@ -33,7 +33,7 @@ pub goes_by : {S : Type 0} (g : Ghosts S) (old new : Store S) (before after : Co
     → IsNeither503NorWriteError (connection_result_of result)
     → IfAnsweredOrUnread result X ((given : List ℕ) × (after.read ≡ before.read ++ given) × HasNoRequest given × (after.written ≡ before.written)
     × RelatesArchivesUnder g (HoldsTables g) old new (λ a b. b ≡ a)) → StoreKeepsArchive g old new result → RelatesArchivesUnder g (HoldsTables g) old new (λ a b. b ≡ a)
-goes_by g old new before after (Ok status) X steady answered stays = stays.ready steady
+goes_by g old new before after (Ok status) X steady answered stays = stays.ready_unless_503 steady
 goes_by g old new before after (Err answering.Read) X steady answered stays = answered.4
 goes_by g old new before after (Err (answering.Write written)) X steady answered stays = absurd steady
 goes_by g old new before after (Err (answering.Broken written)) X steady answered stays = absurd steady
@@ -44,12 +44,12 @@ module _ {S L : Type 0} (g : Ghosts S) (If : Type 0) (archive : Archive) (rules 
       → If → IsNeither503NorWriteError outcome → HoldsTables g before.state → (archive_in g before.state ≡ archive)
       → HoldsTables g after.state × (archive_in g after.state ≡ archive)
   one_ready before after outcome (inl takes) i steady held is =
-      let a = takes.answered in
-      let it = a.answered in
-      let calm = steady_answer a.answer outcome a.told.written _ takes.sent a.reached steady in
+      let a = takes.is_answered in
+      let it = a.is_answered in
+      let calm = steady_answer a.answer outcome a.transcript.written _ takes.sent a.client_receives steady in
       it.left i (it.stays_open i calm held.is_open)
   one_ready before after outcome (inr misses) i steady held is =
-      (subst (λ s. HoldsTables g s) (sym misses.unanswered) held, ap (λ s. archive_in g s) misses.unanswered ∙ is)
+      (subst (λ s. HoldsTables g s) (sym misses.state_is_same) held, ap (λ s. archive_in g s) misses.state_is_same ∙ is)
 
   each_ready : (outcomes : List ConnectionResult) (before after : ServerState L (Store S)) → ServesEachConnection (AnswersFromArchiveInRun g If archive rules day) accepts closes outcomes before after
       → If → AllByRecursion IsNeither503NorWriteError outcomes → HoldsTables g before.state → (archive_in g before.state ≡ archive)

@@ -22,11 +22,11 @@ connection_result_of (Err (answering.Broken written)) = Err Broken
 -- How one answer by these rules, on this day, ends, whatever the store is: the store is left, no direction failed where a reply went
 -- out, each fault has its cause, and so have 503 and S3. What went out is not said.
 pub record EndsConnection {S : Type 0} (g : Ghosts S) (rules : List Rule) (day : ℤ) (old new : Store S) (before after : ConnectionTranscript) (result : Result ℕ ServeFault) : Type 0 where
-  pub stays : StoreKeepsArchive g old new result
-  pub quiet : OnOk result ((after.read_failures ≡ before.read_failures) × (after.write_failures ≡ before.write_failures))
+  pub archive_is_kept : StoreKeepsArchive g old new result
+  pub no_failure_if_ok : OnOk result ((after.read_failures ≡ before.read_failures) × (after.write_failures ≡ before.write_failures))
   pub cause : IfErr result (λ fault. HasServeFaultCause before.written after.written
       before.read_failures after.read_failures before.write_failures after.write_failures fault)
-  pub caused : ServesOr503 g old new result (IsInputDataUnreadable before.read after.read rules day)
+  pub fault_has_cause : ServesOr503 g old new result (IsInputDataUnreadable before.read after.read rules day)
 
 -- A head without a token that asks for a path that no route fits got 404 and nothing else: never 503, whatever the store is.
 abbrev pub Answers404IfUnrouted : (before after : ConnectionTranscript) → Result ℕ ServeFault → Type 0

@@ -61,11 +61,11 @@ pub record ExchangeIsAnswered (archive : Archive) (rules : List Rule) (day : ℤ
   pub result : Result ℕ ServeFault
   pub ends : ℕ
   pub written : List ℕ
-  pub reply : AnswersRequestFromArchive archive rules day [] over.read 0 ends [] written result
+  pub answers_request : AnswersRequestFromArchive archive rules day [] over.read 0 ends [] written result
   -- how often a write failed when the reply was made, and when it had been passed on
   pub made : ℕ
-  pub passed : ℕ
-  pub sent : ClientReceives (connection_result_of result) outcome written (made < passed) over.sent
+  pub bytes_passed : ℕ
+  pub client_receives : ClientReceives (connection_result_of result) outcome written (made < bytes_passed) over.sent
 
 -- what went over each connection, by how it ended; over one whose peer was gone before it was taken nothing went
 abbrev pub ExchangesAreAnswered : Archive → List Rule → (day : ℤ) → List ConnectionResult → List Exchange → Type 0

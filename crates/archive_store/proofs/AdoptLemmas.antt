@@ -36,14 +36,14 @@ never_more : MoreFaults 0 0 → ⊥
 never_more more = absurd (omega (arith, more))
 
 is_some : (number : ℕ) → IsKnownVersion number → schema_of_version number ≡ empty_schema → ⊥
-is_some zero known is = absurd (omega (arith, known.least))
+is_some zero known is = absurd (omega (arith, known.at_least_one))
 is_some (suc zero) known is = absurd (let tables = ap (λ (s : Schema). s.tables) is in cc)
 is_some (suc (suc zero)) known is = absurd (let tables = ap (λ (s : Schema). s.tables) is in cc)
 is_some (suc (suc (suc zero))) known is = absurd (let tables = ap (λ (s : Schema). s.tables) is in cc)
-is_some (suc (suc (suc (suc n)))) known is = absurd (omega (arith, known.most))
+is_some (suc (suc (suc (suc n)))) known is = absurd (omega (arith, known.at_most_newest))
 
 is_known : (number : ℕ) → IsOlderVersion number → IsKnownVersion number
-is_known number older = record { least = older.least; most = omega (arith, older.most) }
+is_known number older = record { at_least_one = older.at_least_one; at_most_newest = omega (arith, older.below_newest) }
 
 always_taken : (db : Database) → db.schema ≡ empty_schema → ¬ IsAdoptionRefused db
 always_taken db empty (inl (number, known, schema, other)) = is_some number known (sym schema ∙ empty)
@@ -56,10 +56,10 @@ only_memory _ none other = absurd cc
 
 pub memory_refuses : (connection : Held MemStore) (stop : AdoptStop MemStore) → IsEmpty (state over_memory connection) → IsNew connection → IsNotAdopted over_memory connection stop
     → stop.fault ≡ faults.Memory
-memory_refuses connection stop empty new left = only_memory stop.fault left.fault (λ store.
+memory_refuses connection stop empty new left = only_memory stop.fault left.fault_is_no_refusal (λ store.
     let s = state over_memory connection in
-    let idle : IsIdle s = record { is_open = empty.0.is_open; autocommit = empty.0.autocommit; settled = sym empty.0.clean } in
-    elim (left.caused (memory_is_clean stop.connection) idle (inl empty.2) new.unlimited store) [
+    let idle : IsIdle s = record { is_open = empty.0.is_open; autocommit = empty.0.autocommit; committed_is_now = sym empty.0.clean } in
+    elim (left.fault_has_cause (memory_is_clean stop.connection) idle (inl empty.2) new.unlimited store) [
       | inl more ↦ never_more more
       | inr it ↦ always_taken s.now empty.2 it
     ])

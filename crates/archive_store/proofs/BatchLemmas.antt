@@ -62,7 +62,7 @@ module _ (behind : Option Database) (old new : State) (list : List ℕ) (item : 
   pub large_over : true ≡ nat_lt longest_text (length (whole item.text)) → LeavesRowsUnchanged behind old new → AddsMessageToState behind old new list item count (refused too_large)
   large_over large stays = (
     stays.0,
-    ap (λ a. (a, refused too_large)) (archive_stays stays.1) ∙ rw (n.is_there, sym large) refl,
+    ap (λ a. (a, refused too_large)) (archive_stays stays.1) ∙ rw (n.list_exists, sym large) refl,
     subst (λ a. ListHasMessageCount a list count) (sym (archive_stays stays.1)) n,
   )
 
@@ -71,7 +71,7 @@ module _ (behind : Option Database) (old new : State) (list : List ℕ) (item : 
         → AddsMessageToState behind old new list item count already_known
     known_over e known stays = (
       stays.0,
-      ap (λ a. (a, already_known)) (archive_stays stays.1) ∙ sym (add_known message_limit list k item e small (archive_of old) ((tt, sym n.is_there), known)),
+      ap (λ a. (a, already_known)) (archive_stays stays.1) ∙ sym (add_known message_limit list k item e small (archive_of old) ((tt, sym n.list_exists), known)),
       subst (λ a. ListHasMessageCount a list count) (sym (archive_stays stays.1)) n,
     )
 
@@ -80,14 +80,15 @@ module _ (behind : Option Database) (old new : State) (list : List ℕ) (item : 
     full_over e none full stays = (
       stays.0,
       ap (λ a. (a, refused list_full)) (archive_stays stays.1)
-          ∙ sym (add_full message_limit list k item e small (archive_of old) (((tt, sym n.is_there), none), subst (λ m. true ≡ nat_le message_limit m) (sym n.length_is) (is_full count full))),
+          ∙ sym (add_full message_limit list k item e small (archive_of old)
+          (((tt, sym n.list_exists), none), subst (λ m. true ≡ nat_le message_limit m) (sym n.message_count_is) (is_full count full))),
       subst (λ a. ListHasMessageCount a list count) (sym (archive_stays stays.1)) n,
     )
 
     pub new_is : (key : List ℕ) → k ≡ key → key ≡ item_key item → false ≡ list_any (is_message_at_key list k) (archive_of old).messages → count < 50000
         → add_within_limit message_limit (archive_of old) list item ≡ (with_message_under_key (archive_of old) list key item, taken_in)
     new_is key e ek none room =
-        add_new message_limit list k key item e ek small (archive_of old) (((tt, sym n.is_there), none), subst (λ m. false ≡ nat_le message_limit m) (sym n.length_is) (has_room count room))
+        add_new message_limit list k key item e ek small (archive_of old) (((tt, sym n.list_exists), none), subst (λ m. false ≡ nat_le message_limit m) (sym n.message_count_is) (has_room count room))
 
     pub new_over : (key : List ℕ) (mid : State) → k ≡ key → key ≡ item_key item → false ≡ list_any (is_message_at_key list k) (archive_of old).messages → count < 50000
         → LeavesRowsUnchanged behind old mid → ChangesArchive behind mid new (λ a. with_message_under_key a list key item)
@@ -96,8 +97,8 @@ module _ (behind : Option Database) (old new : State) (list : List ℕ) (item : 
         let change : Archive → Archive = λ a. with_message_under_key a list key item in
         let is : archive_of new ≡ change (archive_of old) = written.1 ∙ ap change (archive_stays stays.1) in
         let more : ListHasMessageCount (change (archive_of old)) list (count + 1) = record {
-          is_there = n.is_there;
-          length_is = counted_more (λ (m : Message). bytes_eq m.list list) (archive_of old).messages (keyed_message list key item) (same_word list) ∙ ap (λ m. m + 1) n.length_is;
+          list_exists = n.list_exists;
+          message_count_is = counted_more (λ (m : Message). bytes_eq m.list list) (archive_of old).messages (keyed_message list key item) (same_word list) ∙ ap (λ m. m + 1) n.message_count_is;
         } in (
           written.0,
           ap (λ a. (a, taken_in)) is
@@ -108,11 +109,11 @@ module _ (behind : Option Database) (old new : State) (list : List ℕ) (item : 
 -- the same outside a transaction, of the tables before a question on them
 module _ (old mid new : State) (list : List ℕ) (same : mid.now ≡ old.now) where
   pub counted_at : (count : ℕ) → true ≡ has_list (archive_of old) list → length (messages_in (archive_of old) list) ≡ count → ListHasMessageCount (archive_of mid) list count
-  counted_at count there n = subst (λ a. ListHasMessageCount a list count) (sym (archive_stays same)) (record { is_there = sym there; length_is = n })
+  counted_at count there n = subst (λ a. ListHasMessageCount a list count) (sym (archive_stays same)) (record { list_exists = sym there; message_count_is = n })
 
   pub steps_counted : (item : Item) (after : ℕ) (reply : CommandReply) → AddsMessageToState None mid new list item after reply
       → (IsArchiveAtRest new × ((archive_of new, reply) ≡ add_within_limit message_limit (archive_of old) list item)) × (IsTrue new.is_open → length (messages_in (archive_of new) list) ≡ after)
-  steps_counted item after reply it = ((it.0, it.1 ∙ ap (λ a. add_within_limit message_limit a list item) (archive_stays same)), λ up. it.2.length_is)
+  steps_counted item after reply it = ((it.0, it.1 ∙ ap (λ a. add_within_limit message_limit a list item) (archive_stays same)), λ up. it.2.message_count_is)
 
   pub rests_counted : (before after : ℕ) → after ≡ before → length (messages_in (archive_of old) list) ≡ before → FaultKeepsRows mid new
       → FaultKeepsRows old new × (IsTrue new.is_open → length (messages_in (archive_of new) list) ≡ after)
@@ -219,25 +220,25 @@ module _ (behind : Option Database) (mid new : State) (a : Archive) (list : List
   pub one_taken : (reply : CommandReply) (telling : AddReport) → AddsMessageToState behind mid new list item after reply
       → tally_of_report telling ≡ tally_replies ((taken a list (take i items)).replies ++ reply ∷ []) → HoldsAddedItems behind new a list (take (i + 1) items) after telling
   one_taken reply telling adds tells = record {
-    held = adds.0;
+    is_open_archive = adds.0;
     archive_is = ap (λ (p : StepOutcome). p.0) adds.1 ∙ ap (λ x. (add_within_limit message_limit x list item).0) so_far.archive_is ∙ sym (taken_more a list items i item within is);
-    counted = adds.2;
-    told = tells ∙ ap (λ r. tally_replies ((taken a list (take i items)).replies ++ r ∷ [])) (answer_is reply adds) ∙ ap tally_replies (sym (reads_text a list items i item within is));
+    list_has_count = adds.2;
+    tally_is = tells ∙ ap (λ r. tally_replies ((taken a list (take i items)).replies ++ r ∷ [])) (answer_is reply adds) ∙ ap tally_replies (sym (reads_text a list items i item within is));
   }
 
   pub none_taken : AddsMessageToState behind mid new list item after (refused list_full) → HoldsAddedItems behind new a list (take i items) after told × IsListFullAt a list items i
   none_taken adds =
       let full = answer_is (refused list_full) adds in (
         record {
-          held = adds.0;
+          is_open_archive = adds.0;
           archive_is = ap (λ (p : StepOutcome). p.0) adds.1 ∙ refused_stays (archive_of mid) list item (sym (ap (λ (p : StepOutcome). p.1) adds.1)) ∙ so_far.archive_is;
-          counted = adds.2;
-          told = so_far.told;
+          list_has_count = adds.2;
+          tally_is = so_far.tally_is;
         },
         record {
-          within = within;
-          full = holds_50000 (taken a list (take i items)).archive list item (sym full);
-          refuses = reads_text a list items i item within is ∙ ap (λ r. (taken a list (take i items)).replies ++ r ∷ []) (sym full);
+          at_in_range = within;
+          list_is_full = holds_50000 (taken a list (take i items)).archive list item (sym full);
+          item_is_refused = reads_text a list items i item within is ∙ ap (λ r. (taken a list (take i items)).replies ++ r ∷ []) (sym full);
         },
       )
 
@@ -250,10 +251,10 @@ held_or_back db old new rests up = elim (rests up) [ inl held ↦ inl held.0 | i
 pub stays_taken : (before after : Option Database) (old new : State) (a : Archive) (list : List ℕ) (items : List Item) (count : ℕ) (told : AddReport)
     → HoldsAddedItems before old a list items count told → LeavesRowsUnchanged after old new → HoldsAddedItems after new a list items count told
 stays_taken before after old new a list items count told t stays = record {
-  held = stays.0;
+  is_open_archive = stays.0;
   archive_is = archive_stays stays.1 ∙ t.archive_is;
-  counted = subst (λ x. ListHasMessageCount x list count) (sym (archive_stays stays.1)) t.counted;
-  told = t.told;
+  list_has_count = subst (λ x. ListHasMessageCount x list count) (sym (archive_stays stays.1)) t.list_has_count;
+  tally_is = t.tally_is;
 }
 
 abbrev pub no_report : AddReport
@@ -267,7 +268,7 @@ no_replies a = refl
 pub first_taken : (behind : Option Database) (s : State) (a : Archive) (list : List ℕ) (items : List Item) (count : ℕ) → IsOpenArchive behind s → archive_of s ≡ a
     → ListHasMessageCount (archive_of s) list count
     → HoldsAddedItems behind s a list (take 0 items) count no_report
-first_taken behind s a list items count k is n = record { held = k; archive_is = is ∙ run_nothing a; counted = n; told = no_replies a }
+first_taken behind s a list items count k is n = record { is_open_archive = k; archive_is = is ∙ run_nothing a; list_has_count = n; tally_is = no_replies a }
 
 -- ---- the bytes of a transaction
 

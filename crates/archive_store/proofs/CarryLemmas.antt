@@ -23,7 +23,7 @@ use Rattle.mbox_items.specs.Division.{Item, whole}
 use Rattle.std.specs.List.{list_any}
 use Rattle.archive_store.proofs.StepEquations.{is_some-find}
 use Rattle.archive_tables.specs.Statements.{Statement, IsStatementRefused}
-use Rattle.archive_tables.specs.Rows.{decoded_marks}
+use Rattle.archive_tables.specs.Rows.{decoded_dated_marks}
 use Rattle.archive_tables.specs.Tables.{archive_in_trees as archive_of_trees}
 use Rattle.archive_tables.specs.Calls.{AnswersFromDatabase, WritesByStatement, LeavesRowsUnchanged}
 use Rattle.archive_tables.specs.Crashes.{IsArchiveStored}
@@ -251,14 +251,14 @@ module _ {S : Type 0} (g : Ghosts S) where
       → Passes told result → IfErr result (λ fault. refusal_of_fault fault ≡ None) → RaisesRefusalCount IsMemoryRefusal (memory_refusal_count old) (memory_refusal_count new) result
       → AnswersFromDatabase g (store_connection old) (store_connection new) told Says ⊥ → ReadsArchive g old new result Says
   looks_passed {old = old} {new = new} {told = told} {result = result} {Says = Says} is fault counted asks = record {
-    lasts = asks.ends.lasts;
-    was_open = λ clean. passes_ok _ told result is (asks.ends.was_open clean);
-    quiet = asks.quiet;
-    fault = fault;
-    counted = counted;
-    over = λ clean kept. passes_to (λ a. Says (archive_in g old) a × LeavesRowsUnchanged None (state g (store_connection old)) (state g (store_connection new))) _ told result is
-        (asks.over clean None kept);
-    caused = blames_disk g (store_connection old) (store_connection new) told result is asks.caused;
+    remains_open = asks.ends_call.remains_open;
+    was_open = λ clean. passes_ok _ told result is (asks.ends_call.was_open clean);
+    crash_adds_nothing = asks.crash_adds_nothing;
+    fault_is_no_refusal = fault;
+    refusals_counted = counted;
+    answer_holds = λ clean kept. passes_to (λ a. Says (archive_in g old) a × LeavesRowsUnchanged None (state g (store_connection old)) (state g (store_connection new))) _ told result is
+        (asks.answer_holds clean None kept);
+    fault_has_cause = blames_disk g (store_connection old) (store_connection new) told result is asks.fault_has_cause;
   }
 
   -- one behind another
@@ -269,45 +269,45 @@ module _ {S : Type 0} (g : Ghosts S) where
       let m = state g (store_connection mid) in
       let n = state g (store_connection new) in
       record {
-        lasts = lasts_then o m n first.lasts next.lasts;
-        was_open = λ clean. on_ok result (first.was_open (next.lasts.returned clean));
-        quiet = λ clean db may. first.quiet (next.lasts.returned clean) db (next.quiet clean db may);
-        fault = next.fault;
-        counted = raises_after IsMemoryRefusal (memory_refusal_count old) (memory_refusal_count mid) (memory_refusal_count new) result first.counted.0 next.counted;
-        over = λ clean kept.
-            let one = first.over (next.lasts.returned clean) kept in
+        remains_open = lasts_then o m n first.remains_open next.remains_open;
+        was_open = λ clean. on_ok result (first.was_open (next.remains_open.disk_was_clean clean));
+        crash_adds_nothing = λ clean db may. first.crash_adds_nothing (next.remains_open.disk_was_clean clean) db (next.crash_adds_nothing clean db may);
+        fault_is_no_refusal = next.fault_is_no_refusal;
+        refusals_counted = raises_after IsMemoryRefusal (memory_refusal_count old) (memory_refusal_count mid) (memory_refusal_count new) result first.refusals_counted.0 next.refusals_counted;
+        answer_holds = λ clean kept.
+            let one = first.answer_holds (next.remains_open.disk_was_clean clean) kept in
             map_match (λ b. Q (archive_in g mid) b × LeavesRowsUnchanged None m n) (λ b. (P (archive_in g old) a × Q (archive_in g old) b) × LeavesRowsUnchanged None o n) _ _ result
             (λ b it. ((one.0, subst (λ x. Q x b) (archive_stays one.1.1) it.0), stays_then None o m n one.1 it.1))
-            (rests_behind None o m n one.1.1) (next.over clean one.1.0);
-        caused = λ clean kept free.
-            let one = first.over (next.lasts.returned clean) kept in
-            blames result (more_since o m n first.lasts) (next.caused clean one.1.0 (first.lasts.limit ∙ free));
+            (rests_behind None o m n one.1.1) (next.answer_holds clean one.1.0);
+        fault_has_cause = λ clean kept free.
+            let one = first.answer_holds (next.remains_open.disk_was_clean clean) kept in
+            blames result (more_since o m n first.remains_open) (next.fault_has_cause clean one.1.0 (first.remains_open.step_limit_is_same ∙ free));
       }
 
   -- what follows from it
   pub looks_say : {A B : Type 0} {old new : Store S} {a : A} {b : B} {P : Archive → A → Type 0} {Q : Archive → B → Type 0}
       → ReadsArchive g old new (Ok a) P → ((x : Archive) → P x a → Q x b) → ReadsArchive g old new (Ok b) Q
   looks_say {old = old} looks so = record {
-    lasts = looks.lasts;
+    remains_open = looks.remains_open;
     was_open = looks.was_open;
-    quiet = looks.quiet;
-    fault = tt;
-    counted = looks.counted;
-    over = λ clean kept. let it = looks.over clean kept in (so (archive_in g old) it.0, it.1);
-    caused = λ clean kept free. tt;
+    crash_adds_nothing = looks.crash_adds_nothing;
+    fault_is_no_refusal = tt;
+    refusals_counted = looks.refusals_counted;
+    answer_holds = λ clean kept. let it = looks.answer_holds clean kept in (so (archive_in g old) it.0, it.1);
+    fault_has_cause = λ clean kept free. tt;
   }
 
   -- whatever is answered
   pub looks_as : {A : Type 0} {old new : Store S} {result : Result A StoreFault} {P Q : Archive → A → Type 0}
       → ReadsArchive g old new result P → ((x : Archive) (a : A) → P x a → Q x a) → ReadsArchive g old new result Q
   looks_as {old = old} {result = result} looks so = record {
-    lasts = looks.lasts;
+    remains_open = looks.remains_open;
     was_open = looks.was_open;
-    quiet = looks.quiet;
-    fault = looks.fault;
-    counted = looks.counted;
-    over = λ clean kept. map_match _ _ _ _ result (λ a it. (so (archive_in g old) a it.0, it.1)) (λ rests. rests) (looks.over clean kept);
-    caused = looks.caused;
+    crash_adds_nothing = looks.crash_adds_nothing;
+    fault_is_no_refusal = looks.fault_is_no_refusal;
+    refusals_counted = looks.refusals_counted;
+    answer_holds = λ clean kept. map_match _ _ _ _ result (λ a it. (so (archive_in g old) a it.0, it.1)) (λ rests. rests) (looks.answer_holds clean kept);
+    fault_has_cause = looks.fault_has_cause;
   }
 
   -- the exit of a `?`
@@ -315,13 +315,13 @@ module _ {S : Type 0} (g : Ghosts S) where
       → ReadsArchive g old new {A = A} (Err fault) P → IsErrAnd result (λ f. f ≡ fault) → ReadsArchive g old new result Q
   looks_stop (Ok b) looks is = absurd is
   looks_stop {B = B} {old = old} {new = new} (Err f) {Q = Q} looks is = subst (λ f. ReadsArchive g old new {A = B} (Err f) Q) (sym is) (record {
-    lasts = looks.lasts;
+    remains_open = looks.remains_open;
     was_open = λ clean. tt;
-    quiet = looks.quiet;
-    fault = looks.fault;
-    counted = looks.counted;
-    over = looks.over;
-    caused = looks.caused;
+    crash_adds_nothing = looks.crash_adds_nothing;
+    fault_is_no_refusal = looks.fault_is_no_refusal;
+    refusals_counted = looks.refusals_counted;
+    answer_holds = looks.answer_holds;
+    fault_has_cause = looks.fault_has_cause;
   })
 
   -- ---- a write
@@ -336,23 +336,24 @@ module _ {S : Type 0} (g : Ghosts S) where
   puts_passed {old = old} {new = new} {told = told} {result = result} {statement = statement} writes is fault counted turn bad =
       let o = state g (store_connection old) in
       record {
-        lasts = writes.ends.lasts;
-        was_open = λ clean. passes_ok _ told result is (writes.ends.was_open clean);
-        fault = fault;
-        counted = counted;
-        over = λ clean kept need.
+        remains_open = writes.ends_call.remains_open;
+        was_open = λ clean. passes_ok _ told result is (writes.ends_call.was_open clean);
+        fault_is_no_refusal = fault;
+        refusals_counted = counted;
+        answer_holds = λ clean kept need.
             let it = turn (archive_in g old) need in
             map_match _ _ _ _ result (λ a made. let m = made it.0 in (m.0, m.1 ∙ it.1)) (λ rests. rests)
-            (passes_to _ _ told result is (writes.over clean None kept));
+            (passes_to _ _ told result is (writes.answer_holds clean None kept));
         crash = λ kept need clean db may.
             let it = turn (archive_in g old) need in
             elim (writes.crash None kept it.0 clean db may) [
               | inl before ↦ inl before
               | inr made ↦ inr (subst (λ a. IsArchiveStored a db) it.1 made.1)
             ];
-        caused = λ clean kept free need.
+        fault_has_cause = λ clean kept free need.
             blames result (λ why. elim why [ inl more ↦ inl more | inr it ↦ inr (bad o.now need it) ])
-            (blames_passed g (store_connection old) (store_connection new) told result (IsStatementRefused statement o.now) is (λ clean kept free. writes.caused clean None kept free) clean kept free);
+            (blames_passed g (store_connection old) (store_connection new) told result (IsStatementRefused statement o.now) is
+            (λ clean kept free. writes.fault_has_cause clean None kept free) clean kept free);
       }
 
   -- it wrote one row
@@ -384,22 +385,22 @@ module _ {S : Type 0} (g : Ghosts S) where
           → IfErr passed (λ fault. refusal_of_fault fault ≡ None) → RaisesRefusalCount IsMemoryRefusal (memory_refusal_count old) (memory_refusal_count new) passed
           → WritesToArchive g old new (one_row passed) (PassesCommandTests (add list item) found) (archive_changed_by (add list item)) (IsWriteRefused (add list item))
       go (Ok _) (Ok _) takes fails ends handed kind counted = record {
-        lasts = ends.lasts;
+        remains_open = ends.remains_open;
         was_open = λ clean. ends.was_open clean;
-        fault = tt;
-        counted = (counted.0, tt);
-        over = λ clean kept need. takes clean None kept (fresh (archive_in g old) list item found need);
+        fault_is_no_refusal = tt;
+        refusals_counted = (counted.0, tt);
+        answer_holds = λ clean kept need. takes clean None kept (fresh (archive_in g old) list item found need);
         crash = λ kept need clean db may. elim (crash None kept (fresh (archive_in g old) list item found need) clean db may) [ inl before ↦ inl before | inr made ↦ inr made.1 ];
-        caused = λ clean kept free need. tt;
+        fault_has_cause = λ clean kept free need. tt;
       }
       go (Err e) (Err fault) takes fails ends handed kind counted = record {
-        lasts = ends.lasts;
+        remains_open = ends.remains_open;
         was_open = λ clean. tt;
-        fault = kind;
-        counted = counted;
-        over = λ clean kept need. takes clean None kept;
+        fault_is_no_refusal = kind;
+        refusals_counted = counted;
+        answer_holds = λ clean kept need. takes clean None kept;
         crash = λ kept need clean db may. elim (crash None kept (fresh (archive_in g old) list item found need) clean db may) [ inl before ↦ inl before | inr made ↦ inr made.1 ];
-        caused = λ clean kept free need it. fails clean None kept free (is_database e (sym handed ∙ it));
+        fault_has_cause = λ clean kept free need it. fails clean None kept free (is_database e (sym handed ∙ it));
       }
       go (Ok _) (Err fault) takes fails ends handed kind counted = absurd handed
       go (Err e) (Ok _) takes fails ends handed kind counted = absurd cc
@@ -419,7 +420,7 @@ module _ {S : Type 0} (g : Ghosts S) where
     pub over : StoreHasCleanDisk g new → HoldsTables g old → P (archive_in g old) × LeavesRowsUnchanged None (state g (store_connection old)) (state g (store_connection new))
 
   leaves_looked : {A : Type 0} {old new : Store S} {a : A} {P : Archive → A → Type 0} → ReadsArchive g old new (Ok a) P → Leaves old new (λ x. P x a)
-  leaves_looked looks = record { lasts = looks.lasts; quiet = looks.quiet; wants = looks.counted.0; over = looks.over }
+  leaves_looked looks = record { lasts = looks.remains_open; quiet = looks.crash_adds_nothing; wants = looks.refusals_counted.0; over = looks.answer_holds }
 
   leaves_nothing : (old : Store S) → Leaves old old (λ _. ⊤)
   leaves_nothing old = record {
@@ -435,16 +436,17 @@ module _ {S : Type 0} (g : Ghosts S) where
         → ReadsArchive g old new {A = A} (Err fault) P → IsErrAnd result (λ f. f ≡ fault) → ExecutesWithinListLimit g old new limit command result
     unlooked (Ok found) looks is = absurd is
     unlooked (Err f) looks is = subst (λ f. ExecutesWithinListLimit g old new limit command (Err f)) (sym is) (record {
-      step = λ clean kept.
-          subst (λ o. MatchesModelStep (state g (store_connection old)) (state g (store_connection new)) (λ a. step_within_limit limit a command) (option_map refused o)) (sym looks.fault)
-          (looks.over clean kept);
-      crash = λ kept clean db may. inl (looks.quiet clean db may);
-      ends = record {
-        lasts = looks.lasts;
+      performs_step = λ clean kept.
+          subst (λ o. MatchesModelStep (state g (store_connection old)) (state g (store_connection new)) (λ a. step_within_limit limit a command) (option_map refused o))
+          (sym looks.fault_is_no_refusal)
+          (looks.answer_holds clean kept);
+      crash = λ kept clean db may. inl (looks.crash_adds_nothing clean db may);
+      ends_write = record {
+        remains_open = looks.remains_open;
         was_open = λ clean. tt;
-        kind = subst (λ o. IfSome o (λ why. IsOneOf why (possible_refusals_of command))) (sym looks.fault) tt;
-        counted = looks.counted;
-        caused = λ clean kept free it. inl (looks.caused clean kept free it);
+        refusal_is_possible = subst (λ o. IfSome o (λ why. IsOneOf why (possible_refusals_of command))) (sym looks.fault_is_no_refusal) tt;
+        refusals_counted = looks.refusals_counted;
+        fault_has_cause = λ clean kept free it. inl (looks.fault_has_cause clean kept free it);
       };
     })
 
@@ -456,12 +458,12 @@ module _ {S : Type 0} (g : Ghosts S) where
     turned_down found fault leaves is at =
         let told = reason_told fault (first_passing_reply (guarded_replies_of command found)) is in
         record {
-          step = λ clean kept.
+          performs_step = λ clean kept.
               let it = leaves.over clean kept in
               subst (λ o. MatchesModelStep (state g (store_connection old)) (state g (store_connection new)) (λ a. step_within_limit limit a command) (option_map refused o)) (sym told.1)
               (it.1.0, ap (λ a. told_at a (refused told.0)) (archive_stays it.1.1) ∙ sym (told_step limit (archive_in g old) command (refused told.0) (at (archive_in g old) it.0 ∙ told.2)));
           crash = λ kept clean db may. inl (leaves.quiet clean db may);
-          ends = refuses g old new (possible_refusals_of command) _ fault told.0 leaves.lasts leaves.wants told.1 (is_reason command found told.0 told.2);
+          ends_write = refuses g old new (possible_refusals_of command) _ fault told.0 leaves.lasts leaves.wants told.1 (is_reason command found told.0 told.2);
         }
 
     -- by what was found of it
@@ -478,19 +480,19 @@ module _ {S : Type 0} (g : Ghosts S) where
     already_there found settled looks told is =
         let known = one_of (first_passing_reply (guarded_replies_of command found)) already_known (sym (ap (option_map reply_without_write) told) ∙ is) in
         record {
-          step = λ clean kept.
-              let it = looks.over clean kept in (
+          performs_step = λ clean kept.
+              let it = looks.answer_holds clean kept in (
                 it.1.0,
                 ap (λ a. told_at a (reply_unless_refused command found)) (archive_stays it.1.1) ∙ ap (told_at (archive_in g old)) (answer_known command found known)
                     ∙ sym (told_step limit (archive_in g old) command already_known (ap (λ f. first_passing_reply (guarded_replies_of command f)) (sym it.0) ∙ known)),
               );
-          crash = λ kept clean db may. inl (looks.quiet clean db may);
-          ends = record {
-            lasts = looks.lasts;
+          crash = λ kept clean db may. inl (looks.crash_adds_nothing clean db may);
+          ends_write = record {
+            remains_open = looks.remains_open;
             was_open = looks.was_open;
-            kind = tt;
-            counted = looks.counted;
-            caused = λ clean kept free. tt;
+            refusal_is_possible = tt;
+            refusals_counted = looks.refusals_counted;
+            fault_has_cause = λ clean kept free. tt;
           };
         }
 
@@ -514,32 +516,32 @@ module _ {S : Type 0} (g : Ghosts S) where
 
     crashes : (result : Result ℕ StoreFault) → PutsIt result → CrashSteps g (store_connection old) (store_connection new) (λ a. step_within_limit limit a command)
     crashes result puts = λ kept clean db may.
-        let was = puts.lasts.returned clean in
-        let it = looks.over was kept in
+        let was = puts.remains_open.disk_was_clean clean in
+        let it = looks.answer_holds was kept in
         let same = archive_stays it.1.1 in
         elim (puts.crash it.1.0 (still it.0 same) clean db may) [
-          | inl before ↦ inl (looks.quiet was db before)
+          | inl before ↦ inl (looks.crash_adds_nothing was db before)
           | inr made ↦ inr (subst (λ a. IsArchiveStored a db) (ap (archive_changed_by command) same ∙ ap (λ (o : StepOutcome). o.0)
               (sym (made_step limit (archive_in g old) command found it.0 none))) made)
         ]
 
     pub carried_out : (n : ℕ) → PutsIt (Ok n) → ExecutesWithinListLimit g old new limit command (Ok found)
     carried_out n puts = record {
-      step = λ clean kept.
-          let it = looks.over (puts.lasts.returned clean) kept in
+      performs_step = λ clean kept.
+          let it = looks.answer_holds (puts.remains_open.disk_was_clean clean) kept in
           let same = archive_stays it.1.1 in
-          let made = puts.over clean it.1.0 (still it.0 same) in (
+          let made = puts.answer_holds clean it.1.0 (still it.0 same) in (
             made.0,
             ap (λ a. told_at a (reply_unless_refused command found)) (made.1 ∙ ap (archive_changed_by command) same)
                 ∙ ap (told_at (archive_changed_by command (archive_in g old))) (answer_made command found none) ∙ sym (made_step limit (archive_in g old) command found it.0 none),
           );
       crash = crashes (Ok n) puts;
-      ends = record {
-        lasts = lasts_then (state g (store_connection old)) (state g (store_connection mid)) (state g (store_connection new)) looks.lasts puts.lasts;
-        was_open = λ clean. looks.lasts.stays_shut (puts.lasts.returned clean) (puts.was_open clean);
-        kind = tt;
-        counted = raises_after IsMemoryRefusal (memory_refusal_count old) (memory_refusal_count mid) (memory_refusal_count new) (Ok found) looks.counted.0 puts.counted;
-        caused = λ clean kept free. tt;
+      ends_write = record {
+        remains_open = lasts_then (state g (store_connection old)) (state g (store_connection mid)) (state g (store_connection new)) looks.remains_open puts.remains_open;
+        was_open = λ clean. looks.remains_open.closed_stays_closed (puts.remains_open.disk_was_clean clean) (puts.was_open clean);
+        refusal_is_possible = tt;
+        refusals_counted = raises_after IsMemoryRefusal (memory_refusal_count old) (memory_refusal_count mid) (memory_refusal_count new) (Ok found) looks.refusals_counted.0 puts.refusals_counted;
+        fault_has_cause = λ clean kept free. tt;
       };
     }
 
@@ -547,24 +549,25 @@ module _ {S : Type 0} (g : Ghosts S) where
         → ExecutesWithinListLimit g old new limit command result
     unwritten fault (Ok f) puts is = absurd is
     unwritten fault (Err f) puts is = subst (λ f. ExecutesWithinListLimit g old new limit command (Err f)) (sym is) (record {
-      step = λ clean kept.
-          let it = looks.over (puts.lasts.returned clean) kept in
-          subst (λ o. MatchesModelStep (state g (store_connection old)) (state g (store_connection new)) (λ a. step_within_limit limit a command) (option_map refused o)) (sym puts.fault)
-          (rests_behind None (state g (store_connection old)) (state g (store_connection mid)) (state g (store_connection new)) it.1.1 (puts.over clean it.1.0 (still it.0 (archive_stays it.1.1))));
+      performs_step = λ clean kept.
+          let it = looks.answer_holds (puts.remains_open.disk_was_clean clean) kept in
+          subst (λ o. MatchesModelStep (state g (store_connection old)) (state g (store_connection new)) (λ a. step_within_limit limit a command) (option_map refused o)) (sym puts.fault_is_no_refusal)
+          (rests_behind None (state g (store_connection old)) (state g (store_connection mid)) (state g (store_connection new)) it.1.1
+          (puts.answer_holds clean it.1.0 (still it.0 (archive_stays it.1.1))));
       crash = crashes (Err fault) puts;
-      ends = record {
-        lasts = lasts_then (state g (store_connection old)) (state g (store_connection mid)) (state g (store_connection new)) looks.lasts puts.lasts;
+      ends_write = record {
+        remains_open = lasts_then (state g (store_connection old)) (state g (store_connection mid)) (state g (store_connection new)) looks.remains_open puts.remains_open;
         was_open = λ clean. tt;
-        kind = subst (λ o. IfSome o (λ why. IsOneOf why (possible_refusals_of command))) (sym puts.fault) tt;
-        counted = raises_after IsMemoryRefusal (memory_refusal_count old) (memory_refusal_count mid) (memory_refusal_count new) (let r : Result CommandFacts StoreFault = Err fault in r)
-            looks.counted.0 puts.counted;
-        caused = λ clean kept free why.
-            let it = looks.over (puts.lasts.returned clean) kept in
-            elim (puts.caused clean it.1.0 (looks.lasts.limit ∙ free) (still it.0 (archive_stays it.1.1)) why) [
-              | inl more ↦ inl (more_since (state g (store_connection old)) (state g (store_connection mid)) (state g (store_connection new)) looks.lasts more)
+        refusal_is_possible = subst (λ o. IfSome o (λ why. IsOneOf why (possible_refusals_of command))) (sym puts.fault_is_no_refusal) tt;
+        refusals_counted = raises_after IsMemoryRefusal (memory_refusal_count old) (memory_refusal_count mid) (memory_refusal_count new) (let r : Result CommandFacts StoreFault = Err fault in r)
+            looks.refusals_counted.0 puts.refusals_counted;
+        fault_has_cause = λ clean kept free why.
+            let it = looks.answer_holds (puts.remains_open.disk_was_clean clean) kept in
+            elim (puts.fault_has_cause clean it.1.0 (looks.remains_open.step_limit_is_same ∙ free) (still it.0 (archive_stays it.1.1)) why) [
+              | inl more ↦ inl (more_since (state g (store_connection old)) (state g (store_connection mid)) (state g (store_connection new)) looks.remains_open more)
               | inr bad ↦ inr (record {
-                carried = subst (λ (o : StepOutcome). IsExecutedReply o.1) (sym (made_step limit (archive_in g old) command found it.0 none)) (is_carried command found);
-                refused = subst (IsWriteRefused command) it.1.1 bad;
+                would_execute = subst (λ (o : StepOutcome). IsExecutedReply o.1) (sym (made_step limit (archive_in g old) command found it.0 none)) (is_carried command found);
+                refuses_rows = subst (IsWriteRefused command) it.1.1 bad;
               })
             ];
       };
@@ -581,12 +584,13 @@ module _ {S : Type 0} (g : Ghosts S) where
       where
         go : (told : Result CommandFacts StoreFault) → ExecutesWithinListLimit g old new limit command told → ExecutesCommand g old new limit command (reply_of_result says) (map_store_result f told)
         go (Ok found) it = record {
-          step = subst (λ (r : CommandReply). PerformsModelStep g (store_connection old) (store_connection new) (λ a. step_within_limit limit a command) (Some r)) (sym (same found)) it.step;
+          performs_step = subst (λ (r : CommandReply). PerformsModelStep g (store_connection old) (store_connection new) (λ a. step_within_limit limit a command) (Some r))
+              (sym (same found)) it.performs_step;
           crash = it.crash;
           ends = record { lasts = it.ends.lasts; was_open = it.ends.was_open; kind = tt; counted = it.ends.counted; caused = λ clean kept free. tt };
         }
         go (Err fault) it = record {
-          step = it.step;
+          performs_step = it.performs_step;
           crash = it.crash;
           ends = record { lasts = it.ends.lasts; was_open = it.ends.was_open; kind = it.ends.kind; counted = it.ends.counted; caused = it.ends.caused };
         }
@@ -594,7 +598,7 @@ module _ {S : Type 0} (g : Ghosts S) where
 -- ---- what is found
 
 -- of a message
-pub message_found : (list : Bool) (o : Option Message) → facts_from_marks_row list (option_map decoded_marks o) ≡ record no_command_facts {
+pub message_found : (list : Bool) (o : Option Message) → facts_from_marks_row list (option_map decoded_dated_marks o) ≡ record no_command_facts {
   list = list;
   message = is_some o;
   withdrawn = is_withdrawn o;

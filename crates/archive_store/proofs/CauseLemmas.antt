@@ -47,7 +47,7 @@ by_error old new e (inl why) it = by_cause old new e why it
 by_error old new e (inr none) it = absurd none
 
 pub more_since : (old mid new : State) → KeepsConnectionUnlessDiskFails old mid → MoreFaults mid.faults new.faults → MoreFaults old.faults new.faults
-more_since old mid new lasts more = omega (arith, more, lasts.shut.faults)
+more_since old mid new lasts more = omega (arith, more, lasts.closes_only_by_fault.faults_never_fall)
 
 -- one behind others
 pub by_later : (old mid new : State) (e : Error) → KeepsConnectionUnlessDiskFails old mid → IsMemoryOrDiskError mid new e ⊎ ⊥ → store_fault_of_error e ≡ faults.Store → MoreFaults old.faults new.faults
@@ -64,7 +64,7 @@ by_address old mid new e None lasts (inr bad) it = absurd bad
 -- ---- messages that cannot be read
 
 pub unread_key : (m : Message) → ¬ IsUtf8 m.key → ¬ IsReadable m
-unread_key m bad it = bad (IsUtf8-key m.key it.key)
+unread_key m bad it = bad (IsUtf8-key m.key it.key_is_valid)
 
 one_in : {X : Type 0} (P : X → Type 0) (before : List X) (x : X) (rest : List X) → All P (before ++ x ∷ rest) → P x
 one_in P [] x rest all = All-head P x rest all

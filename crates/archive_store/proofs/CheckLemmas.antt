@@ -14,7 +14,7 @@ use Rattle.archive_model.proofs.ListedLemmas.{whole_in_order}
 use Rattle.sqlite.specs.Effect.{Database}
 use Rattle.sqlite.specs.Store.{Ghosts}
 use Rattle.archive_tables.specs.Tables.{archive_in_trees, message_from_row, index_columns_from_row}
-use Rattle.archive_tables.specs.Listed.{all_places, filed_at}
+use Rattle.archive_tables.specs.Listed.{all_rowids, filed_at}
 use Rattle.archive_tables.proofs.ListedLemmas.{walked_all}
 use Rattle.archive_store.specs.Told.{HoldsTables, IsOpen, StoreHasCleanDisk, StaysOpenUnlessDiskFails, archive_in as now_holds}
 use Rattle.archive_store.specs.Walking.{current_rows}
@@ -59,14 +59,14 @@ module _ {R : Type 0} (message : R → Message) (filing : R → IndexColumns) wh
   sound_of (r ∷ rows) all =
       let first = All-head IsSoundlyIndexed (message r, filing r) (zip (map message rows) (map filing rows)) all in
       let rest = All-tail IsSoundlyIndexed (message r, filing r) (zip (map message rows) (map filing rows)) all in
-      All-cons IsSoundMessage (message r) (map message rows) first.message (sound_of rows rest)
+      All-cons IsSoundMessage (message r) (map message rows) first.message_is_sound (sound_of rows rest)
 
   filed_of : (rows : List R) → All IsSoundlyIndexed (zip (map message rows) (map filing rows)) → map filing rows ≡ map message_index_columns (map message rows)
   filed_of [] all = refl
   filed_of (r ∷ rows) all =
       let first = All-head IsSoundlyIndexed (message r, filing r) (zip (map message rows) (map filing rows)) all in
       let rest = filed_of rows (All-tail IsSoundlyIndexed (message r, filing r) (zip (map message rows) (map filing rows)) all) in
-      let same : filing r ≡ message_index_columns (message r) = first.filing in
+      let same : filing r ≡ message_index_columns (message r) = first.columns_are_of_text in
       cc
 
 module _ {S : Type 0} (g : Ghosts S) where
@@ -82,7 +82,7 @@ module _ {S : Type 0} (g : Ghosts S) where
     pub joined : before ++ left ≡ sort_by_list_name (indexed_messages (now_holds g old))
     pub sound : All IsSoundlyIndexed before
 
-  pub looks_first : (old now : Store S) (places : List ℤ) → HoldsTables g old → places ≡ all_places (current_rows g old) → RowsStay g old now → HasLooked old now places 0
+  pub looks_first : (old now : Store S) (places : List ℤ) → HoldsTables g old → places ≡ all_rowids (current_rows g old) → RowsStay g old now → HasLooked old now places 0
   looks_first old now places held are stays = record {
     stays = stays;
     before = [];
@@ -121,12 +121,12 @@ module _ {S : Type 0} (g : Ghosts S) where
           sound = All-push IsSoundlyIndexed so_far.before it so_far.sound sound;
         };
         stops = λ list key damaged list_matches key_matches. record {
-          before = so_far.before;
-          it = it;
-          after = rest;
-          place = sym joined;
-          sound = so_far.sound;
-          damaged = damaged;
+          messages_before = so_far.before;
+          damaged_message = it;
+          messages_after = rest;
+          messages_are = sym joined;
+          sound_before = so_far.sound;
+          is_damaged = damaged;
           list_matches = sym list_matches;
           key_matches = sym key_matches;
         };
@@ -138,8 +138,8 @@ module _ {S : Type 0} (g : Ghosts S) where
       let all : so_far.before ≡ sort_by_list_name (indexed_messages (now_holds g old)) = sym (nothing_more so_far.before) ∙ ap (λ fs. so_far.before ++ fs) (sym none) ∙ so_far.joined in
       let whole = whole_in_order (now_holds g old) (subst (All IsSoundlyIndexed) all so_far.sound) in
       record {
-        whole = whole;
-        sound = sound_of message_from_row index_columns_from_row (current_rows g old 8) whole;
+        has_no_damage = whole;
+        messages_are_sound = sound_of message_from_row index_columns_from_row (current_rows g old 8) whole;
         is_indexed_correctly = filed_of message_from_row index_columns_from_row (current_rows g old 8) whole;
       }
 

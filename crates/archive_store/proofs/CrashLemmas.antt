@@ -48,9 +48,9 @@ module _ {S : Type 0} (g : Ghosts S) where
   pub looks_on : {A : Type 0} {told : Result A Error} {a : A} {Says : Archive → A → Type 0} {Unread : Type 0} (old mid new : Held S) (P Q : Archive → Type 0)
       → Looks g old mid P → AnswersFromDatabase g mid new told Says Unread → told ≡ Ok a → ((x : Archive) → Says x a → Q x) → Looks g old new (λ x. P x × Q x)
   looks_on old mid new P Q before it is so = record {
-    learnt = asks g old mid new P Q before.learnt it.ends.lasts.returned
+    learnt = asks g old mid new P Q before.learnt it.ends_call.remains_open.disk_was_clean
         (λ clean kept. let answer = passed_over it is clean kept in (so (archive_of (state g mid)) answer.0, answer.1));
-    quiet = λ clean db may. before.quiet (it.ends.lasts.returned clean) db (it.quiet clean db may);
+    quiet = λ clean db may. before.quiet (it.ends_call.remains_open.disk_was_clean clean) db (it.crash_adds_nothing clean db may);
   }
 
   -- ---- what a stop leaves of an open connection is what is committed
@@ -59,7 +59,7 @@ module _ {S : Type 0} (g : Ghosts S) where
   KeepsCommit c = (db : Trees) → IsTrue (state g c).is_open → (state g c).may_leave db → db ≡ (state g c).committed.trees
 
   now_is : (c : Held S) → KeepsCommit c → IsArchiveAtRest (state g c) → (db : Trees) → (state g c).may_leave db → db ≡ (state g c).now.trees
-  now_is c settled kept db may = settled db kept.is_open may ∙ ap (λ (d : Database). d.trees) kept.settled
+  now_is c settled kept db may = settled db kept.is_open may ∙ ap (λ (d : Database). d.trees) kept.committed_is
 
   pub live_is_safe : (c : Held S) → KeepsCommit c → IsArchiveAtRest (state g c) → IsLive (state g c) → IsCrashSafe (state g c)
   live_is_safe c settled kept live = λ db may.
@@ -68,12 +68,12 @@ module _ {S : Type 0} (g : Ghosts S) where
       record {
         lists = subst (λ (t : Trees). Lists (t catalog_tree) archive_schema) (sym is) listed;
         tables = subst AreArchiveTables (sym is) kept.tables;
-        remembers = ap archive_in_trees is;
+        archive_is = ap archive_in_trees is;
       }
 
   -- it stores an archive, so it stores the one that is open
   safe_by : (c : Held S) → KeepsCommit c → IsArchiveAtRest (state g c) → (db : Trees) → (state g c).may_leave db → (a : Archive) → IsArchiveStored a db → IsArchiveStored (archive_of (state g c)) db
-  safe_by c settled kept db may a stored = record { lists = stored.lists; tables = stored.tables; remembers = ap archive_in_trees (now_is c settled kept db may) }
+  safe_by c settled kept db may a stored = record { lists = stored.lists; tables = stored.tables; archive_is = ap archive_in_trees (now_is c settled kept db may) }
 
   -- behind a call that leaves the tables an archive's, whatever it may commit of them
   pub stays_safe : (old new : Held S) → KeepsCommit new → IsArchiveAtRest (state g new) → (Is : Trees → Type 0) → ((db : Trees) → Is db → (a : Archive) × IsArchiveStored a db)
@@ -129,40 +129,40 @@ module _ {S : Type 0} (g : Ghosts S) where
         → (HasCleanDisk (state g new) → IsArchiveAtRest (state g old) → archive_of (state g new) ≡ (run (archive_of (state g old)) commands).archive)
         → (HasCleanDisk (state g new) → IsArchiveAtRest (state g old) → IsCrashSafe (state g old) → IsCrashSafe (state g new)) → CrashRuns g old new commands (Ok outcomes)
     ran_crash outcomes is safe = record {
-      within = leaves_now old new (HasRunCommands commands 0 (length commands)) (λ clean kept. (
+      during_call = leaves_now old new (HasRunCommands commands 0 (length commands)) (λ clean kept. (
         length commands,
         omega arith,
         omega arith,
         is clean kept ∙ ap (λ cs. (run (archive_of (state g old)) cs).archive) (sym (take_all (length commands) commands (omega arith))),
       )) safe;
-      stopped = tt;
+      after_error = tt;
     }
 
     -- those up to where it stopped, or the next, too
     pub broken_run : (stop : CommandRunError) (most : ℕ) → most ≤ stop.done + 1 → most ≤ length commands → CrashLeavesRelatedArchive g old new (HasRunCommands commands stop.done most)
         → CrashRuns g old new commands (Err stop)
     broken_run stop most next all leaves = record {
-      within = leaves_as old new (HasRunCommands commands stop.done most) (HasRunCommands commands 0 (length commands)) (λ a b it. (it.0, omega arith, omega (arith, it.2, all), it.3)) leaves;
-      stopped = leaves_as old new (HasRunCommands commands stop.done most) (HasRunCommands commands stop.done (stop.done + 1)) (λ a b it. (it.0, it.1, omega (arith, it.2, next), it.3)) leaves;
+      during_call = leaves_as old new (HasRunCommands commands stop.done most) (HasRunCommands commands 0 (length commands)) (λ a b it. (it.0, omega arith, omega (arith, it.2, all), it.3)) leaves;
+      after_error = leaves_as old new (HasRunCommands commands stop.done most) (HasRunCommands commands stop.done (stop.done + 1)) (λ a b it. (it.0, it.1, omega (arith, it.2, next), it.3)) leaves;
     }
 
   module _ (old new : Held S) (list : List ℕ) (items : List Item) where
     pub added_crash : (report : AddReport)
         → (HasCleanDisk (state g new) → IsArchiveAtRest (state g old) → HasAddedAtLeast list items 0 (archive_of (state g old)) (archive_of (state g new)))
         → (HasCleanDisk (state g new) → IsArchiveAtRest (state g old) → IsCrashSafe (state g old) → IsCrashSafe (state g new)) → CrashAddsAllBatches g old new list items (Ok report)
-    added_crash report is safe = record { within = leaves_now old new (HasAddedAtLeast list items 0) is safe; stopped = tt }
+    added_crash report is safe = record { during_call = leaves_now old new (HasAddedAtLeast list items 0) is safe; after_error = tt }
 
     pub broken_crash : (stop : AddError) → CrashLeavesRelatedArchive g old new (HasAddedAtLeast list items stop.done) → CrashAddsAllBatches g old new list items (Err stop)
     broken_crash stop leaves = record {
-      within = leaves_as old new (HasAddedAtLeast list items stop.done) (HasAddedAtLeast list items 0) (λ a b it. (it.0, omega arith, it.2)) leaves;
-      stopped = leaves;
+      during_call = leaves_as old new (HasAddedAtLeast list items stop.done) (HasAddedAtLeast list items 0) (λ a b it. (it.0, omega arith, it.2)) leaves;
+      after_error = leaves;
     }
 
     -- where all were added, what is remembered
     pub all_safe : KeepsCommit new → (report : AddReport) → AddsAllMessages g old new (Ok report) list items → CrashAddsAllBatches g old new list items (Ok report) → HasCleanDisk (state g new)
         → IsArchiveAtRest (state g old) → IsCrashSafe (state g old) → IsCrashSafe (state g new)
     all_safe settled report step crash clean kept safe =
-        left_safe new settled (step clean kept).0 (HasAddedAtLeast list items 0 (archive_of (state g old))) (crash.within clean kept safe)
+        left_safe new settled (step clean kept).0 (HasAddedAtLeast list items 0 (archive_of (state g old))) (crash.during_call clean kept safe)
 
   -- ---- a database that is taken over
 
@@ -174,7 +174,7 @@ module _ {S : Type 0} (g : Ghosts S) where
   pub adopts_as : (old mid last new : Held S) (limit : Option ℕ) → last ≡ mid → new ≡ record last { step_limit = limit } → CrashAdopts g old mid → CrashAdopts g old new
   adopts_as old mid last new limit same is adopts =
       let there = adopts_at old mid last same adopts in
-      adopts_at old (record last { step_limit = limit }) new is (record { made = there.made; brought = there.brought })
+      adopts_at old (record last { step_limit = limit }) new is (record { makes_if_empty = there.makes_if_empty; migrates_older = there.migrates_older })
 
 -- tables of a version are no empty database
 has_tables : (first second : Bool) → (if first then schema_1 else if second then schema_2 else schema_3) ≡ empty_schema → ⊥

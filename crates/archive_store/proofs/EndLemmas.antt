@@ -51,8 +51,8 @@ passes_same P Q (Err e) (Err f) is it = it
 pub rows_asked : {S A : Type 0} {g : Ghosts S} {mid new : Held S} (old : State) (told : Result A Error) {Says : Archive → A → Type 0} {Unread : Type 0} → AnswersFromDatabase g mid new told Says Unread
     → HasCleanDisk (state g new) → (state g mid).now ≡ old.now → (IsArchiveAtRest old → IsArchiveAtRest (state g mid))
     → MatchResult told (λ _. (state g new).now ≡ old.now) (λ _. IsArchiveAtRest old → FaultKeepsRows old (state g new))
-rows_asked old (Ok a) asks clean same held = asks.same clean ∙ same
-rows_asked {g = g} {mid = mid} {new = new} old (Err e) asks clean same held = λ kept. rests_behind None old (state g mid) (state g new) same (asks.over clean None (held kept))
+rows_asked old (Ok a) asks clean same held = asks.same_database clean ∙ same
+rows_asked {g = g} {mid = mid} {new = new} old (Err e) asks clean same held = λ kept. rests_behind None old (state g mid) (state g new) same (asks.answer_holds clean None (held kept))
 
 -- ---- why a call failed that told an error
 
@@ -88,9 +88,9 @@ module _ {S : Type 0} (g : Ghosts S) where
   pub asked : (old mid new : Held S) {A : Type 0} {told : Result A Error} {a : A} {Says : Archive → A → Type 0} {Unread : Type 0}
       → Stood old mid → AnswersFromDatabase g mid new told Says Unread → told ≡ Ok a → Stood old new
   asked old mid new before asks is = record {
-    lasts = lasts_then (state g old) (state g mid) (state g new) before.lasts asks.ends.lasts;
-    same = λ clean. saw_same (state g mid) (state g new) is (asks.same clean) ∙ before.same (asks.ends.lasts.returned clean);
-    kept = λ clean kept. (passed_over asks is clean (before.kept (asks.ends.lasts.returned clean) kept)).1.0;
+    lasts = lasts_then (state g old) (state g mid) (state g new) before.lasts asks.ends_call.remains_open;
+    same = λ clean. saw_same (state g mid) (state g new) is (asks.same_database clean) ∙ before.same (asks.ends_call.remains_open.disk_was_clean clean);
+    kept = λ clean kept. (passed_over asks is clean (before.kept (asks.ends_call.remains_open.disk_was_clean clean) kept)).1.0;
   }
 
   -- it found the connection open
@@ -101,7 +101,7 @@ module _ {S : Type 0} (g : Ghosts S) where
   pub learnt : (old mid new : Held S) {A : Type 0} {told : Result A Error} {a : A} {Says : Archive → A → Type 0} {Unread : Type 0}
       → Stood old mid → AnswersFromDatabase g mid new told Says Unread → told ≡ Ok a → HasCleanDisk (state g new) → IsArchiveAtRest (state g old) → Says (archive_in_trees (state g old).now.trees) a
   learnt old mid new {a = a} {Says = Says} before asks is clean kept =
-      let was = asks.ends.lasts.returned clean in
+      let was = asks.ends_call.remains_open.disk_was_clean clean in
       subst (λ (db : Database). Says (archive_in_trees db.trees) a) (before.same was) (passed_over asks is clean (before.kept was kept)).0
 
   module _ (old new : Store S) (mid : Held S) (wants : ℕ) (reasons : List Refusal) where
@@ -114,8 +114,8 @@ module _ {S : Type 0} (g : Ghosts S) where
         → HasCleanDisk (state g mid) → IsArchiveAtRest (state g (store_connection old)) → (state g (store_connection old)).step_limit ≡ None → fault ≡ faults.Store
         → DiskHasFailed g old new ⊎ Refused (state g (store_connection old)).now
     carry Raw Refused fault before why turn clean kept free it =
-        elim (why (before.kept clean kept) (before.lasts.limit ∙ free) it) [
-          | inl more ↦ inl (omega (arith, more, before.lasts.shut.faults))
+        elim (why (before.kept clean kept) (before.lasts.step_limit_is_same ∙ free) it) [
+          | inl more ↦ inl (omega (arith, more, before.lasts.closes_only_by_fault.faults_never_fall))
           | inr refused ↦ inr (turn (subst Raw (before.same clean) refused))
         ]
 
@@ -128,15 +128,15 @@ module _ {S : Type 0} (g : Ghosts S) where
         → EndsWithCause g old new (DiskHasFailed g old new ⊎ Refused (state g (store_connection old)).now) result reasons
     stops Raw Refused (Ok b) fault before first last none counts is why turn = absurd is
     stops Raw Refused (Err f) fault before first last none counts is why turn = record {
-      lasts = lasts_then (state g (store_connection old)) (state g mid) (state g (store_connection new)) before.lasts last;
+      remains_open = lasts_then (state g (store_connection old)) (state g mid) (state g (store_connection new)) before.lasts last;
       was_open = λ clean. tt;
-      kind = subst (λ o. IfSome o (λ why. IsOneOf why reasons)) (sym (ap refusal_of_fault is ∙ none)) tt;
-      counted = (
+      refusal_is_possible = subst (λ o. IfSome o (λ why. IsOneOf why reasons)) (sym (ap refusal_of_fault is ∙ none)) tt;
+      refusals_counted = (
         omega (arith, counts.0, first),
         (λ want. let more = counts.1 (sym is ∙ want) in omega (arith, more, first)),
       );
-      caused = λ clean kept free it.
-          let clean_1 = last.returned clean in
+      fault_has_cause = λ clean kept free it.
+          let clean_1 = last.disk_was_clean clean in
           carry Raw Refused fault before (why clean) (turn clean_1 kept) clean_1 kept free (sym is ∙ it);
     }
 
@@ -146,8 +146,8 @@ module _ {S : Type 0} (g : Ghosts S) where
         → refusal_of_fault fault ≡ None → CountsFault fault wants (memory_refusal_count new) → IsErrAnd result (λ f. f ≡ fault)
         → EndsWithCause g old new (DiskHasFailed g old new ⊎ Refused (state g (store_connection old)).now) result reasons
     stops_asking Refused result fault {told = told} before first asks told_is none counts is =
-        stops (λ _. ⊥) Refused result fault before first asks.ends.lasts none counts is
-        (λ clean kept free. blame_error (state g mid) (state g (store_connection new)) ⊥ told fault told_is (asks.caused clean kept free))
+        stops (λ _. ⊥) Refused result fault before first asks.ends_call.remains_open none counts is
+        (λ clean kept free. blame_error (state g mid) (state g (store_connection new)) ⊥ told fault told_is (asks.fault_has_cause clean kept free))
         (λ clean kept bad. absurd bad)
 
     -- ---- an exit behind a call that was answered
@@ -157,11 +157,11 @@ module _ {S : Type 0} (g : Ghosts S) where
         → memory_refusal_count old ≤ wants → KeepsConnectionUnlessDiskFails (state g mid) (state g (store_connection new)) → wants ≤ memory_refusal_count new
         → EndsWithCause g old new Cause (Ok b) reasons
     ends_later Cause b before up first last counts = record {
-      lasts = lasts_then (state g (store_connection old)) (state g mid) (state g (store_connection new)) before.lasts last;
-      was_open = λ clean. up (last.returned clean);
-      kind = tt;
-      counted = (omega (arith, counts, first), tt);
-      caused = λ clean kept free. tt;
+      remains_open = lasts_then (state g (store_connection old)) (state g mid) (state g (store_connection new)) before.lasts last;
+      was_open = λ clean. up (last.disk_was_clean clean);
+      refusal_is_possible = tt;
+      refusals_counted = (omega (arith, counts, first), tt);
+      fault_has_cause = λ clean kept free. tt;
     }
 
   -- ---- a refusal for a reason, behind questions
@@ -170,20 +170,20 @@ module _ {S : Type 0} (g : Ghosts S) where
       → KeepsConnectionUnlessDiskFails (state g (store_connection old)) (state g (store_connection new))
       → memory_refusal_count old ≤ memory_refusal_count new → refusal_of_fault why ≡ Some reason → IsOneOf reason reasons → EndsWithCause g old new Cause {A = B} (Err why) reasons
   refuses old new reasons Cause why reason before same is one = record {
-    lasts = before;
+    remains_open = before;
     was_open = λ clean. tt;
-    kind = subst (λ o. IfSome o (λ why. IsOneOf why reasons)) (sym is) one;
-    counted = (same, (λ want. absurd (let bad : ◌≡◌ {A = Option Refusal} None (Some reason) = ap refusal_of_fault (sym want) ∙ is in cc)));
-    caused = λ clean kept free it. absurd (let bad : ◌≡◌ {A = Option Refusal} None (Some reason) = ap refusal_of_fault (sym it) ∙ is in cc);
+    refusal_is_possible = subst (λ o. IfSome o (λ why. IsOneOf why reasons)) (sym is) one;
+    refusals_counted = (same, (λ want. absurd (let bad : ◌≡◌ {A = Option Refusal} None (Some reason) = ap refusal_of_fault (sym want) ∙ is in cc)));
+    fault_has_cause = λ clean kept free it. absurd (let bad : ◌≡◌ {A = Option Refusal} None (Some reason) = ap refusal_of_fault (sym it) ∙ is in cc);
   }
 
   -- memory was refused to the store itself
   pub wanted : {B : Type 0} (old new : Store S) (reasons : List Refusal) (Cause : Type 0) (fault : StoreFault) (wants : ℕ) → Stood (store_connection old) (store_connection new)
       → memory_refusal_count old ≤ wants → fault ≡ faults.Memory → memory_refusal_count new ≡ wants + 1 → EndsWithCause g old new Cause {A = B} (Err fault) reasons
   wanted old new reasons Cause fault wants before first is more = record {
-    lasts = before.lasts;
+    remains_open = before.lasts;
     was_open = λ clean. tt;
-    kind = subst (λ f. IfSome (refusal_of_fault f) (λ why. IsOneOf why reasons)) (sym is) tt;
-    counted = (omega (arith, first, more), (λ want. omega (arith, first, more)));
-    caused = λ clean kept free it. absurd (let bad : faults.Memory ≡ faults.Store = sym is ∙ it in cc);
+    refusal_is_possible = subst (λ f. IfSome (refusal_of_fault f) (λ why. IsOneOf why reasons)) (sym is) tt;
+    refusals_counted = (omega (arith, first, more), (λ want. omega (arith, first, more)));
+    fault_has_cause = λ clean kept free it. absurd (let bad : faults.Memory ≡ faults.Store = sym is ∙ it in cc);
   }

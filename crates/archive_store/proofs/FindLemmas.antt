@@ -86,13 +86,13 @@ module _ {S A : Type 0} {g : Ghosts S} {old new : Held S} where
   pub passed_rows : {told : Result A Error} {a : A} {Says : Trees → A → Type 0} {Unread : Type 0} → AnswersFromRows g old new told Says Unread → told ≡ Ok a
       → HasCleanDisk (state g new) → IsArchiveAtRest (state g old) → Says (state g old).now.trees a × ((state g new).now ≡ (state g old).now) × IsOpenArchive None (state g new)
   passed_rows {Says = Says} {Unread = Unread} asks is clean kept =
-      let it = (subst (λ t. AnswersFromRows g old new t Says Unread) is asks).over clean None kept in
+      let it = (subst (λ t. AnswersFromRows g old new t Says Unread) is asks).answer_holds clean None kept in
       (it.0, it.1.1, it.1.0)
 
   pub passed_no_rows : (told : Result A Error) (Is : Error → Type 0) {Says : Trees → A → Type 0} {Unread : Type 0} → AnswersFromRows g old new told Says Unread → IsErrAnd told Is
       → HasCleanDisk (state g new) → IsArchiveAtRest (state g old) → IsTrue (state g new).is_open → ((state g new).now ≡ (state g old).now) × IsOpenArchive None (state g new)
   passed_no_rows (Ok a) Is asks is = absurd is
-  passed_no_rows (Err e) Is asks is = λ clean kept up. let it = asks.over clean None kept up in (it.1, it.0)
+  passed_no_rows (Err e) Is asks is = λ clean kept up. let it = asks.answer_holds clean None kept up in (it.1, it.0)
 
 -- ---- what was read of rows, handed on
 
@@ -154,11 +154,11 @@ module _ {A : Type 0} (r : Result A StoreFault) (fault : StoreFault) (is : IsErr
 pub ends_first : {S A B : Type 0} (g : Ghosts S) (old new : Store S) (r : Result A StoreFault) (fault : StoreFault) → IsErrAnd r (λ told. told ≡ fault)
     → EndsQuestion g old new {A = B} (Err fault) [] → {Cause : Type 0} → (DiskHasFailed g old new → Cause) → (whys : List Refusal) → EndsWithCause g old new Cause r whys
 ends_first {B = B} g old new r fault is ends because whys = record {
-  lasts = ends.lasts;
+  remains_open = ends.remains_open;
   was_open = λ returned. answers_none r _ _ is;
-  kind = stops_for r fault is (no_reason_of fault ends.kind) whys;
-  counted = raises_on B _ _ r fault is ends.counted;
-  caused = λ returned held free. passed_on r fault _ is (λ it. because (ends.caused returned held free it));
+  refusal_is_possible = stops_for r fault is (no_reason_of fault ends.refusal_is_possible) whys;
+  refusals_counted = raises_on B _ _ r fault is ends.refusals_counted;
+  fault_has_cause = λ returned held free. passed_on r fault _ is (λ it. because (ends.fault_has_cause returned held free it));
 }
 
 -- ---- one question behind another

@@ -13,11 +13,11 @@ use Rattle.archive_store.specs.declared.store.Store.{Store}
 module _ {S : Type 0} (g : Ghosts S) (old new : Store S) where
   -- what was open is open, where the disk did not fail once more
   stays_open : StaysOpenUnlessDiskFails g old new → (MoreFaults (faults_of g old) (faults_of g new) → ⊥) → StoreHasCleanDisk g new → IsOpen g old → IsOpen g new
-  stays_open lasts none returned up = elim (lasts.shut.stays_open returned up) [ inl still ↦ still | inr more ↦ absurd (none more) ]
+  stays_open lasts none returned up = elim (lasts.closes_only_by_fault.stays_open returned up) [ inl still ↦ still | inr more ↦ absurd (none more) ]
 
   -- what is said of a store if its connection is still open is so
   pub follows : (R : Archive → Archive → Type 0) → RelatesReadyArchivesIfOpen g old new R → (MoreFaults (faults_of g old) (faults_of g new) → ⊥) → RelatesReadyArchives g old new R
-  follows R goes none = (goes.0, (λ returned ready. goes.1 returned ready (stays_open goes.0 none returned ready.held.is_open)))
+  follows R goes none = (goes.0, (λ returned ready. goes.1 returned ready (stays_open goes.0 none returned ready.is_archive_at_rest.is_open)))
 
 never_more : MoreFaults 0 0 → ⊥
 never_more more = absurd (omega (arith, more))

@@ -22,14 +22,14 @@ module _ {S : Type 0} (g : Ghosts S) where
 
   -- what holds an archive in which what is filed is right
   pub ready_with : (store : Store S) (a : Archive) → HoldsTables g store → archive_in g store ≡ a → IsIndexedCorrectly a → IsReady g store
-  ready_with store a held is right = record { held = held; is_indexed_correctly = subst IsIndexedCorrectly (sym is) right }
+  ready_with store a held is right = record { is_archive_at_rest = held; is_indexed_correctly = subst IsIndexedCorrectly (sym is) right }
 
   -- who found a store whole may rely on it: it is ready, and each message is sound
   pub ready_by_check : (old new : Store S) (u : Unit {0}) → ChecksArchive g old new (Ok u) → StoreHasCleanDisk g new → HoldsTables g old → IsReady g new × HasSoundMessages (archive_in g new)
   ready_by_check old new u checks returned held =
       let it = checks.1 returned held in
       let whole = it.1.1 in
-      (ready_with new (archive_in g old) it.0 it.1.0 whole.is_indexed_correctly, subst HasSoundMessages (sym it.1.0) whole.sound)
+      (ready_with new (archive_in g old) it.0 it.1.0 whole.is_indexed_correctly, subst HasSoundMessages (sym it.1.0) whole.messages_are_sound)
 
   module _ (old new : Store S) where
     module _ (R : Archive → Archive → Type 0) (keeps : (a b : Archive) → R a b → IsIndexedCorrectly a → IsIndexedCorrectly b) where
@@ -37,16 +37,16 @@ module _ {S : Type 0} (g : Ghosts S) where
       right_too goes = (
         goes.0,
         λ returned ready.
-            let it = goes.1 returned ready.held in
-            (record { held = it.0; is_indexed_correctly = keeps _ _ it.1 ready.is_indexed_correctly }, it.1),
+            let it = goes.1 returned ready.is_archive_at_rest in
+            (record { is_archive_at_rest = it.0; is_indexed_correctly = keeps _ _ it.1 ready.is_indexed_correctly }, it.1),
       )
 
       pub right_too_if_open : RelatesArchivesUnderIfOpen g (HoldsTables g) old new R → RelatesReadyArchivesIfOpen g old new R
       right_too_if_open goes = (
         goes.0,
         λ returned ready up.
-            let it = goes.1 returned ready.held up in
-            (record { held = it.0; is_indexed_correctly = keeps _ _ it.1 ready.is_indexed_correctly }, it.1),
+            let it = goes.1 returned ready.is_archive_at_rest up in
+            (record { is_archive_at_rest = it.0; is_indexed_correctly = keeps _ _ it.1 ready.is_indexed_correctly }, it.1),
       )
 
     -- what leaves the archive leaves it right
@@ -149,7 +149,7 @@ module _ {S : Type 0} (g : Ghosts S) where
     goes_on_in old mid new R Q first second = (
       lasts_then _ _ _ first.0 second.0,
       (λ returned held.
-          let one = first.1 (second.0.returned returned) held in
+          let one = first.1 (second.0.disk_was_clean returned) held in
           let two = second.1 returned one.0 in
           (two.0, (archive_in g mid, one.1, two.1))),
     )
@@ -159,7 +159,7 @@ module _ {S : Type 0} (g : Ghosts S) where
     goes_on_in_if_open old mid new R Q first second = (
       lasts_then _ _ _ first.0 second.0,
       (λ returned held up.
-          let one = first.1 (second.0.returned returned) held in
+          let one = first.1 (second.0.disk_was_clean returned) held in
           let two = second.1 returned one.0 up in
           (two.0, (archive_in g mid, one.1, two.1))),
     )

@@ -30,7 +30,7 @@ module _ {S A : Type 0} {g : Ghosts S} {old new : Held S} where
   -- the same of the rows
   pub passed_over : {told : Result A Error} {a : A} {Says : Archive → A → Type 0} {Unread : Type 0} → AnswersFromDatabase g old new told Says Unread → told ≡ Ok a
       → HasCleanDisk (state g new) → IsArchiveAtRest (state g old) → Says (archive_of (state g old)) a × LeavesRowsUnchanged None (state g old) (state g new)
-  passed_over {Says = Says} {Unread = Unread} asks is clean kept = (subst (λ r. AnswersFromDatabase g old new r Says Unread) is asks).over clean None kept
+  passed_over {Says = Says} {Unread = Unread} asks is clean kept = (subst (λ r. AnswersFromDatabase g old new r Says Unread) is asks).answer_holds clean None kept
 
   pub passed_unanswered : (told : Result A Error) (Is : Error → Type 0) {Says : Archive → A → Type 0} {Unread : Type 0} → AnswersFromDatabase g old new told Says Unread → IsErrAnd told Is
       → HasCleanDisk (state g new) → IsArchiveAtRest (state g old) → IsTrue (state g new).is_open → ArchiveIsUnchanged g old new
@@ -77,7 +77,7 @@ module _ {S A : Type 0} (g : Ghosts S) (old mid new : Held S) (told : Result A E
   pub open_last : (result : Result A StoreFault) → Passes told result → KeepsConnectionUnlessDiskFails (state g old) (state g mid) → KeepsConnectionUnlessDiskFails (state g mid) (state g new)
       → AnswersOnlyIfOpen g mid new told → AnswersOnlyIfOpen g old new result
   open_last (Ok a) is first last was = λ clean.
-      first.stays_shut (last.returned clean) (subst (λ r. OnOk r (IsTrue (state g mid).is_open)) is (was clean))
+      first.closed_stays_closed (last.disk_was_clean clean) (subst (λ r. OnOk r (IsTrue (state g mid).is_open)) is (was clean))
   open_last (Err f) is first last was = λ clean. tt
 
   -- a question behind others, which left the archive and did not refuse it

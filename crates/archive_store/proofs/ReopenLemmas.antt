@@ -27,17 +27,17 @@ pub kept_again : {D : Type 0} {g : Ghosts D} (old new : Held (FileStore D g)) (f
     → IsArchiveAtRest (file_state new) × (archive_of (file_state new) ≡ archive_of (file_state old))
 kept_again old new files kept live closed found opened =
     let trees : (file_state new).now.trees ≡ (file_state old).now.trees =
-    ap (λ (db : Database). db.trees) opened.0.clean ∙ finds_again old new files closed found ∙ ap (λ (db : Database). db.trees) kept.settled in
+    ap (λ (db : Database). db.trees) opened.0.clean ∙ finds_again old new files closed found ∙ ap (λ (db : Database). db.trees) kept.committed_is in
     let before = (live kept.is_open).0.lists in
     let after = (opened.1 opened.0.is_open).0.lists in
     let schema = lists_once _ _ _ (subst (λ (db : Trees). Lists (db catalog_tree) (file_state new).now.schema) trees after) before in (
       record {
         is_open = opened.0.is_open;
         autocommit = opened.0.autocommit;
-        settled = sym opened.0.clean;
+        committed_is = sym opened.0.clean;
         schema = schema ∙ kept.schema;
         tables = subst AreArchiveTables (sym trees) kept.tables;
-        whole = tt;
+        rollback_leaves_archive = tt;
       },
       ap archive_in_trees trees,
     )

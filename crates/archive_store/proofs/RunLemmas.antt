@@ -101,21 +101,21 @@ told_on {A = A} X answer (Err fault) is why = subst (λ (r : Result A StoreFault
 pub ends_told : {S : Type 0} (g : Ghosts S) (old new : Store S) (command : Command) (answer : Result CommandFacts StoreFault) (result : Result Outcome StoreFault)
     → IfErr result (λ fault. answer ≡ Err fault) → (reasons : List Refusal) → EndsWrite g old new answer reasons (IsCommandRefused command) → EndsCommand g old new command result
 ends_told g old new command answer result told reasons ends = record {
-  lasts = ends.lasts;
-  counted = raises_carried (memory_refusal_count old) (memory_refusal_count new) result answer told ends.counted;
-  caused = λ clean kept free. told_on (DiskHasFailed g old new ⊎ IsCommandRefused command (state g (store_connection old)).now) answer result told (ends.caused clean kept free);
+  remains_open = ends.remains_open;
+  refusals_counted = raises_carried (memory_refusal_count old) (memory_refusal_count new) result answer told ends.refusals_counted;
+  fault_has_cause = λ clean kept free. told_on (DiskHasFailed g old new ⊎ IsCommandRefused command (state g (store_connection old)).now) answer result told (ends.fault_has_cause clean kept free);
 }
 
 -- the next of the commands is refused
 pub stops_run : (commands : List Given) (done i : ℕ) (given : Given) (db : Database) → done ≡ i → i < length commands → given ≡ get_or commands i given
     → IsCommandRefused (spec_command given) db → RowsRefuseNextCommand (map spec_command commands) done db
 stops_run commands done i given db at within is refused = record {
-  before = map spec_command (take i commands);
+  commands_before = map spec_command (take i commands);
   command = spec_command given;
-  rest = map spec_command (drop (suc i) commands);
-  are =
+  commands_after = map spec_command (drop (suc i) commands);
+  commands_are =
       let whole = ap (λ x. take i commands ++ x ∷ drop (suc i) commands) is ∙ ap (λ xs. take i commands ++ xs) (sym (drop-cons commands i given within)) ∙ take-append-drop i commands in
       sym (map-append spec_command (take i commands) (given ∷ drop (suc i) commands)) ∙ ap (map spec_command) whole;
-  first = length-map (take i commands) spec_command ∙ length-take-le i commands (omega (arith, within)) ∙ sym at;
-  stopped = refused;
+  done_is_count = length-map (take i commands) spec_command ∙ length-take-le i commands (omega (arith, within)) ∙ sym at;
+  is_refused = refused;
 }

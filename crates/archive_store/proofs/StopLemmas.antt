@@ -26,11 +26,11 @@ use Rattle.archive_store.proofs.CauseLemmas.{by_cause}
 pub outside : {S A : Type 0} {g : Ghosts S} {old new : Held S} {result : Result A Error} {Says : Archive → A → Type 0} → AnswersOrFailsByFault g old new result Says
     → AnswersFromDatabase g old new result Says ⊥
 outside {S} {A} {g} {old} {new} {result} {Says} it = record {
-  over = it.over;
-  caused = λ clean kept free. either result (it.caused clean None kept free);
-  same = it.same;
-  quiet = it.quiet;
-  ends = it.ends;
+  answer_holds = it.answer_holds;
+  fault_has_cause = λ clean kept free. either result (it.fault_has_cause clean None kept free);
+  same_database = it.same_database;
+  crash_adds_nothing = it.crash_adds_nothing;
+  ends_call = it.ends_call;
 }
   where
     either : (r : Result A Error) → IfErr r (λ e. IsMemoryOrDiskError (state g old) (state g new) e) → IfErr r (λ e. IsMemoryOrDiskError (state g old) (state g new) e ⊎ ⊥)
@@ -91,13 +91,13 @@ module _ (list : List ℕ) (items : List Item) (i : ℕ) (item : Item) (within :
 
   pub stops_there : IsCommandRefused (add list item) mid → RowsRefuseAnItem list items first
   stops_there stopped = record {
-    before = take i items;
+    items_before = take i items;
     item = item;
-    rest = drop (suc i) items;
-    are = ap (λ x. take i items ++ x ∷ drop (suc i) items) is ∙ ap (λ xs. take i items ++ xs) (sym (drop-cons items i item within)) ∙ take-append-drop i items;
-    rows = mid;
-    made = made;
-    stopped = stopped;
+    items_after = drop (suc i) items;
+    items_are = ap (λ x. take i items ++ x ∷ drop (suc i) items) is ∙ ap (λ xs. take i items ++ xs) (sym (drop-cons items i item within)) ∙ take-append-drop i items;
+    database = mid;
+    makes_rows = made;
+    is_refused = stopped;
   }
 
 -- ---- items from a place on
@@ -113,7 +113,7 @@ among_later items from at item order is =
 -- They are those that were there, or the disk failed.
 pub left_or_failed : (first last : State) (P : Database → Type 0) → KeepsConnectionUnlessDiskFails first last → HasCleanDisk last → IsTrue first.is_open → (IsTrue last.is_open → last.now ≡ first.now)
     → P first.now → MoreFaults first.faults last.faults ⊎ P last.now
-left_or_failed first last P lasts clean was same it = elim (lasts.shut.stays_open clean was) [
+left_or_failed first last P lasts clean was same it = elim (lasts.closes_only_by_fault.stays_open clean was) [
   | inl up ↦ inr (subst P (sym (same up)) it)
   | inr more ↦ inl more
 ]

@@ -200,20 +200,20 @@ module _ {S : Type 0} (g : Ghosts S) where
       × (walk.places.items ≡ which (current_rows g mid)))
       → BeginsOver g old list all (walk_over_store mid walk)
   begins_walk old mid list which all shown of_list walk at ends found = record {
-    lasts = ends.lasts;
+    remains_open = ends.remains_open;
     was_open = ends.was_open;
-    counted = ends.counted.0;
-    over = λ returned held.
+    refusal_count_grows = ends.refusals_counted.0;
+    begins_over_archive = λ returned held.
         let it = found returned held in (
           it.0,
           record {
-            held = it.1;
+            is_archive_at_rest = it.1;
             archive_is = it.2;
-            left = all (now_holds g old);
-            ahead = ap (λ n. map (message_at (current_rows g mid)) (drop n walk.places.items)) at
+            remaining = all (now_holds g old);
+            numbers_give_remaining = ap (λ n. map (message_at (current_rows g mid)) (drop n walk.places.items)) at
                 ∙ ap (map (message_at (current_rows g mid))) it.3 ∙ shown (current_rows g mid) it.1.tables ∙ ap (λ a. map Some (all a)) it.2;
-            joined = refl;
-            of_list = of_list (now_holds g old);
+            given_and_remaining = refl;
+            all_are_of_list = of_list (now_holds g old);
           },
         );
   }
@@ -226,20 +226,20 @@ module _ {S : Type 0} (g : Ghosts S) (list : List ℕ) (all : List Message) (a :
       → (it : Message) × (message_at (current_rows g old.store) (get_or old.walk.places.items old.walk.at d) ≡ Some it) × (archived_message it.list m ≡ it)
       → WalksOn g list all a (given ++ archived_message list m ∷ []) (store_connection new) (drop where_at left)
   further old new where_at left d m w within places at now held shown =
-      let n = next_is (message_at (current_rows g old.store)) old.walk.places.items old.walk.at d w.left w.ahead within in
+      let n = next_is (message_at (current_rows g old.store)) old.walk.places.items old.walk.at d w.remaining w.numbers_give_remaining within in
       let same : shown.0 ≡ n.0 = some_is (sym shown.1 ∙ n.3) in
-      let joined : given ++ n.0 ∷ n.1 ≡ all = ap (λ l. given ++ l) (sym n.2) ∙ w.joined in
-      let of_list : shown.0.list ≡ list = ap (λ (x : Message). x.list) same ∙ is_of_list list given n.1 all n.0 w.of_list joined in
+      let joined : given ++ n.0 ∷ n.1 ≡ all = ap (λ l. given ++ l) (sym n.2) ∙ w.given_and_remaining in
+      let of_list : shown.0.list ≡ list = ap (λ (x : Message). x.list) same ∙ is_of_list list given n.1 all n.0 w.all_are_of_list joined in
       let read : archived_message list m ≡ n.0 = ap (λ l. archived_message l m) (sym of_list) ∙ shown.2 ∙ same in
       record {
-        held = held;
+        is_archive_at_rest = held;
         archive_is = ap (λ (d : Database). archive_in_trees d.trees) now ∙ w.archive_is;
-        left = n.1;
-        ahead = ap (λ (d : Database). map (message_at d.trees) (drop where_at left)) now
+        remaining = n.1;
+        numbers_give_remaining = ap (λ (d : Database). map (message_at d.trees) (drop where_at left)) now
             ∙ ap (λ k. map (message_at (current_rows g old.store)) (drop k left)) at
             ∙ ap (λ l. map (message_at (current_rows g old.store)) (drop (old.walk.at + 1) l)) places ∙ n.4;
-        joined = one_more given (archived_message list m) n.1 ∙ ap (λ x. given ++ x ∷ n.1) read ∙ joined;
-        of_list = w.of_list;
+        given_and_remaining = one_more given (archived_message list m) n.1 ∙ ap (λ x. given ++ x ∷ n.1) read ∙ joined;
+        all_are_of_list = w.all_are_of_list;
       }
 
   -- the walk is where it was, and these are the marks of the message that is next
@@ -249,33 +249,34 @@ module _ {S : Type 0} (g : Ghosts S) (list : List ℕ) (all : List Message) (a :
       → (it : Message) × (message_at (current_rows g old.store) (get_or old.walk.places.items old.walk.at d) ≡ Some it) × AreDatedMarksOf marks it
       → WalksOn g list all a given (store_connection new) (drop where_at left) × ((next : Message) × (rest : List Message) × (given ++ next ∷ rest ≡ all) × AreDatedMarksOf marks next)
   seen_next old new where_at left d marks w within places at now held shown =
-      let n = next_is (message_at (current_rows g old.store)) old.walk.places.items old.walk.at d w.left w.ahead within in
+      let n = next_is (message_at (current_rows g old.store)) old.walk.places.items old.walk.at d w.remaining w.numbers_give_remaining within in
       let same : shown.0 ≡ n.0 = some_is (sym shown.1 ∙ n.3) in (
         record {
-          held = held;
+          is_archive_at_rest = held;
           archive_is = ap (λ (d : Database). archive_in_trees d.trees) now ∙ w.archive_is;
-          left = w.left;
-          ahead = ap (λ (d : Database). map (message_at d.trees) (drop where_at left)) now
+          remaining = w.remaining;
+          numbers_give_remaining = ap (λ (d : Database). map (message_at d.trees) (drop where_at left)) now
               ∙ ap (λ k. map (message_at (current_rows g old.store)) (drop k left)) at
-              ∙ ap (λ l. map (message_at (current_rows g old.store)) (drop old.walk.at l)) places ∙ w.ahead;
-          joined = w.joined;
-          of_list = w.of_list;
+              ∙ ap (λ l. map (message_at (current_rows g old.store)) (drop old.walk.at l)) places ∙ w.numbers_give_remaining;
+          given_and_remaining = w.given_and_remaining;
+          all_are_of_list = w.all_are_of_list;
         },
-        (n.0, n.1, ap (λ l. given ++ l) (sym n.2) ∙ w.joined, subst (AreDatedMarksOf marks) same shown.2),
+        (n.0, n.1, ap (λ l. given ++ l) (sym n.2) ∙ w.given_and_remaining, subst (AreDatedMarksOf marks) same shown.2),
       )
 
   -- the next message is passed by
   pub passed_next : (store : Store S) (old new : MessageWalk) (next : Message) (rest : List Message) → WalksOver g list all a given (walk_over_store store old) → given ++ next ∷ rest ≡ all
       → remaining_numbers new ≡ drop 1 (remaining_numbers old) → WalksOver g list all a (given ++ next ∷ []) (walk_over_store store new)
   passed_next store old new next rest w is passed =
-      let left : w.left ≡ next ∷ rest = same_behind given w.left (next ∷ rest) (w.joined ∙ sym is) in
+      let left : w.remaining ≡ next ∷ rest = same_behind given w.remaining (next ∷ rest) (w.given_and_remaining ∙ sym is) in
       record {
-        held = w.held;
+        is_archive_at_rest = w.is_archive_at_rest;
         archive_is = w.archive_is;
-        left = rest;
-        ahead = ap (map (message_at (current_rows g store))) passed ∙ behind_first (message_at (current_rows g store)) (remaining_numbers old) next rest (w.ahead ∙ ap (map Some) left);
-        joined = one_more given next rest ∙ is;
-        of_list = w.of_list;
+        remaining = rest;
+        numbers_give_remaining = ap (map (message_at (current_rows g store))) passed ∙ behind_first (message_at (current_rows g store)) (remaining_numbers old) next rest
+            (w.numbers_give_remaining ∙ ap (map Some) left);
+        given_and_remaining = one_more given next rest ∙ is;
+        all_are_of_list = w.all_are_of_list;
       }
 
 -- one message more was read
@@ -288,11 +289,11 @@ pub rows_answer : {S : Type 0} (g : Ghosts S) (old : Store S) (walk new : Walk S
     → BeginsOver g old list all walk → HadCleanDisk g walk.store new.store → GivesAll g walk new r → IfErr r (λ fault. refusal_of_fault fault ≡ None)
     → AnswersStoreQuestion g (store_connection old) (store_connection new.store) r (λ a. list_refusal a list) (λ a found. map (archived_message list) found.items ≡ all a)
 rows_answer g old walk new list all (Ok found) begun was gives none = λ returned held.
-    let b = begun.over (was returned) held in
+    let b = begun.begins_over_archive (was returned) held in
     let w = gives returned list (all (now_holds g old)) (now_holds g old) [] b.1 in
-    ((w.0.held, w.0.archive_is), b.0, w.1)
+    ((w.0.is_archive_at_rest, w.0.archive_is), b.0, w.1)
 rows_answer g old walk new list all (Err fault) begun was gives none = λ returned held.
-    let b = begun.over (was returned) held in
+    let b = begun.begins_over_archive (was returned) held in
     let rest = gives returned list (all (now_holds g old)) (now_holds g old) [] b.1 in
     rw none (λ up. rest up)
 
@@ -304,18 +305,19 @@ pub unread_next : {S : Type 0} (g : Ghosts S) (list : List ℕ) (all : List Mess
     → X ⊎ ((next : Message) × (rest : List Message) × (given ++ next ∷ rest ≡ all) × (¬ IsReadable next))
 unread_next g list all a given walk place w some X (inl failed) = inl failed
 unread_next g list all a given walk place w some X (inr bad) =
-    let n = next_is (message_at (current_rows g walk.store)) walk.walk.places.items walk.walk.at place w.left w.ahead (slice_get_within walk.walk.places.items walk.walk.at place some) in
+    let n = next_is (message_at (current_rows g walk.store)) walk.walk.places.items walk.walk.at place w.remaining w.numbers_give_remaining
+    (slice_get_within walk.walk.places.items walk.walk.at place some) in
     let here : message_at (current_rows g walk.store) place ≡ Some n.0 =
     ap (message_at (current_rows g walk.store)) (sym (get_or_from_slice_get walk.walk.places.items walk.walk.at place place some)) ∙ n.3 in
-    inr (n.0, n.1, ap (λ l. given ++ l) (sym n.2) ∙ w.joined, λ good. bad (subst (λ o. IsSomeAnd o IsReadable) (sym here) good))
+    inr (n.0, n.1, ap (λ l. given ++ l) (sym n.2) ∙ w.given_and_remaining, λ good. bad (subst (λ o. IsSomeAnd o IsReadable) (sym here) good))
 
 pub rows_caused : {S : Type 0} (g : Ghosts S) (old : Store S) (walk new : Walk S) (list : List ℕ) (all : Archive → List Message) (r : Result (Vec Given Global) StoreFault)
     → BeginsOver g old list all walk → HadCleanDisk g walk.store new.store → E15MeansSomeUnreadable g walk new r → E15MeansDiskFailedOr g old new.store r (λ a. ¬ All IsReadable (all a))
 rows_caused g old walk new list all (Ok found) begun was stops = λ returned held free. tt
 rows_caused g old walk new list all (Err fault) begun was stops = λ returned held free it.
-    let b = begun.over (was returned) held in
-    elim (stops returned list (all (now_holds g old)) (now_holds g old) [] b.1 (begun.lasts.limit ∙ free) it) [
-      | inl more ↦ inl (more_since (state g (store_connection old)) (state g (store_connection walk.store)) (state g (store_connection new.store)) begun.lasts more)
+    let b = begun.begins_over_archive (was returned) held in
+    elim (stops returned list (all (now_holds g old)) (now_holds g old) [] b.1 (begun.remains_open.step_limit_is_same ∙ free) it) [
+      | inl more ↦ inl (more_since (state g (store_connection old)) (state g (store_connection walk.store)) (state g (store_connection new.store)) begun.remains_open more)
       | inr bad ↦ inr bad
     ]
 
@@ -323,9 +325,9 @@ pub rows_ends : {S : Type 0} (g : Ghosts S) (old : Store S) (walk new : Walk S) 
     → BeginsOver g old list all walk → EndsUnrefused g walk.store new.store r → E15MeansSomeUnreadable g walk new r → (reasons : List Refusal)
     → EndsQuestionOrUnreadable g old new.store r reasons (λ a. ¬ All IsReadable (all a))
 rows_ends g old walk new list all r begun ends stops reasons = record {
-  lasts = lasts_then _ _ _ begun.lasts ends.lasts;
-  was_open = λ returned. when_ok r _ (begun.was_open (ends.lasts.returned returned));
-  kind = kind_last r reasons ends.fault;
-  counted = raises_after IsMemoryRefusal _ _ _ r begun.counted ends.counted;
-  caused = rows_caused g old walk new list all r begun ends.lasts.returned stops;
+  remains_open = lasts_then _ _ _ begun.remains_open ends.remains_open;
+  was_open = λ returned. when_ok r _ (begun.was_open (ends.remains_open.disk_was_clean returned));
+  refusal_is_possible = kind_last r reasons ends.fault_is_no_refusal;
+  refusals_counted = raises_after IsMemoryRefusal _ _ _ r begun.refusal_count_grows ends.refusals_counted;
+  fault_has_cause = rows_caused g old walk new list all r begun ends.remains_open.disk_was_clean stops;
 }

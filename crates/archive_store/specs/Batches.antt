@@ -33,8 +33,8 @@ added_message_reply Full = refused list_full
 
 -- the list is there, and holds so many messages
 pub record ListHasMessageCount (a : Archive) (list : List ℕ) (count : ℕ) : Type 0 where
-  pub is_there : has_list a list ≡ true
-  pub length_is : length (messages_in a list) ≡ count
+  pub list_exists : has_list a list ≡ true
+  pub message_count_is : length (messages_in a list) ≡ count
 
 -- one message more: the tables and the answer are what the machine says, and the count is right again
 abbrev pub AddsMessageToState : Option Database → State → State → List ℕ → Item → ℕ → CommandReply → Type 0
@@ -43,10 +43,10 @@ AddsMessageToState behind old new list item after reply =
 
 -- the archive is what these items make of that one, and the count and the report are right
 pub record HoldsAddedItems (behind : Option Database) (s : State) (a : Archive) (list : List ℕ) (items : List Item) (count : ℕ) (report : AddReport) : Type 0 where
-  pub held : IsOpenArchive behind s
+  pub is_open_archive : IsOpenArchive behind s
   pub archive_is : archive_of s ≡ (taken a list items).archive
-  pub counted : ListHasMessageCount (archive_of s) list count
-  pub told : tally_of_report report ≡ tally_replies (taken a list items).replies
+  pub list_has_count : ListHasMessageCount (archive_of s) list count
+  pub tally_is : tally_of_report report ≡ tally_replies (taken a list items).replies
 
 -- the archive is what these items make of that one, if the connection is open
 abbrev pub HoldsAddedItemsIfOpen : State → Archive → List ℕ → List Item → Type 0
@@ -54,9 +54,9 @@ HoldsAddedItemsIfOpen s a list items = IsTrue s.is_open → IsArchiveAtRest s ×
 
 -- Items from one place to another of a list of them, and the report tells of all before.
 pub record IsBatchRange (items : List Item) (from to : ℕ) (telling : AddReport) : Type 0 where
-  pub place : to ≤ length items
-  pub order : from ≤ to
-  pub told : reported_count telling ≡ from
+  pub to_in_range : to ≤ length items
+  pub from_at_most_to : from ≤ to
+  pub starts_at_count : reported_count telling ≡ from
 
 -- It came to a place between these, up to which the report tells, or memory or the database was at fault.
 abbrev pub StopsAtIndex : Result ℕ StoreFault → (from to : ℕ) → AddReport → Type 0

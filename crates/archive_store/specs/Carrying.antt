@@ -10,7 +10,7 @@ use Rattle.archive_model.specs.Machine.{GuardedReply, no_command_facts, command_
 use Rattle.archive_model.specs.declared.found.CommandFacts.{CommandFacts}
 use Rattle.archive_tables.specs.Calls.{CommitsChange, FaultKeepsRows, LeavesRowsUnchanged}
 use Rattle.archive_tables.specs.Crashes.{IsArchiveStored, CrashAddsNothing, CrashAddsOnly}
-use Rattle.archive_tables.specs.declared.rows.MarksRow.{MarksRow}
+use Rattle.archive_tables.specs.declared.rows.DatedMarksRow.{DatedMarksRow}
 use Rattle.archive_store.specs.Held.{store_connection}
 use Rattle.archive_port.specs.Wanting.{IsMemoryRefusal}
 use Rattle.archive_port.specs.Replies.{refusal_of_fault, reply_of_result}
@@ -53,7 +53,7 @@ map_store_result f (Ok a) = Ok (f a)
 map_store_result f (Err fault) = Err fault
 
 -- a message, by its marks
-abbrev pub facts_from_marks_row : Bool → Option MarksRow → CommandFacts
+abbrev pub facts_from_marks_row : Bool → Option DatedMarksRow → CommandFacts
 facts_from_marks_row list None = record no_command_facts { list = list }
 facts_from_marks_row list (Some marks) =
     record no_command_facts { list = list; message = true; withdrawn = not (int_eq marks.withdrawn (pos 0)); embargo = is_some marks.embargo }
@@ -62,27 +62,27 @@ module _ {S : Type 0} (g : Ghosts S) (old new : Store S) where
   -- Questions: this is so of the archive and of what is answered, the rows and what a stop leaves are as before, and no reason of the
   -- archive's refuses them; E15 is the disk.
   pub record ReadsArchive {A : Type 0} (result : Result A StoreFault) (Says : Archive → A → Type 0) : Type 0 where
-    pub lasts : StaysOpenUnlessDiskFails g old new
+    pub remains_open : StaysOpenUnlessDiskFails g old new
     pub was_open : StoreHasCleanDisk g new → OnOk result (IsOpen g old)
-    pub quiet : CrashAddsNothing g (store_connection old) (store_connection new)
-    pub fault : IfErr result (λ fault. refusal_of_fault fault ≡ None)
-    pub counted : CountsRefusals IsMemoryRefusal old new result
-    pub over : StoreHasCleanDisk g new → HoldsTables g old → MatchResult result
+    pub crash_adds_nothing : CrashAddsNothing g (store_connection old) (store_connection new)
+    pub fault_is_no_refusal : IfErr result (λ fault. refusal_of_fault fault ≡ None)
+    pub refusals_counted : CountsRefusals IsMemoryRefusal old new result
+    pub answer_holds : StoreHasCleanDisk g new → HoldsTables g old → MatchResult result
         (λ a. Says (archive_in g old) a × LeavesRowsUnchanged None (state g (store_connection old)) (state g (store_connection new)))
         (λ _. FaultKeepsRows (state g (store_connection old)) (state g (store_connection new)))
-    pub caused : E15MeansDiskFailed g old new result
+    pub fault_has_cause : E15MeansDiskFailed g old new result
 
   -- A write of an archive that is as it needs it: what it makes of the archive, at once or not at all; E15 is the disk, or the rows
   -- refuse it.
   pub record WritesToArchive {A : Type 0} (result : Result A StoreFault) (Needs : Archive → Type 0) (change : Archive → Archive) (Refused : Database → Type 0) : Type 0 where
-    pub lasts : StaysOpenUnlessDiskFails g old new
+    pub remains_open : StaysOpenUnlessDiskFails g old new
     pub was_open : StoreHasCleanDisk g new → OnOk result (IsOpen g old)
-    pub fault : IfErr result (λ fault. refusal_of_fault fault ≡ None)
-    pub counted : CountsRefusals IsMemoryRefusal old new result
-    pub over : StoreHasCleanDisk g new → HoldsTables g old → Needs (archive_in g old) → MatchResult result
+    pub fault_is_no_refusal : IfErr result (λ fault. refusal_of_fault fault ≡ None)
+    pub refusals_counted : CountsRefusals IsMemoryRefusal old new result
+    pub answer_holds : StoreHasCleanDisk g new → HoldsTables g old → Needs (archive_in g old) → MatchResult result
         (λ _. CommitsChange (state g (store_connection old)) (state g (store_connection new)) change) (λ _. FaultKeepsRows (state g (store_connection old)) (state g (store_connection new)))
     pub crash : HoldsTables g old → Needs (archive_in g old) → CrashAddsOnly g (store_connection old) (store_connection new) (IsArchiveStored (change (archive_in g old)))
-    pub caused : StoreHasCleanDisk g new → HoldsTables g old → HasNoStepLimit g old → Needs (archive_in g old)
+    pub fault_has_cause : StoreHasCleanDisk g new → HoldsTables g old → HasNoStepLimit g old → Needs (archive_in g old)
         → IfErr result (λ fault. fault ≡ faults.Store → DiskHasFailed g old new ⊎ Refused (state g (store_connection old)).now)
 
   -- a command of which this was found, under some limit, and which no test answers, written down
@@ -92,9 +92,9 @@ module _ {S : Type 0} (g : Ghosts S) (old new : Store S) where
   -- A command under this limit of messages that a list holds: one step of the machine, a stop leaves the archive before it or after it,
   -- and how it ends.
   pub record ExecutesCommand {A : Type 0} (limit : ℕ) (command : Told) (says : Result A StoreFault → Option CommandReply) (result : Result A StoreFault) : Type 0 where
-    pub step : PerformsModelStep g (store_connection old) (store_connection new) (λ a. step_within_limit limit a command) (says result)
+    pub performs_step : PerformsModelStep g (store_connection old) (store_connection new) (λ a. step_within_limit limit a command) (says result)
     pub crash : CrashSteps g (store_connection old) (store_connection new) (λ a. step_within_limit limit a command)
-    pub ends : EndsWrite g old new result (possible_refusals_of command) (IsCommandRefusedWithin limit command)
+    pub ends_write : EndsWrite g old new result (possible_refusals_of command) (IsCommandRefusedWithin limit command)
 
   -- which hands on what was found
   abbrev pub ExecutesWithinListLimit : ℕ → Told → Result CommandFacts StoreFault → Type 0

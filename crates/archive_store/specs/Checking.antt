@@ -4,7 +4,7 @@ use Rattle.std.specs.declared.alloc.Global.{Global}
 use Rattle.sqlite.specs.Store.{Ghosts}
 use Rattle.archive_model.specs.Filing.{IndexedMessage}
 use Rattle.archive_model.specs.Damage.{IsFirstDamaged}
-use Rattle.archive_tables.specs.Listed.{all_places, filed_at}
+use Rattle.archive_tables.specs.Listed.{all_rowids, filed_at}
 use Rattle.archive_database.specs.Checking.{ReportsIfDamaged}
 use Rattle.archive_database.specs.declared.checking.DamagedMessage.{DamagedMessage}
 use Rattle.archive_store.specs.Told.{HoldsTables, IsOpen, StoreHasCleanDisk, HasNoStepLimit, DiskHasFailed, CallsStoreUnder}
@@ -29,7 +29,7 @@ module _ {S : Type 0} (g : Ghosts S) (old new : Store S) where
   -- the numbers of all messages; after a fault the rows are as they were, if the connection is still open
   abbrev pub FindsAllMessageNumbers : Result (Vec ℤ Global) StoreFault → Type 0
   FindsAllMessageNumbers result = StoreHasCleanDisk g new → HoldsTables g old → MatchResult result
-      (λ places. (places.items ≡ all_places (current_rows g old)) × RowsStay) (λ _. IsOpen g new → RowsStay)
+      (λ places. (places.items ≡ all_rowids (current_rows g old)) × RowsStay) (λ _. IsOpen g new → RowsStay)
 
   -- whether the message of a number is sound; after a fault the rows are as they were, if the connection is still open
   abbrev pub ChecksMessageAt : ℤ → Result (Option DamagedMessage) StoreFault → Type 0

@@ -1,7 +1,7 @@
 -- What a stop of the machine leaves of a store: of a command, or of a database that is taken over, the archive before or after it; of
 -- many commands or messages, what so many of them made.
 -- What speaks of each moment within a call names nothing of the state behind it but what a stop leaves of it, and nothing of what it
--- answers: `CrashSteps`, `CrashAdopts`, `CrashAddsOneMessage`, `CrashBatch`, and of `CrashOutcome` the field `within`.
+-- answers: `CrashSteps`, `CrashAdopts`, `CrashAddsOneMessage`, `CrashBatch`, and of `CrashOutcome` the field `during_call`.
 use Rattle.std.specs.Prelude.{◌≡◌, ◌⊎◌, ℕ, ◌+◌, ◌≤◌, List, length, take, Option, Some, None, Result, IfErr, Vec, MatchOption}
 use Rattle.std.specs.declared.alloc.Global.{Global}
 use Rattle.mbox_items.specs.Division.{Item}
@@ -27,9 +27,9 @@ use Rattle.archive_port.specs.Adding.{HasAddedAtLeast}
 
 -- A batch of messages from one place to another is taken in up to here: to its end, or to where the list is full.
 pub record IsWholeBatch (a : Archive) (list : List ℕ) (items : List Item) (from to at : ℕ) : Type 0 where
-  pub least : from ≤ at
-  pub most : at ≤ to
-  pub whole : (at ≡ to) ⊎ IsListFullAt a list items at
+  pub at_least_from : from ≤ at
+  pub at_most_to : at ≤ to
+  pub reaches_end_or_limit : (at ≡ to) ⊎ IsListFullAt a list items at
 
 -- so many first commands were carried out: at least and at most this many
 abbrev pub HasRunCommands : List Command → (least most : ℕ) → Archive → Archive → Type 0
@@ -44,8 +44,8 @@ module _ {S : Type 0} (g : Ghosts S) (old new : Held S) where
 
   -- What a stop leaves within a call, whatever it answers; and what it leaves once the call has stopped for a fault and returned.
   pub record CrashOutcome (Within : Archive → Archive → Type 0) {A F : Type 0} (result : Result A F) (Stops : F → Archive → Archive → Type 0) : Type 0 where
-    pub within : CrashLeavesRelatedArchive Within
-    pub stopped : IfErr result (λ fault. CrashLeavesRelatedArchive (Stops fault))
+    pub during_call : CrashLeavesRelatedArchive Within
+    pub after_error : IfErr result (λ fault. CrashLeavesRelatedArchive (Stops fault))
 
   -- ---- a command
 
@@ -70,8 +70,8 @@ module _ {S : Type 0} (g : Ghosts S) (old new : Held S) where
   -- Of an empty one a stop may leave the empty archive, and of an archive's, of whatever version, the same archive in tables of the
   -- newest; and else what it left before: the database as it was.
   pub record CrashAdopts : Type 0 where
-    pub made : (state g old).now.schema ≡ empty_schema → CrashAddsOnly g old new (IsArchiveStored empty_archive)
-    pub brought : (number : ℕ) → IsKnownVersion number → IsOpenArchiveInFormat (format_of_version number) None (state g old)
+    pub makes_if_empty : (state g old).now.schema ≡ empty_schema → CrashAddsOnly g old new (IsArchiveStored empty_archive)
+    pub migrates_older : (number : ℕ) → IsKnownVersion number → IsOpenArchiveInFormat (format_of_version number) None (state g old)
         → CrashAddsOnly g old new (IsArchiveStored (archive_of_version number (state g old).now.trees))
 
   -- ---- messages, many in one transaction

@@ -25,8 +25,8 @@ IsExecutedReply _ = ⊤
 
 -- The machine carries a step out, and the rows refuse what it writes.
 pub record RowsRefuse (step : Archive → StepOutcome) (Refused : Database → Type 0) (db : Database) : Type 0 where
-  pub carried : IsExecutedReply (step (archive_in_trees db.trees)).1
-  pub refused : Refused db
+  pub would_execute : IsExecutedReply (step (archive_in_trees db.trees)).1
+  pub refuses_rows : Refused db
 
 -- the grant of the same person, list and rank gets the days of this one; where there is none, this one is added
 abbrev pub upsert_grant_statement : Grant → Database → Statement
@@ -85,21 +85,21 @@ MakeRows list (item ∷ items) db after =
 
 -- Some of the items make rows that refuse the next, which the machine takes in.
 pub record RowsRefuseAnItem (list : List ℕ) (items : List Item) (db : Database) : Type 0 where
-  pub before : List Item
+  pub items_before : List Item
   pub item : Item
-  pub rest : List Item
-  pub are : before ++ item ∷ rest ≡ items
-  pub rows : Database
-  pub made : MakeRows list before db rows
-  pub stopped : IsCommandRefused (add list item) rows
+  pub items_after : List Item
+  pub items_are : items_before ++ item ∷ items_after ≡ items
+  pub database : Database
+  pub makes_rows : MakeRows list items_before db database
+  pub is_refused : IsCommandRefused (add list item) database
 
 -- ---- many commands
 
 -- The machine carries out the command behind the first `done`, and the rows refuse what it writes.
 pub record RowsRefuseNextCommand (commands : List Command) (done : ℕ) (db : Database) : Type 0 where
-  pub before : List Command
+  pub commands_before : List Command
   pub command : Command
-  pub rest : List Command
-  pub are : before ++ command ∷ rest ≡ commands
-  pub first : length before ≡ done
-  pub stopped : IsCommandRefused command db
+  pub commands_after : List Command
+  pub commands_are : commands_before ++ command ∷ commands_after ≡ commands
+  pub done_is_count : length commands_before ≡ done
+  pub is_refused : IsCommandRefused command db

@@ -47,7 +47,7 @@ module _ {S : Type 0} (g : Ghosts S) where
   -- The premise on a store: its tables are as the calls of a store leave them, so what is filed of each message is what its text
   -- says.
   pub record IsReadyOn (connection : Held S) : Type 0 where
-    pub held : IsArchiveAtRest (state g connection)
+    pub is_archive_at_rest : IsArchiveAtRest (state g connection)
     pub is_indexed_correctly : IsIndexedCorrectly (archive_of (state g connection))
 
   -- the premise on a store
@@ -113,11 +113,11 @@ module _ {S : Type 0} (g : Ghosts S) where
     -- A command or a question: what it does to the store, that who was answered asked one whose connection was open, for which reasons
     -- it may be refused, that want of memory is counted, and what its E15 means, where the tables are an archive's and no limit is set.
     pub record EndsWithCause (Cause : Type 0) {A : Type 0} (result : Result A StoreFault) (reasons : List Refusal) : Type 0 where
-      pub lasts : StaysOpenUnlessDiskFails
+      pub remains_open : StaysOpenUnlessDiskFails
       pub was_open : StoreHasCleanDisk new → OnOk result (IsOpen old)
-      pub kind : IsRefusedOnlyFor result reasons
-      pub counted : CountsRefusals IsMemoryRefusal old new result
-      pub caused : E15MeansCause Cause result
+      pub refusal_is_possible : IsRefusedOnlyFor result reasons
+      pub refusals_counted : CountsRefusals IsMemoryRefusal old new result
+      pub fault_has_cause : E15MeansCause Cause result
 
     -- a question whose E15 means that the disk failed in that call
     abbrev pub EndsQuestion : {A : Type 0} → Result A StoreFault → List Refusal → Type 0
@@ -140,22 +140,22 @@ module _ {S : Type 0} (g : Ghosts S) where
     -- A call that no reason of the archive's refuses, and that may answer without asking the database: memory or the database is at
     -- fault where it fails.
     pub record EndsUnrefused {A : Type 0} (result : Result A StoreFault) : Type 0 where
-      pub lasts : StaysOpenUnlessDiskFails
-      pub fault : IfErr result (λ fault. refusal_of_fault fault ≡ None)
-      pub counted : CountsRefusals IsMemoryRefusal old new result
+      pub remains_open : StaysOpenUnlessDiskFails
+      pub fault_is_no_refusal : IfErr result (λ fault. refusal_of_fault fault ≡ None)
+      pub refusals_counted : CountsRefusals IsMemoryRefusal old new result
 
     -- the same, and what its E15 means, where the tables are an archive's and no limit is set
     pub record EndsUnrefusedBy (Cause : Type 0) {A : Type 0} (result : Result A StoreFault) : Type 0 where
-      pub lasts : StaysOpenUnlessDiskFails
-      pub fault : IfErr result (λ fault. refusal_of_fault fault ≡ None)
-      pub counted : CountsRefusals IsMemoryRefusal old new result
-      pub caused : E15MeansCause Cause result
+      pub remains_open : StaysOpenUnlessDiskFails
+      pub fault_is_no_refusal : IfErr result (λ fault. refusal_of_fault fault ≡ None)
+      pub refusals_counted : CountsRefusals IsMemoryRefusal old new result
+      pub fault_has_cause : E15MeansCause Cause result
 
     -- A part of a call: what it does to the store, that want of memory is counted, and what its E15 means.
     pub record EndsPart (Meaning : Type 0) {A : Type 0} (result : Result A StoreFault) : Type 0 where
-      pub lasts : StaysOpenUnlessDiskFails
-      pub counted : CountsRefusals IsMemoryRefusal old new result
-      pub caused : Meaning
+      pub remains_open : StaysOpenUnlessDiskFails
+      pub refusals_counted : CountsRefusals IsMemoryRefusal old new result
+      pub fault_has_cause : Meaning
 
   -- ---- under a premise: `HoldsTables` or `IsReady`
 

@@ -13,7 +13,7 @@ use Rattle.archive_model.specs.Questions.{list_refusal, messages_in}
 use Rattle.archive_model.specs.Filing.{messages_in_month, messages_by_author}
 use Rattle.archive_model.specs.Messages.{archived_message}
 use Rattle.archive_model.specs.declared.messages.Message.{Message}
-use Rattle.archive_tables.specs.Rows.{message_at, message_rowids_in, month_places, author_places}
+use Rattle.archive_tables.specs.Rows.{message_at, message_rowids_in, month_rowids, author_rowids}
 use Rattle.archive_tables.specs.Tables.{IsArchiveAtRest, archive_of}
 use Rattle.archive_port.specs.Messages.{IsReadable, AreDatedMarksOf}
 use Rattle.archive_store.specs.Held.{store_connection, memory_refusal_count}
@@ -46,8 +46,8 @@ selected_messages a list (ByAuthor key) = messages_by_author a list key.now
 -- the numbers of these of a list's messages
 abbrev pub selected_numbers : Trees → List ℕ → Selection → List ℤ
 selected_numbers trees list Every = message_rowids_in trees list
-selected_numbers trees list (InMonth month) = month_places trees list (pos month)
-selected_numbers trees list (ByAuthor key) = author_places trees list key.now
+selected_numbers trees list (InMonth month) = month_rowids trees list (pos month)
+selected_numbers trees list (ByAuthor key) = author_rowids trees list key.now
 
 -- the numbers of the messages that it has not given yet
 abbrev pub remaining_numbers : MessageWalk → List ℤ
@@ -68,12 +68,12 @@ module _ {S : Type 0} (g : Ghosts S) where
   -- A walk over these messages of a list of this archive that gave some of them: the store holds the archive's tables, whatever is
   -- filed in them, and the given messages and those that are left are all. It holds the numbers of those that are left.
   pub record WalksOn (list : List ℕ) (all : List Remembered) (a : Archive) (given : List Remembered) (connection : Held S) (places : List ℤ) : Type 0 where
-    pub held : IsArchiveAtRest (state g connection)
+    pub is_archive_at_rest : IsArchiveAtRest (state g connection)
     pub archive_is : archive_of (state g connection) ≡ a
-    pub left : List Remembered
-    pub ahead : map (message_at (state g connection).now.trees) places ≡ map Some left
-    pub joined : given ++ left ≡ all
-    pub of_list : AllByRecursion (λ (m : Remembered). bytes_eq m.list list ≡ true) all
+    pub remaining : List Remembered
+    pub numbers_give_remaining : map (message_at (state g connection).now.trees) places ≡ map Some remaining
+    pub given_and_remaining : given ++ remaining ≡ all
+    pub all_are_of_list : AllByRecursion (λ (m : Remembered). bytes_eq m.list list ≡ true) all
 
   abbrev pub WalksOver : (list : List ℕ) (all : List Remembered) (a : Archive) (given : List Remembered) (walk : Walk S) → Type 0
   WalksOver list all a given w = WalksOn list all a given (store_connection w.store) (remaining_numbers w.walk)
@@ -81,10 +81,10 @@ module _ {S : Type 0} (g : Ghosts S) where
   -- A walk over these of a list's messages begins: what that did to the store, that its connection was open, that no want of memory is
   -- forgotten, and where it held an archive's tables, the list is there and the walk gave nothing yet.
   pub record BeginsOver (old : Store S) (list : List ℕ) (which : Archive → List Remembered) (walk : Walk S) : Type 0 where
-    pub lasts : StaysOpenUnlessDiskFails g old walk.store
+    pub remains_open : StaysOpenUnlessDiskFails g old walk.store
     pub was_open : StoreHasCleanDisk g walk.store → IsOpen g old
-    pub counted : memory_refusal_count old ≤ memory_refusal_count walk.store
-    pub over : StoreHasCleanDisk g walk.store → HoldsTables g old
+    pub refusal_count_grows : memory_refusal_count old ≤ memory_refusal_count walk.store
+    pub begins_over_archive : StoreHasCleanDisk g walk.store → HoldsTables g old
         → (list_refusal (archive_in g old) list ≡ None) × WalksOver list (which (archive_in g old)) (archive_in g old) [] walk
 
   -- a walk over all messages of a list begins
@@ -123,14 +123,14 @@ module _ {S : Type 0} (g : Ghosts S) where
   -- The walk is where it was, and these are the arrival and the marks of the message that is next, or all were given. After a fault it
   -- is where it was, if the connection is still open.
   pub record PeeksNextMarks (old new : Walk S) (result : Result (Option DatedMarks) StoreFault) : Type 0 where
-    pub given : StoreHasCleanDisk g new.store → (list : List ℕ) (all : List Remembered) (a : Archive) (given : List Remembered)
+    pub gives_next_marks : StoreHasCleanDisk g new.store → (list : List ℕ) (all : List Remembered) (a : Archive) (given : List Remembered)
         → WalksOver list all a given old → MatchResult result
         (λ found. WalksOver list all a given new × MatchOption found (given ≡ all)
         (λ marks. (next : Remembered) × (rest : List Remembered) × (given ++ next ∷ rest ≡ all) × AreDatedMarksOf marks next))
         (λ _. IsOpen g new.store → WalksOver list all a given new)
-    pub left : remaining_count new.walk ≡ remaining_count old.walk
-    pub ahead : IfOk result (λ found. IfSome found (λ _. 0 < remaining_count old.walk))
-    pub fault : IfErr result (λ fault. refusal_of_fault fault ≡ None)
+    pub remaining_is_same : remaining_count new.walk ≡ remaining_count old.walk
+    pub some_means_remaining : IfOk result (λ found. IfSome found (λ _. 0 < remaining_count old.walk))
+    pub fault_is_no_refusal : IfErr result (λ fault. refusal_of_fault fault ≡ None)
 
   -- All messages that were left are given. A fault leaves the archive, if the connection is still open.
   abbrev pub GivesAll : Walk S → Walk S → Result (Vec Message Global) StoreFault → Type 0

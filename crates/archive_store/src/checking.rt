@@ -7,7 +7,7 @@ ghost use Rattle.archive_port.specs.declared.checking.CheckError.TheVariants.{Fa
 
 use crate::store::Store;
 use archive_database::checking::{DamagedMessage, find_damage};
-use archive_database::reading::read_numbers;
+use archive_database::reading::read_rowids;
 use archive_port::{CheckError, StoreFault};
 use archive_tables::texts;
 use sqlite::Alter;
@@ -52,9 +52,9 @@ fn find_all_places<S: Alter>(store: &mut Store<S>, alloc: Global) -> Result<Vec<
     ensures caused { E15MeansDiskFailed S.Store store.old store.new result }
     ensures ends { EndsUnrefused S.Store store.old store.new result }
 {
-    let shown = texts::checking::all_places(&mut store.conn);
+    let shown = texts::checking::all_rowids(&mut store.conn);
     let shown = store.wants.pass(shown)?;
-    store.wants.pass_fault(read_numbers(alloc, &shown))
+    store.wants.pass_fault(read_rowids(alloc, &shown))
 }
 
 /// The damage of the message of a number, if it is not sound.

@@ -2,7 +2,7 @@
 ghost use Rattle.std.specs.Prelude.{◌≡◌, option_map, nat_le, length};
 ghost use Rattle.archive_model.specs.Questions.{has_list, has_person, has_token, has_grant, has_address, has_message, message_of, messages_in};
 ghost use Rattle.archive_model.specs.Commands.{add};
-ghost use Rattle.archive_tables.specs.Rows.{decoded_marks};
+ghost use Rattle.archive_tables.specs.Rows.{decoded_dated_marks};
 ghost use Rattle.archive_model.specs.Machine.{command_facts_within_limit, command_facts_on_grant, command_facts_on_message, no_command_facts};
 ghost use Rattle.archive_store.specs.Carrying.{ReadsArchive, facts_from_marks_row};
 ghost use Rattle.archive_port.specs.Commands.{spec_command};
@@ -12,14 +12,14 @@ use crate::store::Store;
 use archive_database::taking::is_full;
 use archive_model::{CommandFacts, Key, NOTHING};
 use archive_port::{Command, StoreFault};
-use archive_tables::rows::MarksRow;
+use archive_tables::rows::DatedMarksRow;
 use archive_tables::texts;
 use mbox_items::Item;
 use policy_core::GrantKind;
 use sqlite::Alter;
 
 /// A message that is found, by its marks.
-fn found_by(list: bool, marks: Option<MarksRow>) -> CommandFacts
+fn found_by(list: bool, marks: Option<DatedMarksRow>) -> CommandFacts
     ensures { result ≡ facts_from_marks_row list marks }
 {
     let (message, withdrawn, embargo) = match marks {
@@ -72,9 +72,9 @@ impl<S: Alter> Store<S> {
         self.wants.pass(had)
     }
 
-    fn find_marks(&mut self, list: &str, key: &Key) -> Result<Option<MarksRow>, StoreFault>
+    fn find_marks(&mut self, list: &str, key: &Key) -> Result<Option<DatedMarksRow>, StoreFault>
         ensures { ReadsArchive S.Store self.old self.new result
-            (λ a marks. marks ≡ option_map decoded_marks (message_of a list.now key.now)) }
+            (λ a marks. marks ≡ option_map decoded_dated_marks (message_of a list.now key.now)) }
     {
         let found = texts::messages::marks(&mut self.conn, list, key.as_str());
         self.wants.pass(found)

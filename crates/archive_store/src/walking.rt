@@ -14,7 +14,7 @@ ghost use Rattle.archive_store.specs.Walking.{FindsMessageNumbers, IsWalkNotBegu
 
 use crate::store::Store;
 use crate::words::month_number;
-use archive_database::reading::{checked_dated_marks, checked_message, read_numbers};
+use archive_database::reading::{checked_dated_marks, checked_message, read_rowids};
 use archive_model::Message;
 use archive_port::{DatedMarks, StoreFault};
 use archive_tables::texts;
@@ -229,7 +229,7 @@ fn find_places<S: Alter>(
         return Err(StoreFault::NoList);
     }
     let shown = store.wants.pass(show_places(&mut store.conn, list, which))?;
-    store.wants.pass_fault(read_numbers(alloc, &shown))
+    store.wants.pass_fault(read_rowids(alloc, &shown))
 }
 
 /// The rows that show those numbers.
@@ -244,9 +244,9 @@ fn show_places<S: Alter>(
     match which {
         Selection::Every => texts::messages::places(conn, list),
         Selection::InMonth(month) => {
-            texts::messages::month_places(conn, list, month_number(*month))
+            texts::messages::month_rowids(conn, list, month_number(*month))
         }
-        Selection::ByAuthor(key) => texts::messages::author_places(conn, list, key),
+        Selection::ByAuthor(key) => texts::messages::author_rowids(conn, list, key),
     }
 }
 

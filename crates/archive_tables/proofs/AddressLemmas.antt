@@ -74,7 +74,7 @@ unfolding understood everything
 add_plain = (refl, refl)
 
 abbrev fresh : Trees → Address → NumberedRecord Address
-fresh db o = record { number = next_rowid (db 15); it = o }
+fresh db o = record { number = next_rowid (db 15); content = o }
 
 adding : (db : Trees) (o : Address) (given : List Row) → given ≡ (Null ∷ address_cells o) ∷ []
     → edited db (edit_of db address_table [] Chosen 0 given) ≡ put_row (numbered_row address_cells (fresh db o)) (db 15)
@@ -194,8 +194,8 @@ module _ (person : List ℕ) where
         same_person : (o : Address) → (change o).person ≡ o.person
         same_person o = elim (is_address_of person o) as (λ c. (cond c (said o) o).person ≡ o.person) [ true ↦ refl | false ↦ refl ]
 
-    puts : (db : Trees) (r : NumberedRecord Address) (given : List Row) → given ≡ (Int r.number ∷ Int r.number ∷ Text r.it.person ∷ Text address ∷ []) ∷ []
-        → edited db (edit_of db address_table (ids_of given) Given 1 given) ≡ put_row (numbered_row address_cells (record r { it = said r.it })) (without_rowid r.number (db 15))
+    puts : (db : Trees) (r : NumberedRecord Address) (given : List Row) → given ≡ (Int r.number ∷ Int r.number ∷ Text r.content.person ∷ Text address ∷ []) ∷ []
+        → edited db (edit_of db address_table (ids_of given) Given 1 given) ≡ put_row (numbered_row address_cells (record r { content = said r.content })) (without_rowid r.number (db 15))
     puts db r given from = rw (from, cast_int r.number)
 
     changes : {behind : Option Database} (old new : State) (count : ℕ) → IsOpenArchive behind old → Executes change_text change_params old new (Ok count)

@@ -42,7 +42,7 @@ module _ {R : Type 0} (cells : R → Row) (word : R → List ℕ) (first : (n : 
   rows_of = map (numbered_row cells)
 
   abbrev its : List (NumberedRecord R) → List R
-  its = map (λ (r : NumberedRecord R). r.it)
+  its = map (λ (r : NumberedRecord R). r.content)
 
   abbrev pub same_word : R → R → Bool
   same_word a b = bytes_eq (word b) (word a)
@@ -51,13 +51,13 @@ module _ {R : Type 0} (cells : R → Row) (word : R → List ℕ) (first : (n : 
   abbrev has_key_of : Row → Row → Bool
   has_key_of row other = agree plain (1 ∷ []) other (1 ∷ []) row && differ (rowid other) (rowid row)
 
-  test_is : (r s : NumberedRecord R) → value_cmp (Int r.number) (Int s.number) ≡ Less → has_key_of (numbered_row cells r) (numbered_row cells s) ≡ same_word r.it s.it
+  test_is : (r s : NumberedRecord R) → value_cmp (Int r.number) (Int s.number) ≡ Less → has_key_of (numbered_row cells r) (numbered_row cells s) ≡ same_word r.content s.content
   test_is r s less =
-      let words = ap₂ (λ (v w : Value). is_true (binary (Compare Eq Binary) v w)) (first s.number s.it) (first r.number r.it) ∙ text_is (word s.it) (word r.it) in
+      let words = ap₂ (λ (v w : Value). is_true (binary (Compare Eq Binary) v w)) (first s.number s.content) (first r.number r.content) ∙ text_is (word s.content) (word r.content) in
       ap₂ ◌&&◌ (agrees (numbered_row cells r) (numbered_row cells s) ∙ alone _ ∙ words) (differs s.number r.number less) ∙ alone _
 
   not_again : (r : NumberedRecord R) (all : List (NumberedRecord R)) → AllByRecursion (λ row. value_cmp (Int r.number) (rowid row) ≡ Less) (rows_of all)
-      → list_any (has_key_of (numbered_row cells r)) (rows_of all) ≡ false → list_any (same_word r.it) (its all) ≡ false
+      → list_any (has_key_of (numbered_row cells r)) (rows_of all) ≡ false → list_any (same_word r.content) (its all) ≡ false
   not_again r [] above none = refl
   not_again r (s ∷ all) above none =
       let both = none_of _ _ none in
@@ -76,7 +76,7 @@ module _ {R : Type 0} (cells : R → Row) (word : R → List ℕ) (first : (n : 
   apart_by_key read back rows k none =
       let all = map (numbered_from_row read) rows in
       subst (HaveDistinctKeys same_word) (sym (records_are cells read back rows k))
-      (apart all (subst IsTable k.round_trips k.rise) (subst (λ l. AllByRecursion (λ row. clashes plain (1 ∷ []) l row ≡ false) l) k.round_trips none))
+      (apart all (subst IsTable k.rows_read_back k.is_table) (subst (λ l. AllByRecursion (λ row. clashes plain (1 ∷ []) l row ≡ false) l) k.rows_read_back none))
 
 -- ---- `list_option` and `address` have one key each
 

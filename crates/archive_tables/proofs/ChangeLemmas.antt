@@ -60,10 +60,10 @@ module _ {R : Type 0} (cells : R → Row) (read : Row → R) (back : (n : ℤ) (
   rows_of = map (numbered_row cells)
 
   abbrev its : List (NumberedRecord R) → List R
-  its = map (λ (r : NumberedRecord R). r.it)
+  its = map (λ (r : NumberedRecord R). r.content)
 
   abbrev hit : NumberedRecord R → Bool
-  hit r = wanted r.it
+  hit r = wanted r.content
 
   abbrev AreAbove : ℤ → List (NumberedRecord R) → Type 0
   AreAbove n all = AllByRecursion (λ row. value_cmp (Int n) (rowid row) ≡ Less) (rows_of all)
@@ -81,7 +81,7 @@ module _ {R : Type 0} (cells : R → Row) (read : Row → R) (back : (n : ℤ) (
 
   hit_above : (n : ℤ) (r : NumberedRecord R) (all : List (NumberedRecord R)) → AreAbove n all → filter hit all ≡ r ∷ [] → value_cmp (Int n) (Int r.number) ≡ Less
   hit_above n r [] above is = absurd cc
-  hit_above n r (x ∷ all) above is = elim (cases_Bool (wanted x.it)) [
+  hit_above n r (x ∷ all) above is = elim (cases_Bool (wanted x.content)) [
     | inl found ↦ let parts = rw found at is in let first : x ≡ r = cc in subst (λ (y : NumberedRecord R). value_cmp (Int n) (Int y.number) ≡ Less) first above.0
     | inr other ↦ hit_above n r all above.1 (rw other at is)
   ]
@@ -93,7 +93,7 @@ module _ {R : Type 0} (cells : R → Row) (read : Row → R) (back : (n : ℤ) (
 
   no_hit : (all : List (NumberedRecord R)) → list_any wanted (its all) ≡ false → filter hit all ≡ []
   no_hit [] none = refl
-  no_hit (r ∷ all) none = elim (cases_Bool (wanted r.it)) [
+  no_hit (r ∷ all) none = elim (cases_Bool (wanted r.content)) [
     | inl found ↦ absurd (let wrong = rw found at none in cc)
     | inr other ↦ rw other (no_hit all (rw other at none))
   ]
@@ -105,8 +105,8 @@ module _ {R : Type 0} (cells : R → Row) (read : Row → R) (back : (n : ℤ) (
   pub one_hit : (same : R → R → Bool) → ((a b : R) → wanted a ≡ true → same a b ≡ wanted b) → (all : List (NumberedRecord R)) → HaveDistinctKeys same (its all)
       → (filter hit all ≡ []) ⊎ ((r : NumberedRecord R) × (filter hit all ≡ r ∷ []))
   one_hit same alike [] apart = inl refl
-  one_hit same alike (r ∷ all) apart = elim (cases_Bool (wanted r.it)) [
-    | inl found ↦ inr (r, rw found (ap (λ l. r ∷ l) (no_hit all (sym (any_alike same r.it (λ b. alike r.it b found) (its all)) ∙ apart.0))))
+  one_hit same alike (r ∷ all) apart = elim (cases_Bool (wanted r.content)) [
+    | inl found ↦ inr (r, rw found (ap (λ l. r ∷ l) (no_hit all (sym (any_alike same r.content (λ b. alike r.content b found) (its all)) ∙ apart.0))))
     | inr other ↦ rw other (one_hit same alike all apart.1)
   ]
 
@@ -117,18 +117,18 @@ module _ {R : Type 0} (cells : R → Row) (read : Row → R) (back : (n : ℤ) (
     changed r = if wanted r then change r else r
 
     abbrev moved : NumberedRecord R → NumberedRecord R
-    moved r = record r { it = changed r.it }
+    moved r = record r { content = changed r.content }
 
     unmoved : (all : List (NumberedRecord R)) → filter hit all ≡ [] → map moved all ≡ all
     unmoved [] none = refl
-    unmoved (r ∷ all) none = elim (cases_Bool (wanted r.it)) [
+    unmoved (r ∷ all) none = elim (cases_Bool (wanted r.content)) [
       | inl found ↦ absurd (let wrong = rw found at none in cc)
       | inr other ↦ rw other (ap (λ l. r ∷ l) (unmoved all (rw other at none)))
     ]
 
     its_moved : (all : List (NumberedRecord R)) → its (map moved all) ≡ map changed (its all)
     its_moved [] = refl
-    its_moved (r ∷ all) = ap (λ l. changed r.it ∷ l) (its_moved all)
+    its_moved (r ∷ all) = ap (λ l. changed r.content ∷ l) (its_moved all)
 
     above_moved : (n : ℤ) (all : List (NumberedRecord R)) → AreAbove n all → AreAbove n (map moved all)
     above_moved n [] above = tt
@@ -139,18 +139,18 @@ module _ {R : Type 0} (cells : R → Row) (read : Row → R) (back : (n : ℤ) (
     rising_moved (r ∷ all) up = (above_moved r.number all up.0, rising_moved all up.1)
 
     abbrev swapped : NumberedRecord R → List Row → List Row
-    swapped r rows = put_row (numbered_row cells (record r { it = change r.it })) (without_rowid r.number rows)
+    swapped r rows = put_row (numbered_row cells (record r { content = change r.content })) (without_rowid r.number rows)
 
-    put_first : (x : NumberedRecord R) (all : List (NumberedRecord R)) → wanted x.it ≡ true → AreAbove x.number all → filter hit all ≡ []
+    put_first : (x : NumberedRecord R) (all : List (NumberedRecord R)) → wanted x.content ≡ true → AreAbove x.number all → filter hit all ≡ []
         → swapped x (rows_of (x ∷ all)) ≡ rows_of (map moved (x ∷ all))
     put_first x all found above none =
-        let new : NumberedRecord R = record x { it = change x.it } in
+        let new : NumberedRecord R = record x { content = change x.content } in
         rw (itself x.number, found) (ap (put_row (numbered_row cells new)) (no_number x.number all above) ∙ first_put new all above ∙ ap (λ l. numbered_row cells new ∷ rows_of l)
         (sym (unmoved all none)))
 
     put_back : (r : NumberedRecord R) (all : List (NumberedRecord R)) → IsTable (rows_of all) → filter hit all ≡ r ∷ [] → swapped r (rows_of all) ≡ rows_of (map moved all)
     put_back r [] up is = absurd cc
-    put_back r (x ∷ all) up is = elim (cases_Bool (wanted x.it)) [
+    put_back r (x ∷ all) up is = elim (cases_Bool (wanted x.content)) [
       | inl found ↦
           let parts = rw found at is in
           let first : x ≡ r = cc in
@@ -169,51 +169,51 @@ module _ {R : Type 0} (cells : R → Row) (read : Row → R) (back : (n : ℤ) (
     updated same alike rows new k apart one none =
         let all = map (numbered_from_row read) rows in
         let its_are = records_are cells read back rows k in
-        let up = subst IsTable k.round_trips k.rise in
+        let up = subst IsTable k.rows_read_back k.is_table in
         let new_is : new ≡ rows_of (map moved all) = elim (one_hit same alike all (subst (HaveDistinctKeys same) its_are apart)) [
-          | inl nothing ↦ none nothing ∙ k.round_trips ∙ ap rows_of (sym (unmoved all nothing))
-          | inr found ↦ one found.0 found.1 ∙ ap (swapped found.0) k.round_trips ∙ put_back found.0 all up found.1
+          | inl nothing ↦ none nothing ∙ k.rows_read_back ∙ ap rows_of (sym (unmoved all nothing))
+          | inr found ↦ one found.0 found.1 ∙ ap (swapped found.0) k.rows_read_back ∙ put_back found.0 all up found.1
         ] in
         let it = holds_from cells read back new (map moved all) new_is (subst IsTable (sym new_is) (rising_moved all up)) in (
           it.0,
           it.1 ∙ its_moved all ∙ ap (map changed) (sym its_are),
           λ n above.
               subst (AllByRecursion (λ row. value_cmp (Int n) (rowid row) ≡ Less)) (sym new_is)
-              (above_moved n all (subst (AllByRecursion (λ row. value_cmp (Int n) (rowid row) ≡ Less)) k.round_trips above)),
+              (above_moved n all (subst (AllByRecursion (λ row. value_cmp (Int n) (rowid row) ≡ Less)) k.rows_read_back above)),
         )
 
   -- ---- DELETE
 
   abbrev left : NumberedRecord R → Bool
-  left r = not (wanted r.it)
+  left r = not (wanted r.content)
 
   all_left : (all : List (NumberedRecord R)) → filter hit all ≡ [] → filter left all ≡ all
   all_left [] none = refl
-  all_left (r ∷ all) none = elim (cases_Bool (wanted r.it)) [
+  all_left (r ∷ all) none = elim (cases_Bool (wanted r.content)) [
     | inl found ↦ absurd (let wrong = rw found at none in cc)
     | inr other ↦ rw other (ap (λ l. r ∷ l) (all_left all (rw other at none)))
   ]
 
   its_left : (all : List (NumberedRecord R)) → its (filter left all) ≡ filter (λ r. not (wanted r)) (its all)
   its_left [] = refl
-  its_left (r ∷ all) = elim (cases_Bool (wanted r.it)) [ inl found ↦ rw found (its_left all) | inr other ↦ rw other (ap (λ l. r.it ∷ l) (its_left all)) ]
+  its_left (r ∷ all) = elim (cases_Bool (wanted r.content)) [ inl found ↦ rw found (its_left all) | inr other ↦ rw other (ap (λ l. r.content ∷ l) (its_left all)) ]
 
   above_left : (n : ℤ) (all : List (NumberedRecord R)) → AreAbove n all → AreAbove n (filter left all)
   above_left n [] above = tt
-  above_left n (r ∷ all) above = elim (cases_Bool (wanted r.it)) [ inl found ↦ rw found (above_left n all above.1) | inr other ↦ rw other (above.0, above_left n all above.1) ]
+  above_left n (r ∷ all) above = elim (cases_Bool (wanted r.content)) [ inl found ↦ rw found (above_left n all above.1) | inr other ↦ rw other (above.0, above_left n all above.1) ]
 
   rising_left : (all : List (NumberedRecord R)) → IsTable (rows_of all) → IsTable (rows_of (filter left all))
   rising_left [] up = tt
   rising_left (r ∷ all) up =
-      elim (cases_Bool (wanted r.it)) [ inl found ↦ rw found (rising_left all up.1) | inr other ↦ rw other (above_left r.number all up.0, rising_left all up.1) ]
+      elim (cases_Bool (wanted r.content)) [ inl found ↦ rw found (rising_left all up.1) | inr other ↦ rw other (above_left r.number all up.0, rising_left all up.1) ]
 
-  drop_first : (x : NumberedRecord R) (all : List (NumberedRecord R)) → wanted x.it ≡ true → AreAbove x.number all → filter hit all ≡ [] → without_rowid x.number
+  drop_first : (x : NumberedRecord R) (all : List (NumberedRecord R)) → wanted x.content ≡ true → AreAbove x.number all → filter hit all ≡ [] → without_rowid x.number
       (rows_of (x ∷ all)) ≡ rows_of (filter left (x ∷ all))
   drop_first x all found above none = rw (itself x.number, found) (no_number x.number all above ∙ ap rows_of (sym (all_left all none)))
 
   drop_one : (r : NumberedRecord R) (all : List (NumberedRecord R)) → IsTable (rows_of all) → filter hit all ≡ r ∷ [] → without_rowid r.number (rows_of all) ≡ rows_of (filter left all)
   drop_one r [] up is = absurd cc
-  drop_one r (x ∷ all) up is = elim (cases_Bool (wanted x.it)) [
+  drop_one r (x ∷ all) up is = elim (cases_Bool (wanted x.content)) [
     | inl found ↦
         let parts = rw found at is in
         let first : x ≡ r = cc in
@@ -231,10 +231,10 @@ module _ {R : Type 0} (cells : R → Row) (read : Row → R) (back : (n : ℤ) (
   deleted same alike rows new k apart one none =
       let all = map (numbered_from_row read) rows in
       let its_are = records_are cells read back rows k in
-      let up = subst IsTable k.round_trips k.rise in
+      let up = subst IsTable k.rows_read_back k.is_table in
       let new_is : new ≡ rows_of (filter left all) = elim (one_hit same alike all (subst (HaveDistinctKeys same) its_are apart)) [
-        | inl nothing ↦ none nothing ∙ k.round_trips ∙ ap rows_of (sym (all_left all nothing))
-        | inr found ↦ one found.0 found.1 ∙ ap (without_rowid found.0.number) k.round_trips ∙ drop_one found.0 all up found.1
+        | inl nothing ↦ none nothing ∙ k.rows_read_back ∙ ap rows_of (sym (all_left all nothing))
+        | inr found ↦ one found.0 found.1 ∙ ap (without_rowid found.0.number) k.rows_read_back ∙ drop_one found.0 all up found.1
       ] in
       let it = holds_from cells read back new (filter left all) new_is (subst IsTable (sym new_is) (rising_left all up)) in
       (it.0, it.1 ∙ its_left all ∙ ap (filter (λ r. not (wanted r))) (sym its_are))

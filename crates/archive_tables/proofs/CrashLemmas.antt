@@ -184,7 +184,7 @@ module _ (sql : List ℕ) (k : Command) (is : command_of (understood archive_sch
       record {
         lists = subst (λ (t : Trees). Lists (t catalog_tree) archive_schema) (sym may.5) (subst (λ (x : Schema). Lists (may.2.trees catalog_tree) x) done.0.schema may.4.lists);
         tables = subst AreArchiveTables (sym may.5) done.0.tables;
-        remembers = ap archive_in_trees may.5 ∙ done.1;
+        archive_is = ap archive_in_trees may.5 ∙ done.1;
       }
 
   pub crash_over : (behind : Option Database) → IsOpenArchive behind old → (IsArchiveAtRest old → (next : State) (count : ℕ) → Executes sql params old next (Ok count) → CommitsChange old next change)
@@ -234,7 +234,7 @@ module _ (sql : List ℕ) (schema : Schema) (k : Command) (is : command_of (unde
   never_within db h =
       let which : h.0.command ≡ k = sym (ap command_of h.1.is) ∙ ap (λ s. command_of (understood s sql)) within.schema_is ∙ is in
       let outside = (writes_only old h.0.returning h.0.command _ _ db (subst EndsNothing (sym which) ours) h.2).0 in
-      let e = sym within.within ∙ outside in cc
+      let e = sym within.is_in_transaction ∙ outside in cc
 
   pub within_adds_nothing : Survives old new (CommitsBy sql params old) → HasCleanDisk new → (db : Trees) → new.may_leave db → old.may_leave db
   within_adds_nothing s clean db may = elim (s.crash clean db may) [
@@ -248,15 +248,15 @@ pub commit_is_stored : (behind : Option Database) (s : State) (db : Trees) → I
 commit_is_stored behind s db held it = record {
   lists = subst (λ (t : Trees). Lists (t catalog_tree) archive_schema) (sym it.0) (subst (λ (x : Schema). Lists (s.now.trees catalog_tree) x) held.schema (it.1 held.is_open).0.lists);
   tables = subst AreArchiveTables (sym it.0) held.tables;
-  remembers = ap archive_in_trees it.0;
+  archive_is = ap archive_in_trees it.0;
 }
 
 -- of tables that are made, or brought over
 pub made_is_stored : (before : Database) (archive : Archive) (s : State) (db : Trees) → IsReadyToCommit s before archive → IsCommitOf s db → IsArchiveStored archive db
 made_is_stored before archive s db made it = record {
   lists = subst (λ (t : Trees). Lists (t catalog_tree) archive_schema) (sym it.0) (subst (λ (x : Schema). Lists (s.now.trees catalog_tree) x) made.schema_is (it.1 made.is_open).0.lists);
-  tables = subst AreArchiveTables (sym it.0) made.tables;
-  remembers = ap archive_in_trees it.0 ∙ made.remembers;
+  tables = subst AreArchiveTables (sym it.0) made.are_tables_of_version;
+  archive_is = ap archive_in_trees it.0 ∙ made.archive_is;
 }
 
 -- ---- one call after the other
@@ -319,7 +319,7 @@ module _ {S : Type 0} (g : Ghosts S) where
 -- what is moved, or made, is within
 pub is_within : (s : State) (before : Database) (schema : Schema) (said : ℤ) (number : ℕ) (archive : Archive) → IsMigratingTables s before schema said number archive
     → IsInTransactionWithSchema s before schema
-is_within s before schema said number archive k = record { is_open = k.is_open; within = k.within; behind = k.behind; schema_is = k.schema_is }
+is_within s before schema said number archive k = record { is_open = k.is_open; is_in_transaction = k.is_in_transaction; committed_is_before = k.committed_is_before; schema_is = k.schema_is }
 
 pub making_within : (s : State) (before : Database) (schema : Schema) → IsCreatingTables s schema before → IsInTransactionWithSchema s before schema
-making_within s before schema k = record { is_open = k.is_open; within = k.within; behind = k.behind; schema_is = k.schema_is }
+making_within s before schema k = record { is_open = k.is_open; is_in_transaction = k.is_in_transaction; committed_is_before = k.committed_is_before; schema_is = k.schema_is }

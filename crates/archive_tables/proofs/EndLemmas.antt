@@ -50,7 +50,7 @@ module _ {S : Type 0} {g : Ghosts S} {old new : Held S} (sql : List ℕ) (params
       (runs : HasCleanDisk (state g new) → Executes sql params (state g old) (state g new) r) where
     pub execute_ends : EndsConnectionCall g old new r
     execute_ends = record {
-      lasts = execute_lasts (state g old) (state g new) sql params P r s runs;
+      remains_open = execute_lasts (state g old) (state g new) sql params P r s runs;
       was_open = λ clean. execute_open (state g old) (state g new) sql params r ours (runs clean);
     }
 
@@ -61,15 +61,15 @@ statement_stops old new sql params (Err e) h = execute_fails old new sql params 
 
 -- a step of the making or the moving
 pub step_ends : {S : Type 0} {g : Ghosts S} {old new : Held S} (s : Schema) (st : Statement) (P : Trees → Type 0) (r : Result ℕ Error) → KnowsIn s st → IsOurText (first st.sql)
-    → Survives (state g old) (state g new) P → (HasCleanDisk (state g new) → Executes st.sql st.given (state g old) (state g new) r) → EndsStep g old new r s st
+    → Survives (state g old) (state g new) P → (HasCleanDisk (state g new) → Executes st.sql st.parameters (state g old) (state g new) r) → EndsStep g old new r s st
 step_ends {S} {g} {old} {new} s st P r knows ours survives runs =
-    let ends : EndsConnectionCall g old new r = execute_ends st.sql st.given P r ours survives runs in
+    let ends : EndsConnectionCall g old new r = execute_ends st.sql st.parameters P r ours survives runs in
     record {
-      lasts = ends.lasts;
+      remains_open = ends.remains_open;
       was_open = ends.was_open;
-      stopped = λ clean. statement_stops (state g old) (state g new) st.sql st.given r (runs clean);
-      caused = λ clean up has free. step_fails s st knows (state g old) (state g new) up has free r (runs clean);
-      carried = λ clean up has free. step_carries_out s st knows (state g old) (state g new) up has free r (runs clean);
+      failure_keeps_or_rolls_back = λ clean. statement_stops (state g old) (state g new) st.sql st.parameters r (runs clean);
+      fault_has_cause = λ clean up has free. step_fails s st knows (state g old) (state g new) up has free r (runs clean);
+      executes = λ clean up has free. step_carries_out s st knows (state g old) (state g new) up has free r (runs clean);
     }
 
 -- ---- a write of an archive
@@ -77,27 +77,27 @@ step_ends {S} {g} {old} {new} s st P r knows ours survives runs =
 module _ (st : Statement) (Needs : Archive → Type 0) (change : Archive → Archive) where
   -- what the statement makes of tables that are held
   abbrev pub Tries : Type 1
-  Tries = (behind : Option Database) (old new : State) (r : Result ℕ Error) → IsOpenArchive behind old → Executes st.sql st.given old new r
+  Tries = (behind : Option Database) (old new : State) (r : Result ℕ Error) → IsOpenArchive behind old → Executes st.sql st.parameters old new r
       → MatchResult r (λ _. Needs (archive_of old) → ChangesArchive behind old new change) (λ _. FaultKeepsRowsOrRollsBack behind old new)
 
   module _ (knows : Knows st) (ours : IsOurText (first st.sql)) (tries : Tries) where
-    pub write_whole : {S : Type 0} {g : Ghosts S} {old new : Held S} (r : Result ℕ Error) → Survives (state g old) (state g new) (CommitsBy st.sql st.given (state g old))
-        → (HasCleanDisk (state g new) → Executes st.sql st.given (state g old) (state g new) r) → WritesBy g old new r Needs change st
+    pub write_whole : {S : Type 0} {g : Ghosts S} {old new : Held S} (r : Result ℕ Error) → Survives (state g old) (state g new) (CommitsBy st.sql st.parameters (state g old))
+        → (HasCleanDisk (state g new) → Executes st.sql st.parameters (state g old) (state g new) r) → WritesBy g old new r Needs change st
     write_whole {S} {g} {old} {new} r s runs = record {
-      over = λ clean behind k. tries behind (state g old) (state g new) r k (runs clean);
-      caused = λ clean behind k free. write_fails st knows (state g old) (state g new) k free r (runs clean);
-      made = λ clean behind k free. write_carries_out st knows (state g old) (state g new) k free r (runs clean);
-      crash = λ behind k needs. crash_over st.sql _ refl knows.plain knows.writes st.given change (state g old) (state g new) behind k
+      answer_holds = λ clean behind k. tries behind (state g old) (state g new) r k (runs clean);
+      fault_has_cause = λ clean behind k free. write_fails st knows (state g old) (state g new) k free r (runs clean);
+      executes_statement = λ clean behind k free. write_carries_out st knows (state g old) (state g new) k free r (runs clean);
+      crash = λ behind k needs. crash_over st.sql _ refl knows.plain knows.writes st.parameters change (state g old) (state g new) behind k
           (λ kept next count ran. tries None (state g old) next (Ok count) kept ran needs) s;
-      ends = execute_ends st.sql st.given _ r ours s runs;
+      ends_call = execute_ends st.sql st.parameters _ r ours s runs;
     }
 
 -- where it needs nothing
 pub write_freely : (st : Statement) (change : Archive → Archive) → Knows st → IsOurText (first st.sql)
-    → ((behind : Option Database) (old new : State) (r : Result ℕ Error) → IsOpenArchive behind old → Executes st.sql st.given old new r
+    → ((behind : Option Database) (old new : State) (r : Result ℕ Error) → IsOpenArchive behind old → Executes st.sql st.parameters old new r
     → MatchResult r (λ _. ChangesArchive behind old new change) (λ _. FaultKeepsRowsOrRollsBack behind old new))
-    → {S : Type 0} {g : Ghosts S} {old new : Held S} (r : Result ℕ Error) → Survives (state g old) (state g new) (CommitsBy st.sql st.given (state g old))
-    → (HasCleanDisk (state g new) → Executes st.sql st.given (state g old) (state g new) r) → WritesBy g old new r (λ _. ⊤) change st
+    → {S : Type 0} {g : Ghosts S} {old new : Held S} (r : Result ℕ Error) → Survives (state g old) (state g new) (CommitsBy st.sql st.parameters (state g old))
+    → (HasCleanDisk (state g new) → Executes st.sql st.parameters (state g old) (state g new) r) → WritesBy g old new r (λ _. ⊤) change st
 write_freely st change knows ours tries = write_whole st (λ _. ⊤) change knows ours (λ behind old new r k h. needs_nothing r _ _ (tries behind old new r k h))
 
 -- ---- a question
@@ -112,7 +112,7 @@ module _ {S : Type 0} {g : Ghosts S} {old new : Held S} (sql : List ℕ) (params
       (ok : HasCleanDisk (state g new) → IfOk q (λ rows. Shown sql params (state g old) (state g new) rows.items))
       (err : HasCleanDisk (state g new) → IfErr q (FailsToQuery sql params (state g old) (state g new))) where
     query_ends : {A : Type 0} (r : Result A Error) → (HasCleanDisk (state g new) → OnOk r (IsTrue (state g old).is_open)) → EndsConnectionCall g old new r
-    query_ends r was_open = record { lasts = query_lasts (state g old) (state g new) sql params _ q s ok err; was_open = was_open }
+    query_ends r was_open = record { remains_open = query_lasts (state g old) (state g new) sql params _ q s ok err; was_open = was_open }
 
     -- where its rows are the answer
     pub shown_ends : EndsConnectionCall g old new q
@@ -133,11 +133,11 @@ module _ {S : Type 0} {g : Ghosts S} {old new : Held S} (sql : List ℕ) (params
         → (HasCleanDisk (state g new) → IsArchiveAtRest (state g old) → (state g old).step_limit ≡ None → IsMemoryOrDiskError (state g old) (state g new) e ⊎ Unread)
         → AnswersFromDatabase g old new r Says Unread
     asks_fails {A} {Says} {Unread} r e is rests why = record {
-      over = λ clean behind k. on_fault _ _ r is (rests clean behind k);
-      caused = λ clean k free. carried r e (λ f. IsMemoryOrDiskError (state g old) (state g new) f ⊎ Unread) is (why clean k free);
-      same = λ clean. answers_none r _ _ is;
-      quiet = λ clean db may. question_adds_nothing (state g old) (state g new) sql params asks s clean db may;
-      ends = failed_ends r _ is;
+      answer_holds = λ clean behind k. on_fault _ _ r is (rests clean behind k);
+      fault_has_cause = λ clean k free. carried r e (λ f. IsMemoryOrDiskError (state g old) (state g new) f ⊎ Unread) is (why clean k free);
+      same_database = λ clean. answers_none r _ _ is;
+      crash_adds_nothing = λ clean db may. question_adds_nothing (state g old) (state g new) sql params asks s clean db may;
+      ends_call = failed_ends r _ is;
     }
 
     -- where its faults have a cause within a transaction, too
@@ -146,11 +146,11 @@ module _ {S : Type 0} {g : Ghosts S} {old new : Held S} (sql : List ℕ) (params
         → (HasCleanDisk (state g new) → (behind : Option Database) → IsOpenArchive behind (state g old) → (state g old).step_limit ≡ None → IsMemoryOrDiskError (state g old) (state g new) e)
         → AnswersOrFailsByFault g old new r Says
     anywhere_fails {A} {Says} r e is rests why = record {
-      over = λ clean behind k. on_fault _ _ r is (rests clean behind k);
-      caused = λ clean behind k free. carried r e (λ f. IsMemoryOrDiskError (state g old) (state g new) f) is (why clean behind k free);
-      same = λ clean. answers_none r _ _ is;
-      quiet = λ clean db may. question_adds_nothing (state g old) (state g new) sql params asks s clean db may;
-      ends = failed_ends r _ is;
+      answer_holds = λ clean behind k. on_fault _ _ r is (rests clean behind k);
+      fault_has_cause = λ clean behind k free. carried r e (λ f. IsMemoryOrDiskError (state g old) (state g new) f) is (why clean behind k free);
+      same_database = λ clean. answers_none r _ _ is;
+      crash_adds_nothing = λ clean db may. question_adds_nothing (state g old) (state g new) sql params asks s clean db may;
+      ends_call = failed_ends r _ is;
     }
 
     pub asks_rows_fails : {A : Type 0} {Says : Trees → A → Type 0} {Unread : Type 0} (r : Result A Error) (e : Error) → IsErrAnd r (λ f. f ≡ e)
@@ -158,31 +158,31 @@ module _ {S : Type 0} {g : Ghosts S} {old new : Held S} (sql : List ℕ) (params
         → (HasCleanDisk (state g new) → IsArchiveAtRest (state g old) → (state g old).step_limit ≡ None → IsMemoryOrDiskError (state g old) (state g new) e ⊎ Unread)
         → AnswersFromRows g old new r Says Unread
     asks_rows_fails {A} {Says} {Unread} r e is rests why = record {
-      over = λ clean behind k. on_fault _ _ r is (rests clean behind k);
-      caused = λ clean k free. carried r e (λ f. IsMemoryOrDiskError (state g old) (state g new) f ⊎ Unread) is (why clean k free);
-      same = λ clean. answers_none r _ _ is;
-      quiet = λ clean db may. question_adds_nothing (state g old) (state g new) sql params asks s clean db may;
-      ends = failed_ends r _ is;
+      answer_holds = λ clean behind k. on_fault _ _ r is (rests clean behind k);
+      fault_has_cause = λ clean k free. carried r e (λ f. IsMemoryOrDiskError (state g old) (state g new) f ⊎ Unread) is (why clean k free);
+      same_database = λ clean. answers_none r _ _ is;
+      crash_adds_nothing = λ clean db may. question_adds_nothing (state g old) (state g new) sql params asks s clean db may;
+      ends_call = failed_ends r _ is;
     }
 
     -- where its rows are the answer
     pub asks_shows : {Says : Archive → Vec Row Global → Type 0} {Unread : Type 0} → AnswerHoldsOfArchive g old new q Says → FailsByFaultOr g old new q Unread
         → AnswersFromDatabase g old new q Says Unread
     asks_shows over caused = record {
-      over = over;
-      caused = caused;
-      same = λ clean. shown_same (state g old) (state g new) sql params asks q (ok clean);
-      quiet = λ clean db may. question_adds_nothing (state g old) (state g new) sql params asks s clean db may;
-      ends = shown_ends;
+      answer_holds = over;
+      fault_has_cause = caused;
+      same_database = λ clean. shown_same (state g old) (state g new) sql params asks q (ok clean);
+      crash_adds_nothing = λ clean db may. question_adds_nothing (state g old) (state g new) sql params asks s clean db may;
+      ends_call = shown_ends;
     }
 
     pub asks_rows_shows : {Says : Trees → Vec Row Global → Type 0} {Unread : Type 0} → AnswerHoldsOfRows g old new q Says → FailsByFaultOr g old new q Unread → AnswersFromRows g old new q Says Unread
     asks_rows_shows over caused = record {
-      over = over;
-      caused = caused;
-      same = λ clean. shown_same (state g old) (state g new) sql params asks q (ok clean);
-      quiet = λ clean db may. question_adds_nothing (state g old) (state g new) sql params asks s clean db may;
-      ends = shown_ends;
+      answer_holds = over;
+      fault_has_cause = caused;
+      same_database = λ clean. shown_same (state g old) (state g new) sql params asks q (ok clean);
+      crash_adds_nothing = λ clean db may. question_adds_nothing (state g old) (state g new) sql params asks s clean db may;
+      ends_call = shown_ends;
     }
 
     -- and where it answers
@@ -191,11 +191,11 @@ module _ {S : Type 0} {g : Ghosts S} {old new : Held S} (sql : List ℕ) (params
         → (HasCleanDisk (state g new) → (behind : Option Database) → IsOpenArchive behind (state g old) → Says (archive_of (state g old)) a × LeavesRowsUnchanged behind (state g old) (state g new))
         → AnswersFromDatabase g old new (Ok a) Says Unread
     asks_answers a rows shown over = record {
-      over = over;
-      caused = λ clean k free. tt;
-      same = λ clean. question_sees (state g old) (state g new) sql params rows asks (shown clean);
-      quiet = λ clean db may. question_adds_nothing (state g old) (state g new) sql params asks s clean db may;
-      ends = answered_ends a rows shown;
+      answer_holds = over;
+      fault_has_cause = λ clean k free. tt;
+      same_database = λ clean. question_sees (state g old) (state g new) sql params rows asks (shown clean);
+      crash_adds_nothing = λ clean db may. question_adds_nothing (state g old) (state g new) sql params asks s clean db may;
+      ends_call = answered_ends a rows shown;
     }
 
     pub anywhere_answers : {A : Type 0} {Says : Archive → A → Type 0} (a : A) (rows : List Row)
@@ -203,11 +203,11 @@ module _ {S : Type 0} {g : Ghosts S} {old new : Held S} (sql : List ℕ) (params
         → (HasCleanDisk (state g new) → (behind : Option Database) → IsOpenArchive behind (state g old) → Says (archive_of (state g old)) a × LeavesRowsUnchanged behind (state g old) (state g new))
         → AnswersOrFailsByFault g old new (Ok a) Says
     anywhere_answers a rows shown over = record {
-      over = over;
-      caused = λ clean behind k free. tt;
-      same = λ clean. question_sees (state g old) (state g new) sql params rows asks (shown clean);
-      quiet = λ clean db may. question_adds_nothing (state g old) (state g new) sql params asks s clean db may;
-      ends = answered_ends a rows shown;
+      answer_holds = over;
+      fault_has_cause = λ clean behind k free. tt;
+      same_database = λ clean. question_sees (state g old) (state g new) sql params rows asks (shown clean);
+      crash_adds_nothing = λ clean db may. question_adds_nothing (state g old) (state g new) sql params asks s clean db may;
+      ends_call = answered_ends a rows shown;
     }
 
     pub asks_rows_answers : {A : Type 0} {Says : Trees → A → Type 0} {Unread : Type 0} (a : A) (rows : List Row)
@@ -216,9 +216,9 @@ module _ {S : Type 0} {g : Ghosts S} {old new : Held S} (sql : List ℕ) (params
         → Says (state g old).now.trees a × LeavesRowsUnchanged behind (state g old) (state g new))
         → AnswersFromRows g old new (Ok a) Says Unread
     asks_rows_answers a rows shown over = record {
-      over = over;
-      caused = λ clean k free. tt;
-      same = λ clean. question_sees (state g old) (state g new) sql params rows asks (shown clean);
-      quiet = λ clean db may. question_adds_nothing (state g old) (state g new) sql params asks s clean db may;
-      ends = answered_ends a rows shown;
+      answer_holds = over;
+      fault_has_cause = λ clean k free. tt;
+      same_database = λ clean. question_sees (state g old) (state g new) sql params rows asks (shown clean);
+      crash_adds_nothing = λ clean db may. question_adds_nothing (state g old) (state g new) sql params asks s clean db may;
+      ends_call = answered_ends a rows shown;
     }

@@ -34,7 +34,7 @@ use Rattle.archive_model.specs.Records.{Message}
 use Rattle.archive_model.specs.Filing.{IndexedMessage, indexed_messages, insert_by_indexed_date, sort_by_indexed_date, is_indexed_in_month, is_indexed_by_author, messages_in_month, messages_by_author}
 use Rattle.archive_tables.specs.Schema.{archive_schema}
 use Rattle.archive_tables.specs.Tables.{IsOpenArchive, AreArchiveTables, NumberedRecord, numbered_row, indexed_message_cells, indexed_message_from_row, archive_in_trees}
-use Rattle.archive_tables.specs.Rows.{numbered_indexed_messages, message_at, rowid_result_row, was_sent_before, with_dated_row, rows_by_date, message_rowids_where, month_places, author_places}
+use Rattle.archive_tables.specs.Rows.{numbered_indexed_messages, message_at, rowid_result_row, was_sent_before, with_dated_row, rows_by_date, message_rowids_where, month_rowids, author_rowids}
 use Rattle.archive_tables.specs.Calls.{FaultKeepsRowsOrRollsBack, LeavesRowsUnchanged, IsMemoryOrDiskError}
 use Rattle.archive_tables.proofs.MessageLemmas.{filed_back, filed_are}
 use Rattle.archive_tables.proofs.OrderLemmas.{one_order}
@@ -73,17 +73,17 @@ same_rows (r ∷ rows) =
 
 -- what is filed of them is in the order of its dates
 its_with : (r : NumberedRecord IndexedMessage) (rows : List (NumberedRecord IndexedMessage))
-    → map (λ (s : NumberedRecord IndexedMessage). s.it) (with_dated_row r rows) ≡ insert_by_indexed_date r.it (map (λ (s : NumberedRecord IndexedMessage). s.it) rows)
+    → map (λ (s : NumberedRecord IndexedMessage). s.content) (with_dated_row r rows) ≡ insert_by_indexed_date r.content (map (λ (s : NumberedRecord IndexedMessage). s.content) rows)
 its_with r [] = refl
 its_with r (s ∷ rows) = elim (cases_Bool (was_sent_before s r)) [
-  | inl before ↦ rw before (ap (λ l. s.it ∷ l) (its_with r rows))
+  | inl before ↦ rw before (ap (λ l. s.content ∷ l) (its_with r rows))
   | inr after ↦ rw after refl
 ]
 
-its_by_date : (rows : List (NumberedRecord IndexedMessage)) → map (λ (s : NumberedRecord IndexedMessage). s.it) (rows_by_date rows) ≡ sort_by_indexed_date
-    (map (λ (s : NumberedRecord IndexedMessage). s.it) rows)
+its_by_date : (rows : List (NumberedRecord IndexedMessage)) → map (λ (s : NumberedRecord IndexedMessage). s.content) (rows_by_date rows) ≡ sort_by_indexed_date
+    (map (λ (s : NumberedRecord IndexedMessage). s.content) rows)
 its_by_date [] = refl
-its_by_date (r ∷ rows) = its_with r (rows_by_date rows) ∙ ap (insert_by_indexed_date r.it) (its_by_date rows)
+its_by_date (r ∷ rows) = its_with r (rows_by_date rows) ∙ ap (insert_by_indexed_date r.content) (its_by_date rows)
 
 -- ---- a query by such an order
 
@@ -107,18 +107,19 @@ module _ (terms : List Term) (params : Row) where
   IsLower r s = value_cmp (Int r.number) (Int s.number) ≡ Less
 
   by_both : (r s : NumberedRecord IndexedMessage) → output_cmp query (out r) (out s)
-      ≡ ordering_then (int_cmp r.it.1.sent s.it.1.sent) (ordering_then (value_cmp (Int r.number) (Int s.number)) Equal)
-  by_both r s = ap (λ o. ordering_then o (ordering_then (value_cmp (Int r.number) (Int s.number)) Equal)) (value_cmp-Int r.it.1.sent s.it.1.sent)
+      ≡ ordering_then (int_cmp r.content.1.sent s.content.1.sent) (ordering_then (value_cmp (Int r.number) (Int s.number)) Equal)
+  by_both r s = ap (λ o. ordering_then o (ordering_then (value_cmp (Int r.number) (Int s.number)) Equal)) (value_cmp-Int r.content.1.sent s.content.1.sent)
 
   sent_first : (r s : NumberedRecord IndexedMessage) → was_sent_before r s ≡ true → IsBefore r s
-  sent_first r s first = by_both r s ∙ earlier (int_lt r.it.1.sent s.it.1.sent) (int_lt s.it.1.sent r.it.1.sent) (ordering_then (value_cmp (Int r.number) (Int s.number)) Equal) first
+  sent_first r s first = by_both r s ∙ earlier (int_lt r.content.1.sent s.content.1.sent) (int_lt s.content.1.sent r.content.1.sent)
+      (ordering_then (value_cmp (Int r.number) (Int s.number)) Equal) first
     where
       earlier : (t u : Bool) (o : Ordering) → t ≡ true → ordering_then (cond t Less (cond u Greater Equal)) o ≡ Less
       earlier true u o e = refl
       earlier false u o e = absurd cc
 
   or_lower : (r s : NumberedRecord IndexedMessage) → was_sent_before s r ≡ false → IsLower r s → IsBefore r s
-  or_lower r s not_first lower = by_both r s ∙ later (int_lt r.it.1.sent s.it.1.sent) (int_lt s.it.1.sent r.it.1.sent) (value_cmp (Int r.number) (Int s.number)) not_first lower
+  or_lower r s not_first lower = by_both r s ∙ later (int_lt r.content.1.sent s.content.1.sent) (int_lt s.content.1.sent r.content.1.sent) (value_cmp (Int r.number) (Int s.number)) not_first lower
     where
       later : (t u : Bool) (o : Ordering) → u ≡ false → o ≡ Less → ordering_then (cond t Less (cond u Greater Equal)) (ordering_then o Equal) ≡ Less
       later true u o e l = refl
@@ -179,7 +180,7 @@ module _ (terms : List Term) (params : Row) where
 
   module _ (wanted : IndexedMessage → Bool) (tests : (n : ℤ) (f : IndexedMessage) → passes terms params (Int n ∷ indexed_message_cells f) ≡ wanted f) (trees : Trees) (k : AreArchiveTables trees) where
     abbrev them : List (NumberedRecord IndexedMessage)
-    them = filter (λ (r : NumberedRecord IndexedMessage). wanted r.it) (numbered_indexed_messages trees)
+    them = filter (λ (r : NumberedRecord IndexedMessage). wanted r.content) (numbered_indexed_messages trees)
 
     pub picked_places : (shown : List Row) → Picks query params (trees 8) shown → shown ≡ map rowid_result_row (message_rowids_where wanted trees)
     picked_places shown it =
@@ -189,7 +190,8 @@ module _ (terms : List Term) (params : Row) where
         let there = IsPermutation-trans (map out (rows_by_date them)) (map out them) it.ordered
         (IsPermutation-sym (map out them) (map out (rows_by_date them)) (IsPermutation-map out them (rows_by_date them) (same_rows them)))
         (subst (λ l. IsPermutation l it.ordered) start it.same) in
-        let rises = rises_by_date them (numbers_rise (λ (r : NumberedRecord IndexedMessage). wanted r.it) (numbered_indexed_messages trees) (subst IsTable k.messages.round_trips k.messages.rise)) in
+        let rises = rises_by_date them (numbers_rise (λ (r : NumberedRecord IndexedMessage). wanted r.content) (numbered_indexed_messages trees)
+        (subst IsTable k.messages.rows_read_back k.messages.is_table)) in
         let order = one_order (output_cmp_total query) (map out (rows_by_date them)) it.ordered (strictly (rows_by_date them) rises) there it.sorted in
         it.is ∙ ap (map (λ (o : Output). o.1)) order ∙ numbers_shown (rows_by_date them)
 
@@ -200,10 +202,10 @@ module _ (terms : List Term) (params : Row) where
         let all = numbered_indexed_messages trees in
         let hit = hits indexed_message_cells indexed_message_from_row filed_back query params wanted tests (trees 8) k.messages in
         let found = all_by_date (λ r. finds all r ≡ Some r) them
-        (kept_found (λ (r : NumberedRecord IndexedMessage). wanted r.it) (λ r. finds all r ≡ Some r) all (each_found all (subst IsTable k.messages.round_trips k.messages.rise))) in
-        let its : map (λ (r : NumberedRecord IndexedMessage). r.it) (rows_by_date them) ≡ sort_by_indexed_date (filter wanted (indexed_messages (archive_in_trees trees))) =
+        (kept_found (λ (r : NumberedRecord IndexedMessage). wanted r.content) (λ r. finds all r ≡ Some r) all (each_found all (subst IsTable k.messages.rows_read_back k.messages.is_table))) in
+        let its : map (λ (r : NumberedRecord IndexedMessage). r.content) (rows_by_date them) ≡ sort_by_indexed_date (filter wanted (indexed_messages (archive_in_trees trees))) =
         its_by_date them ∙ ap sort_by_indexed_date (hit.1 ∙ ap (filter wanted) (sym (filed_are (trees 8)))) in
-        messages_at all (rows_by_date them) found ∙ sym (map-map (λ (f : IndexedMessage). Some f.0) (λ (r : NumberedRecord IndexedMessage). r.it) (rows_by_date them))
+        messages_at all (rows_by_date them) found ∙ sym (map-map (λ (f : IndexedMessage). Some f.0) (λ (r : NumberedRecord IndexedMessage). r.content) (rows_by_date them))
         ∙ ap (map (λ (f : IndexedMessage). Some f.0)) its ∙ sym (map-map (λ (m : Message). Some m) (λ (f : IndexedMessage). f.0)
         (sort_by_indexed_date (filter wanted (indexed_messages (archive_in_trees trees)))))
 
@@ -267,11 +269,11 @@ has_author list key n f = ap₂ ◌&&◌ (text_is f.0.list list) (alone _ ∙ bl
 
 -- ---- the laws: a walk over these numbers shows the messages
 
-pub walked_month : (trees : Trees) (list : List ℕ) (month : ℤ) → AreArchiveTables trees → map (message_at trees) (month_places trees list month) ≡ map Some
+pub walked_month : (trees : Trees) (list : List ℕ) (month : ℤ) → AreArchiveTables trees → map (message_at trees) (month_rowids trees list month) ≡ map Some
     (messages_in_month (archive_in_trees trees) list month)
 walked_month trees list month k = walked_where of_month (Text list ∷ Int month ∷ []) (is_indexed_in_month list month) (has_month list month) trees k
 
-pub walked_author : (trees : Trees) (list key : List ℕ) → AreArchiveTables trees → map (message_at trees) (author_places trees list key) ≡ map Some
+pub walked_author : (trees : Trees) (list key : List ℕ) → AreArchiveTables trees → map (message_at trees) (author_rowids trees list key) ≡ map Some
     (messages_by_author (archive_in_trees trees) list key)
 walked_author trees list key k = walked_where of_author (Text list ∷ Blob key ∷ []) (is_indexed_by_author list key) (has_author list key) trees k
 
@@ -279,7 +281,7 @@ walked_author trees list key k = walked_where of_author (Text list ∷ Blob key 
 
 module _ (old new : State) {behind : Option Database} (k : IsOpenArchive behind old) (list : List ℕ) where
   pub month_found : (month : ℤ) (rows : List Row) → Shown month_text (Text list ∷ Int month ∷ []) old new rows
-      → (rows ≡ map rowid_result_row (month_places old.now.trees list month)) × LeavesRowsUnchanged behind old new
+      → (rows ≡ map rowid_result_row (month_rowids old.now.trees list month)) × LeavesRowsUnchanged behind old new
   month_found month rows h =
       let params = Text list ∷ Int month ∷ [] in
       let picks = asked month_text 8 of_month number_cell by_date _ month_is.0 month_plain month_is.1 (λ t. refl) params old new k rows h in
@@ -294,7 +296,7 @@ module _ (old new : State) {behind : Option Database} (k : IsOpenArchive behind 
       (month_typed list month) old new k free e h
 
   pub author_found : (key : List ℕ) (rows : List Row) → Shown author_text (Text list ∷ Blob key ∷ []) old new rows
-      → (rows ≡ map rowid_result_row (author_places old.now.trees list key)) × LeavesRowsUnchanged behind old new
+      → (rows ≡ map rowid_result_row (author_rowids old.now.trees list key)) × LeavesRowsUnchanged behind old new
   author_found key rows h =
       let params = Text list ∷ Blob key ∷ [] in
       let picks = asked author_text 8 of_author number_cell by_date _ author_is.0 author_plain author_is.1 (λ t. refl) params old new k rows h in

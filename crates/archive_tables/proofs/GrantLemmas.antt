@@ -102,7 +102,7 @@ abbrev pub params_of : Grant → Row
 params_of = grant_cells
 
 abbrev fresh : Trees → Grant → NumberedRecord Grant
-fresh db g = record { number = next_rowid (db 6); it = g }
+fresh db g = record { number = next_rowid (db 6); content = g }
 
 adding : (db : Trees) (g : Grant) (given : List Row) → given ≡ (Null ∷ grant_cells g) ∷ []
     → edited db (edit_of db grant_table [] Chosen 0 given) ≡ put_row (numbered_row grant_cells (fresh db g)) (db 6)
@@ -196,9 +196,9 @@ module _ (person list : List ℕ) (rank : ℤ) where
         same_rank g = elim (is_grant_of_rank person list rank g) as (λ c. (cond c (days g) g).rank ≡ g.rank) [ true ↦ refl | false ↦ refl ]
 
     puts : (db : Trees) (r : NumberedRecord Grant) (given : List Row)
-        → given ≡ (Int r.number ∷ Int r.number ∷ Text r.it.person ∷ Text r.it.list ∷ Int r.it.rank ∷ Int from_day ∷ Int until_day ∷ []) ∷ []
-        → edited db (edit_of db grant_table (ids_of given) Given 1 given) ≡ put_row (numbered_row grant_cells (record r { it = days r.it })) (without_rowid r.number (db 6))
-    puts db r given from = rw (from, cast_int r.number, cast_int r.it.rank, cast_int from_day, cast_int until_day)
+        → given ≡ (Int r.number ∷ Int r.number ∷ Text r.content.person ∷ Text r.content.list ∷ Int r.content.rank ∷ Int from_day ∷ Int until_day ∷ []) ∷ []
+        → edited db (edit_of db grant_table (ids_of given) Given 1 given) ≡ put_row (numbered_row grant_cells (record r { content = days r.content })) (without_rowid r.number (db 6))
+    puts db r given from = rw (from, cast_int r.number, cast_int r.content.rank, cast_int from_day, cast_int until_day)
 
     changes : {behind : Option Database} (old new : State) (count : ℕ) → IsOpenArchive behind old → Executes change_text change_params old new (Ok count)
         → ChangesArchive behind old new (λ a. record a { grants = map change a.grants })

@@ -36,10 +36,10 @@ begins_over old new (Ok count) k h =
       record {
         is_open = ran.1.is_open;
         autocommit = ran.1.mode;
-        settled = ran.1.committed_is ∙ k.settled;
+        committed_is = ran.1.committed_is ∙ k.committed_is;
         schema = rw ran.1.now_is k.schema;
         tables = rw ran.1.now_is k.tables;
-        whole = (k.schema, k.tables);
+        rollback_leaves_archive = (k.schema, k.tables);
       },
       ran.1.now_is,
     )
@@ -99,13 +99,13 @@ back_is db old new k how up = let r = rests old new k.0 how up in (r.0, r.1 ∙ 
 from_held : (db : Database) (old new : State) (r : Result ℕ Error) → IsOpenArchive (Some db) old → Executes rollback_text [] old new r → IsTrue new.is_open → IsRolledBackTo db new
 from_held db old new (Ok count) k h up =
     let it = undoes old new count h up in
-    kept_at new db up (it.1 ∙ k.settled) (it.2 ∙ k.settled) it.3 k.whole.0 k.whole.1
+    kept_at new db up (it.1 ∙ k.committed_is) (it.2 ∙ k.committed_is) it.3 k.rollback_leaves_archive.0 k.rollback_leaves_archive.1
 from_held db old new (Err e) k h up = goes_back db old new k (ends old new e k.autocommit h) up
 
 from_back : (db : Database) (old new : State) (r : Result ℕ Error) → IsRolledBackTo db old → Executes rollback_text [] old new r → IsTrue new.is_open → IsRolledBackTo db new
 from_back db old new (Ok count) k h up =
     let it = undoes old new count h up in
-    let r = kept_at new old.now up (it.1 ∙ k.0.settled) (it.2 ∙ k.0.settled) it.3 k.0.schema k.0.tables in
+    let r = kept_at new old.now up (it.1 ∙ k.0.committed_is) (it.2 ∙ k.0.committed_is) it.3 k.0.schema k.0.tables in
     (r.0, r.1 ∙ k.1)
 from_back db old new (Err e) k h up = back_is db old new k (execute_fails old new rollback_text [] e h) up
 

@@ -45,27 +45,27 @@ use Rattle.archive_tables.proofs.RunLemmas.{execute_fails, value_is}
 
 pub shut_then : (a b c : State) → ClosesOnlyByFault a b → ClosesOnlyByFault b c → (HasCleanDisk c → HasCleanDisk b) → ClosesOnlyByFault a c
 shut_then a b c p q was = record {
-  faults = omega (arith, p.faults, q.faults);
+  faults_never_fall = omega (arith, p.faults_never_fall, q.faults_never_fall);
   stays_open = λ clean up. elim (p.stays_open (was clean) up) [
-    | inl still ↦ elim (q.stays_open clean still) [ inl open_ ↦ inl open_ | inr more ↦ inr (omega (arith, more, p.faults)) ]
-    | inr more ↦ inr (omega (arith, more, q.faults))
+    | inl still ↦ elim (q.stays_open clean still) [ inl open_ ↦ inl open_ | inr more ↦ inr (omega (arith, more, p.faults_never_fall)) ]
+    | inr more ↦ inr (omega (arith, more, q.faults_never_fall))
   ];
 }
 
 pub lasts_then : (a b c : State) → KeepsConnectionUnlessDiskFails a b → KeepsConnectionUnlessDiskFails b c → KeepsConnectionUnlessDiskFails a c
 lasts_then a b c p q = record {
-  returned = λ clean. p.returned (q.returned clean);
-  shut = shut_then a b c p.shut q.shut q.returned;
-  stays_shut = λ clean up. p.stays_shut (q.returned clean) (q.stays_shut clean up);
-  limit = q.limit ∙ p.limit;
+  disk_was_clean = λ clean. p.disk_was_clean (q.disk_was_clean clean);
+  closes_only_by_fault = shut_then a b c p.closes_only_by_fault q.closes_only_by_fault q.disk_was_clean;
+  closed_stays_closed = λ clean up. p.closed_stays_closed (q.disk_was_clean clean) (q.closed_stays_closed clean up);
+  step_limit_is_same = q.step_limit_is_same ∙ p.step_limit_is_same;
 }
 
 pub lasts_same : (s : State) → KeepsConnectionUnlessDiskFails s s
 lasts_same s = record {
-  returned = λ clean. clean;
-  shut = record { faults = omega arith; stays_open = λ clean up. inl up };
-  stays_shut = λ clean up. up;
-  limit = refl;
+  disk_was_clean = λ clean. clean;
+  closes_only_by_fault = record { faults_never_fall = omega arith; stays_open = λ clean up. inl up };
+  closed_stays_closed = λ clean up. up;
+  step_limit_is_same = refl;
 }
 
 -- ---- a statement
@@ -76,10 +76,10 @@ same_or_back old new (inr undone) up = undone.was_open up
 
 survives_lasts : (old new : State) (P : Trees → Type 0) → Survives old new P → (HasCleanDisk new → IsTrue new.is_open → IsTrue old.is_open) → KeepsConnectionUnlessDiskFails old new
 survives_lasts old new P s shut = record {
-  returned = λ clean. omega (arith, s.clean, clean);
-  shut = record { faults = s.counts; stays_open = s.closes };
-  stays_shut = shut;
-  limit = s.limit;
+  disk_was_clean = λ clean. omega (arith, s.clean, clean);
+  closes_only_by_fault = record { faults_never_fall = s.counts; stays_open = s.closes };
+  closed_stays_closed = shut;
+  step_limit_is_same = s.limit;
 }
 
 -- what ran found the connection open, and only ROLLBACK leaves it open or shut

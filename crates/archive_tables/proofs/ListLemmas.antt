@@ -52,7 +52,7 @@ unfolding understood everything
 add_plain = (refl, refl)
 
 abbrev fresh : Trees → List ℕ → NumberedRecord (List ℕ)
-fresh db name = record { number = next_rowid (db 1); it = name }
+fresh db name = record { number = next_rowid (db 1); content = name }
 
 puts : (db : Trees) (name : List ℕ) (given : List Row) → given ≡ (Null ∷ Text name ∷ []) ∷ []
     → edited db (edit_of db list_table [] Chosen 0 given) ≡ put_row (numbered_row list_cells (fresh db name)) (db 1)

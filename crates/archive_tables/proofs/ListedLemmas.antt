@@ -34,7 +34,7 @@ use Rattle.archive_model.specs.Damage.{insert_by_list_name, sort_by_list_name}
 use Rattle.archive_tables.specs.Schema.{archive_schema}
 use Rattle.archive_tables.specs.Tables.{IsOpenArchive, AreArchiveTables, NumberedRecord, numbered_row, indexed_message_cells, indexed_message_from_row, archive_in_trees}
 use Rattle.archive_tables.specs.Rows.{numbered_indexed_messages, rowid_result_row}
-use Rattle.archive_tables.specs.Listed.{was_listed_before, with_listed_row, rows_by_list, all_places, filed_at, indexed_result_row}
+use Rattle.archive_tables.specs.Listed.{was_listed_before, insert_row_by_list, rows_by_list, all_rowids, filed_at, indexed_result_row}
 use Rattle.archive_tables.specs.Calls.{FaultKeepsRowsOrRollsBack, LeavesRowsUnchanged, IsMemoryOrDiskError}
 use Rattle.archive_tables.proofs.MessageLemmas.{filed_back, filed_are}
 use Rattle.archive_tables.proofs.OrderLemmas.{one_order}
@@ -47,7 +47,7 @@ use Rattle.sqlite_typing.specs.Types.{accepts_program}
 -- ---- rows in the order of the lists' names
 
 all_with_listed : (P : NumberedRecord IndexedMessage → Type 0) (r : NumberedRecord IndexedMessage) (rows : List (NumberedRecord IndexedMessage)) → P r → AllByRecursion P rows
-    → AllByRecursion P (with_listed_row r rows)
+    → AllByRecursion P (insert_row_by_list r rows)
 all_with_listed P r [] one all = (one, tt)
 all_with_listed P r (s ∷ rows) one all = elim (cases_Bool (was_listed_before s r)) [
   | inl before ↦ rw before (all.0, all_with_listed P r rows one all.1)
@@ -58,33 +58,33 @@ all_by_list : (P : NumberedRecord IndexedMessage → Type 0) (rows : List (Numbe
 all_by_list P [] all = tt
 all_by_list P (r ∷ rows) all = all_with_listed P r (rows_by_list rows) all.0 (all_by_list P rows all.1)
 
-more_same : (r : NumberedRecord IndexedMessage) (rows : List (NumberedRecord IndexedMessage)) → IsPermutation (r ∷ rows) (with_listed_row r rows)
+more_same : (r : NumberedRecord IndexedMessage) (rows : List (NumberedRecord IndexedMessage)) → IsPermutation (r ∷ rows) (insert_row_by_list r rows)
 more_same r [] = IsPermutation-refl (r ∷ [])
 more_same r (s ∷ rows) = elim (cases_Bool (was_listed_before s r)) [
-  | inl before ↦ rw before (IsPermutation-trans (r ∷ s ∷ rows) (s ∷ r ∷ rows) (s ∷ with_listed_row r rows) (IsPermutation-middle (r ∷ []) s rows)
-      (IsPermutation-cons s (r ∷ rows) (with_listed_row r rows) (more_same r rows)))
+  | inl before ↦ rw before (IsPermutation-trans (r ∷ s ∷ rows) (s ∷ r ∷ rows) (s ∷ insert_row_by_list r rows) (IsPermutation-middle (r ∷ []) s rows)
+      (IsPermutation-cons s (r ∷ rows) (insert_row_by_list r rows) (more_same r rows)))
   | inr after ↦ rw after (IsPermutation-refl (r ∷ s ∷ rows))
 ]
 
 same_rows : (rows : List (NumberedRecord IndexedMessage)) → IsPermutation rows (rows_by_list rows)
 same_rows [] = IsPermutation-refl []
 same_rows (r ∷ rows) =
-    IsPermutation-trans (r ∷ rows) (r ∷ rows_by_list rows) (with_listed_row r (rows_by_list rows))
+    IsPermutation-trans (r ∷ rows) (r ∷ rows_by_list rows) (insert_row_by_list r (rows_by_list rows))
     (IsPermutation-cons r rows (rows_by_list rows) (same_rows rows)) (more_same r (rows_by_list rows))
 
 -- what is filed is in the order of its lists' names
 its_with : (r : NumberedRecord IndexedMessage) (rows : List (NumberedRecord IndexedMessage))
-    → map (λ (s : NumberedRecord IndexedMessage). s.it) (with_listed_row r rows) ≡ insert_by_list_name r.it (map (λ (s : NumberedRecord IndexedMessage). s.it) rows)
+    → map (λ (s : NumberedRecord IndexedMessage). s.content) (insert_row_by_list r rows) ≡ insert_by_list_name r.content (map (λ (s : NumberedRecord IndexedMessage). s.content) rows)
 its_with r [] = refl
 its_with r (s ∷ rows) = elim (cases_Bool (was_listed_before s r)) [
-  | inl before ↦ rw before (ap (λ l. s.it ∷ l) (its_with r rows))
+  | inl before ↦ rw before (ap (λ l. s.content ∷ l) (its_with r rows))
   | inr after ↦ rw after refl
 ]
 
-its_by_list : (rows : List (NumberedRecord IndexedMessage)) → map (λ (s : NumberedRecord IndexedMessage). s.it) (rows_by_list rows) ≡ sort_by_list_name
-    (map (λ (s : NumberedRecord IndexedMessage). s.it) rows)
+its_by_list : (rows : List (NumberedRecord IndexedMessage)) → map (λ (s : NumberedRecord IndexedMessage). s.content) (rows_by_list rows) ≡ sort_by_list_name
+    (map (λ (s : NumberedRecord IndexedMessage). s.content) rows)
 its_by_list [] = refl
-its_by_list (r ∷ rows) = its_with r (rows_by_list rows) ∙ ap (insert_by_list_name r.it) (its_by_list rows)
+its_by_list (r ∷ rows) = its_with r (rows_by_list rows) ∙ ap (insert_by_list_name r.content) (its_by_list rows)
 
 -- ---- the query by this order
 
@@ -129,11 +129,11 @@ abbrev order : List ℕ → List ℕ → Ordering
 order = slice_cmp nat_cmp
 
 by_both : (r s : NumberedRecord IndexedMessage) → output_cmp query (out r) (out s)
-    ≡ ordering_then (order r.it.0.list s.it.0.list) (ordering_then (value_cmp (Int r.number) (Int s.number)) Equal)
-by_both r s = ap (λ o. ordering_then o (ordering_then (value_cmp (Int r.number) (Int s.number)) Equal)) (value_cmp-Text r.it.0.list s.it.0.list)
+    ≡ ordering_then (order r.content.0.list s.content.0.list) (ordering_then (value_cmp (Int r.number) (Int s.number)) Equal)
+by_both r s = ap (λ o. ordering_then o (ordering_then (value_cmp (Int r.number) (Int s.number)) Equal)) (value_cmp-Text r.content.0.list s.content.0.list)
 
 list_first : (r s : NumberedRecord IndexedMessage) → was_listed_before r s ≡ true → IsBefore r s
-list_first r s first = by_both r s ∙ earlier (order r.it.0.list s.it.0.list) (ordering_then (value_cmp (Int r.number) (Int s.number)) Equal) first
+list_first r s first = by_both r s ∙ earlier (order r.content.0.list s.content.0.list) (ordering_then (value_cmp (Int r.number) (Int s.number)) Equal) first
   where
     earlier : (o n : Ordering) → is_lt o ≡ true → ordering_then o n ≡ Less
     earlier Less n e = refl
@@ -142,8 +142,8 @@ list_first r s first = by_both r s ∙ earlier (order r.it.0.list s.it.0.list) (
 
 or_lower : (r s : NumberedRecord IndexedMessage) → was_listed_before s r ≡ false → IsLower r s → IsBefore r s
 or_lower r s not_first lower =
-    by_both r s ∙ later (order s.it.0.list r.it.0.list) (order r.it.0.list s.it.0.list) (value_cmp (Int r.number) (Int s.number))
-    (nat_list_cmp_total.antisymm r.it.0.list s.it.0.list) not_first lower
+    by_both r s ∙ later (order s.content.0.list r.content.0.list) (order r.content.0.list s.content.0.list) (value_cmp (Int r.number) (Int s.number))
+    (nat_list_cmp_total.antisymm r.content.0.list s.content.0.list) not_first lower
   where
     later : (back o n : Ordering) → o ≡ ordering_reverse back → is_lt back ≡ false → n ≡ Less → ordering_then o (ordering_then n Equal) ≡ Less
     later Less o n e not_less l = absurd cc
@@ -154,7 +154,7 @@ abbrev Rises : List (NumberedRecord IndexedMessage) → Type 0
 Rises [] = Unit {0}
 Rises (r ∷ rows) = AllByRecursion (IsBefore r) rows × Rises rows
 
-rises_with : (r : NumberedRecord IndexedMessage) (rows : List (NumberedRecord IndexedMessage)) → AllByRecursion (IsLower r) rows → Rises rows → Rises (with_listed_row r rows)
+rises_with : (r : NumberedRecord IndexedMessage) (rows : List (NumberedRecord IndexedMessage)) → AllByRecursion (IsLower r) rows → Rises rows → Rises (insert_row_by_list r rows)
 rises_with r [] lower up = (tt, tt)
 rises_with r (s ∷ rows) lower up = elim (cases_Bool (was_listed_before s r)) [
   | inl before ↦ rw before (all_with_listed (IsBefore s) r rows (list_first s r before) up.0, rises_with r rows lower.1 up.1)
@@ -190,34 +190,34 @@ outs : (rows : List (NumberedRecord IndexedMessage)) → map (λ row. output que
 outs [] = refl
 outs (r ∷ rows) = ap (λ l. out r ∷ l) (outs rows)
 
-picked_places : (trees : Trees) → AreArchiveTables trees → (shown : List Row) → Picks query [] (trees 8) shown → shown ≡ map rowid_result_row (all_places trees)
+picked_places : (trees : Trees) → AreArchiveTables trees → (shown : List Row) → Picks query [] (trees 8) shown → shown ≡ map rowid_result_row (all_rowids trees)
 picked_places trees k shown it =
     let all = numbered_indexed_messages trees in
     let start : map (λ row. output query (env_of [] row)) (filter (passes [] []) (trees 8)) ≡ map out all =
-    ap (map (λ row. output query (env_of [] row))) (all_pass [] (trees 8) ∙ k.messages.round_trips) ∙ outs all in
+    ap (map (λ row. output query (env_of [] row))) (all_pass [] (trees 8) ∙ k.messages.rows_read_back) ∙ outs all in
     let there = IsPermutation-trans (map out (rows_by_list all)) (map out all) it.ordered
     (IsPermutation-sym (map out all) (map out (rows_by_list all)) (IsPermutation-map out all (rows_by_list all) (same_rows all)))
     (subst (λ l. IsPermutation l it.ordered) start it.same) in
-    let rises = rises_by_list all (subst IsTable k.messages.round_trips k.messages.rise) in
+    let rises = rises_by_list all (subst IsTable k.messages.rows_read_back k.messages.is_table) in
     let order = one_order (output_cmp_total query) (map out (rows_by_list all)) it.ordered (strictly (rows_by_list all) rises) there it.sorted in
     it.is ∙ ap (map (λ (o : Output). o.1)) order ∙ numbers_shown (rows_by_list all)
 
 -- ---- the law: a walk over these numbers shows all messages
 
 filed_of : (all wanted : List (NumberedRecord IndexedMessage)) → AllByRecursion (λ r. finds all r ≡ Some r) wanted
-    → map (λ place. option_map (λ (r : NumberedRecord IndexedMessage). r.it) (find (λ (r : NumberedRecord IndexedMessage). int_eq r.number place) all))
+    → map (λ place. option_map (λ (r : NumberedRecord IndexedMessage). r.content) (find (λ (r : NumberedRecord IndexedMessage). int_eq r.number place) all))
     (map (λ (r : NumberedRecord IndexedMessage). r.number) wanted)
-    ≡ map (λ (r : NumberedRecord IndexedMessage). Some r.it) wanted
+    ≡ map (λ (r : NumberedRecord IndexedMessage). Some r.content) wanted
 filed_of all [] h = refl
-filed_of all (r ∷ wanted) h = ap₂ ◌∷◌ (ap (option_map (λ (r : NumberedRecord IndexedMessage). r.it)) h.0) (filed_of all wanted h.1)
+filed_of all (r ∷ wanted) h = ap₂ ◌∷◌ (ap (option_map (λ (r : NumberedRecord IndexedMessage). r.content)) h.0) (filed_of all wanted h.1)
 
-pub walked_all : (trees : Trees) → AreArchiveTables trees → map (filed_at trees) (all_places trees) ≡ map Some (sort_by_list_name (indexed_messages (archive_in_trees trees)))
+pub walked_all : (trees : Trees) → AreArchiveTables trees → map (filed_at trees) (all_rowids trees) ≡ map Some (sort_by_list_name (indexed_messages (archive_in_trees trees)))
 walked_all trees k =
     let all = numbered_indexed_messages trees in
-    let found = all_by_list (λ r. finds all r ≡ Some r) all (each_found all (subst IsTable k.messages.round_trips k.messages.rise)) in
-    let its : map (λ (r : NumberedRecord IndexedMessage). r.it) all ≡ indexed_messages (archive_in_trees trees) = sym
+    let found = all_by_list (λ r. finds all r ≡ Some r) all (each_found all (subst IsTable k.messages.rows_read_back k.messages.is_table)) in
+    let its : map (λ (r : NumberedRecord IndexedMessage). r.content) all ≡ indexed_messages (archive_in_trees trees) = sym
     (records_are indexed_message_cells indexed_message_from_row filed_back (trees 8) k.messages) ∙ sym (filed_are (trees 8)) in
-    filed_of all (rows_by_list all) found ∙ sym (map-map (λ (f : IndexedMessage). Some f) (λ (r : NumberedRecord IndexedMessage). r.it) (rows_by_list all))
+    filed_of all (rows_by_list all) found ∙ sym (map-map (λ (f : IndexedMessage). Some f) (λ (r : NumberedRecord IndexedMessage). r.content) (rows_by_list all))
     ∙ ap (map Some) (its_by_list all ∙ ap sort_by_list_name its)
 
 -- ---- the message of a number
@@ -270,24 +270,25 @@ module _ (place : ℤ) where
   abbrev cells_of : Row → Row
   cells_of row = (output (plain_query 8 at_place cells by_number) (env_of (Int place ∷ []) row)).1
 
-  shown_cells : (all : List (NumberedRecord IndexedMessage)) → map cells_of (map (numbered_row indexed_message_cells) all) ≡ map (λ (r : NumberedRecord IndexedMessage). indexed_result_row r.it) all
+  shown_cells : (all : List (NumberedRecord IndexedMessage)) → map cells_of (map (numbered_row indexed_message_cells) all) ≡ map
+      (λ (r : NumberedRecord IndexedMessage). indexed_result_row r.content) all
   shown_cells [] = refl
-  shown_cells (r ∷ all) = ap (λ l. indexed_result_row r.it ∷ l) (shown_cells all)
+  shown_cells (r ∷ all) = ap (λ l. indexed_result_row r.content ∷ l) (shown_cells all)
 
-  first_shown : (all : List (NumberedRecord IndexedMessage)) → slice_get (map (λ (r : NumberedRecord IndexedMessage). indexed_result_row r.it) all) 0 ≡ option_map indexed_result_row
-      (option_map (λ (r : NumberedRecord IndexedMessage). r.it) (slice_get all 0))
+  first_shown : (all : List (NumberedRecord IndexedMessage)) → slice_get (map (λ (r : NumberedRecord IndexedMessage). indexed_result_row r.content) all) 0 ≡ option_map indexed_result_row
+      (option_map (λ (r : NumberedRecord IndexedMessage). r.content) (slice_get all 0))
   first_shown [] = refl
   first_shown (r ∷ all) = refl
 
-  first_is : (all : List (NumberedRecord IndexedMessage)) (rows : List Row) → rows ≡ map (λ (r : NumberedRecord IndexedMessage). indexed_result_row r.it) (filter is_at all)
-      → slice_get rows 0 ≡ option_map indexed_result_row (option_map (λ (r : NumberedRecord IndexedMessage). r.it) (find is_at all))
+  first_is : (all : List (NumberedRecord IndexedMessage)) (rows : List Row) → rows ≡ map (λ (r : NumberedRecord IndexedMessage). indexed_result_row r.content) (filter is_at all)
+      → slice_get rows 0 ≡ option_map indexed_result_row (option_map (λ (r : NumberedRecord IndexedMessage). r.content) (find is_at all))
   first_is all rows are =
-      ap (λ l. slice_get l 0) are ∙ first_shown (filter is_at all) ∙ ap (λ o. option_map indexed_result_row (option_map (λ (r : NumberedRecord IndexedMessage). r.it) o)) (first_kept is_at all)
+      ap (λ l. slice_get l 0) are ∙ first_shown (filter is_at all) ∙ ap (λ o. option_map indexed_result_row (option_map (λ (r : NumberedRecord IndexedMessage). r.content) o)) (first_kept is_at all)
 
 -- ---- what the texts show
 
 module _ (old new : State) {behind : Option Database} (k : IsOpenArchive behind old) where
-  pub all_found : (rows : List Row) → Shown places_text [] old new rows → (rows ≡ map rowid_result_row (all_places old.now.trees)) × LeavesRowsUnchanged behind old new
+  pub all_found : (rows : List Row) → Shown places_text [] old new rows → (rows ≡ map rowid_result_row (all_rowids old.now.trees)) × LeavesRowsUnchanged behind old new
   all_found rows h =
       let picks = asked places_text 8 [] number_cell list_then_number _ places_is.0 places_plain places_is.1 (λ t. refl) [] old new k rows h in
       let same = asked_stays places_text 8 [] number_cell list_then_number _ places_is.0 places_plain places_is.1 (λ t. refl) [] old new k rows h in
@@ -306,8 +307,8 @@ module _ (old new : State) {behind : Option Database} (k : IsOpenArchive behind 
       let all = numbered_indexed_messages old.now.trees in
       let picks = asked filed_text 8 at_place cells by_number _ filed_is.0 filed_plain filed_is.1 (λ t. refl) params old new k rows h in
       let same = asked_stays filed_text 8 at_place cells by_number _ filed_is.0 filed_plain filed_is.1 (λ t. refl) params old new k rows h in
-      let are = in_order 8 at_place cells params (old.now.trees 8) rows k.tables.messages.rise picks
-      ∙ ap (map (cells_of place)) (ap (filter (passes at_place params)) k.tables.messages.round_trips ∙ passing place all) ∙ shown_cells place (filter (is_at place) all) in
+      let are = in_order 8 at_place cells params (old.now.trees 8) rows k.tables.messages.is_table picks
+      ∙ ap (map (cells_of place)) (ap (filter (passes at_place params)) k.tables.messages.rows_read_back ∙ passing place all) ∙ shown_cells place (filter (is_at place) all) in
       (first_is place all rows are, same)
 
   pub not_filed : (place : ℤ) (e : Error) → FailsToQuery filed_text (Int place ∷ []) old new e → FaultKeepsRowsOrRollsBack behind old new

@@ -19,7 +19,7 @@ use Rattle.archive_model.specs.Filing.{IndexedMessage}
 use Rattle.archive_tables.specs.Schema.{archive_schema}
 use Rattle.archive_model.specs.Questions.{is_message_at_key}
 use Rattle.archive_tables.specs.Tables.{IsOpenArchive, indexed_message_cells, archive_of}
-use Rattle.archive_tables.specs.Rows.{message_result_row, marks_result_row}
+use Rattle.archive_tables.specs.Rows.{message_result_row, dated_marks_result_row}
 use Rattle.archive_tables.specs.Calls.{FaultKeepsRowsOrRollsBack, LeavesRowsUnchanged, IsMemoryOrDiskError}
 use Rattle.archive_tables.proofs.MessageLemmas.{shows_messages, counts_messages, has_messages}
 use Rattle.archive_tables.proofs.SelectLemmas.{plain_query, by_number, passes, asked, asked_stays, refused_rests, alone, text_is}
@@ -171,11 +171,11 @@ module _ (old new : State) (list : List ℕ) {behind : Option Database} (k : IsO
     not_one_caused e h free = question_fails_by one_text 8 at_key all_cells by_number _ one_is.0 one_plain one_is.1 (Text list ∷ Text key ∷ []) one_fit (one_typed list key) old new k free e h
 
     pub marks : (rows : List Row) → Shown marks_text (Text list ∷ Text key ∷ []) old new rows
-        → (rows ≡ map marks_result_row (filter (is_message_at_key list key) (archive_of old).messages)) × LeavesRowsUnchanged behind old new
+        → (rows ≡ map dated_marks_result_row (filter (is_message_at_key list key) (archive_of old).messages)) × LeavesRowsUnchanged behind old new
     marks rows h =
         let params = Text list ∷ Text key ∷ [] in
         let picks = asked marks_text 8 at_key mark_cells by_number _ marks_is.0 marks_plain marks_is.1 (λ t. refl) params old new k rows h in (
-          shows_messages at_key mark_cells params (is_message_at_key list key) (has_key list key []) marks_result_row (λ n m. refl) (old.now.trees 8) rows k.tables.messages picks,
+          shows_messages at_key mark_cells params (is_message_at_key list key) (has_key list key []) dated_marks_result_row (λ n m. refl) (old.now.trees 8) rows k.tables.messages picks,
           asked_stays marks_text 8 at_key mark_cells by_number _ marks_is.0 marks_plain marks_is.1 (λ t. refl) params old new k rows h,
         )
 

@@ -22,7 +22,7 @@ use Rattle.sqlite.specs.Effect.{Database}
 use Rattle.sqlite.specs.State.{State, Writes, Executes, mode_of}
 use Rattle.sqlite.proofs.Callers.{IsPlain, command_of, statement_of, runs_as, one_step}
 use Rattle.sqlite_tied.specs.Compute.{everything}
-use Rattle.archive_tables.specs.Schema.{empty_schema, schema_with_version, schema_with_lists, schema_with_persons, schema_with_grants}
+use Rattle.archive_tables.specs.Schema.{empty_schema, schema_with_version_table, schema_with_lists, schema_with_persons, schema_with_grants}
 use Rattle.archive_tables.specs.Schema.{schema_with_messages, schema_with_month_index, schema_1, schema_2, archive_schema}
 use Rattle.archive_tables.specs.Schema.{create_version, create_list, create_person, create_grant, create_message, create_month_index, create_author_index, create_option}
 use Rattle.archive_tables.specs.Schema.{create_address, version_table, list_table, person_table, grant_table, message_table, sequence_table, option_table, address_table, month_index}
@@ -78,16 +78,16 @@ module _ (s : Schema) (sql : List ℕ) (table : Table) (is : command_of (underst
   goes_on : (before : Database) → IsCreatingTables old s before → (next : Schema) → new.now.schema ≡ next → AreEmpty new.now.trees next.tables → IsCreatingTables new next before
   goes_on before k next schema empty = record {
     is_open = ran.shown.is_open;
-    within = ran.shown.mode ∙ k.within;
-    behind = ran.shown.committed_is ∙ rw k.within k.behind;
+    is_in_transaction = ran.shown.mode ∙ k.is_in_transaction;
+    committed_is_before = ran.shown.committed_is ∙ rw k.is_in_transaction k.committed_is_before;
     schema_is = schema;
-    empty = empty;
+    tables_are_empty = empty;
   }
 
   pub makes : (before : Database) → IsCreatingTables old s before → lacks_sequence (created s table) ≡ false → IsCreatingTables new (created s table) before
   makes before k none =
       let here = table_made none in
-      goes_on before k (created s table) here.schema (still_empty s table old.now new.now here k.empty)
+      goes_on before k (created s table) here.schema (still_empty s table old.now new.now here k.tables_are_empty)
 
   -- the first table with AUTOINCREMENT brings the table of the counts along
   pub makes_both : (before : Database) → IsCreatingTables old s before → lacks_sequence (created s table) ≡ true → (counts : Table) → table_defined_by sequence_text ≡ Ok counts
@@ -100,7 +100,7 @@ module _ (s : Schema) (sql : List ℕ) (table : Table) (is : command_of (underst
       let second = one_made (created s table) sequence_text counts first.0 all.0 made.schema counts_is (rw lacks at first.2) in
       let here = subst (Makes (created s table) counts first.0) (sym (ap (λ (p : Tally × Database). p.1) (value_is all.2))) second in
       goes_on before k (created (created s table) counts) here.schema
-      (still_empty (created s table) counts first.0 new.now here (still_empty s table old.now first.0 made k.empty))
+      (still_empty (created s table) counts first.0 new.now here (still_empty s table old.now first.0 made k.tables_are_empty))
 
 -- ---- one index more: the rows of all tables stay
 
@@ -136,43 +136,45 @@ module _ (s : Schema) (sql : List ℕ) (at : ℕ) (table : Table) (index : Index
       let now : new.now ≡ done.0 = ap (λ (p : Tally × Database). p.1) (value_is done.2) in
       record {
         is_open = ran.shown.is_open;
-        within = ran.shown.mode ∙ k.within;
-        behind = ran.shown.committed_is ∙ rw k.within k.behind;
+        is_in_transaction = ran.shown.mode ∙ k.is_in_transaction;
+        committed_is_before = ran.shown.committed_is ∙ rw k.is_in_transaction k.committed_is_before;
         schema_is = ap (λ (d : Database). d.schema) now ∙ made.schema;
-        empty = subst (λ (d : Database). AreEmpty d.trees s.tables) (sym now) (same_empty old.now.trees done.0.trees s.tables made.rows k.empty);
+        tables_are_empty = subst (λ (d : Database). AreEmpty d.trees s.tables) (sym now) (same_empty old.now.trees done.0.trees s.tables made.rows k.tables_are_empty);
       }
 
 -- ---- the nine texts, each over what the ones before it made
 
-version_text_is : (command_of (understood empty_schema create_version) ≡ CreateTable) × (statement_of create_version (understood empty_schema create_version) ≡ create_version)
+version_text_is : (command_of (understood empty_schema create_version_table) ≡ CreateTable) × (statement_of create_version_table (understood empty_schema create_version_table) ≡ create_version_table)
 unfolding understood everything
 version_text_is = (refl, refl)
 
-version_plain : IsPlain (understood empty_schema create_version)
+version_plain : IsPlain (understood empty_schema create_version_table)
 unfolding understood everything
 version_plain = (refl, refl)
 
-pub version_alone : (lacks_sequence (created empty_schema (unplaced version_table)) ≡ false) × (created empty_schema (unplaced version_table) ≡ schema_with_version)
+pub version_alone : (lacks_sequence (created empty_schema (unplaced version_table)) ≡ false) × (created empty_schema (unplaced version_table) ≡ schema_with_version_table)
 unfolding everything
 version_alone = (refl, refl)
 
-list_text_is : (command_of (understood schema_with_version create_list) ≡ CreateTable) × (statement_of create_list (understood schema_with_version create_list) ≡ create_list)
+list_text_is : (command_of (understood schema_with_version_table create_list_table) ≡ CreateTable) ×
+    (statement_of create_list_table (understood schema_with_version_table create_list_table) ≡ create_list_table)
 unfolding understood everything
 list_text_is = (refl, refl)
 
-list_plain : IsPlain (understood schema_with_version create_list)
+list_plain : IsPlain (understood schema_with_version_table create_list_table)
 unfolding understood everything
 list_plain = (refl, refl)
 
-pub list_alone : (lacks_sequence (created schema_with_version (unplaced list_table)) ≡ false) × (created schema_with_version (unplaced list_table) ≡ schema_with_lists)
+pub list_alone : (lacks_sequence (created schema_with_version_table (unplaced list_table)) ≡ false) × (created schema_with_version_table (unplaced list_table) ≡ schema_with_lists)
 unfolding everything
 list_alone = (refl, refl)
 
-person_text_is : (command_of (understood schema_with_lists create_person) ≡ CreateTable) × (statement_of create_person (understood schema_with_lists create_person) ≡ create_person)
+person_text_is : (command_of (understood schema_with_lists create_person_table) ≡ CreateTable) ×
+    (statement_of create_person_table (understood schema_with_lists create_person_table) ≡ create_person_table)
 unfolding understood everything
 person_text_is = (refl, refl)
 
-person_plain : IsPlain (understood schema_with_lists create_person)
+person_plain : IsPlain (understood schema_with_lists create_person_table)
 unfolding understood everything
 person_plain = (refl, refl)
 
@@ -180,11 +182,12 @@ pub person_alone : (lacks_sequence (created schema_with_lists (unplaced person_t
 unfolding everything
 person_alone = (refl, refl)
 
-grant_text_is : (command_of (understood schema_with_persons create_grant) ≡ CreateTable) × (statement_of create_grant (understood schema_with_persons create_grant) ≡ create_grant)
+grant_text_is : (command_of (understood schema_with_persons create_grant_table) ≡ CreateTable) ×
+    (statement_of create_grant_table (understood schema_with_persons create_grant_table) ≡ create_grant_table)
 unfolding understood everything
 grant_text_is = (refl, refl)
 
-grant_plain : IsPlain (understood schema_with_persons create_grant)
+grant_plain : IsPlain (understood schema_with_persons create_grant_table)
 unfolding understood everything
 grant_plain = (refl, refl)
 
@@ -192,11 +195,12 @@ pub grant_alone : (lacks_sequence (created schema_with_persons (unplaced grant_t
 unfolding everything
 grant_alone = (refl, refl)
 
-message_text_is : (command_of (understood schema_with_grants create_message) ≡ CreateTable) × (statement_of create_message (understood schema_with_grants create_message) ≡ create_message)
+message_text_is : (command_of (understood schema_with_grants create_message_table) ≡ CreateTable) ×
+    (statement_of create_message_table (understood schema_with_grants create_message_table) ≡ create_message_table)
 unfolding understood everything
 message_text_is = (refl, refl)
 
-message_plain : IsPlain (understood schema_with_grants create_message)
+message_plain : IsPlain (understood schema_with_grants create_message_table)
 unfolding understood everything
 message_plain = (refl, refl)
 
@@ -231,11 +235,11 @@ pub author_indexed : indexed schema_with_month_index message_table author_index 
 unfolding everything
 author_indexed = refl
 
-pub option_text_is : (command_of (understood schema_1 create_option) ≡ CreateTable) × (statement_of create_option (understood schema_1 create_option) ≡ create_option)
+pub option_text_is : (command_of (understood schema_1 create_option_table) ≡ CreateTable) × (statement_of create_option_table (understood schema_1 create_option_table) ≡ create_option_table)
 unfolding understood everything
 option_text_is = (refl, refl)
 
-pub option_plain : IsPlain (understood schema_1 create_option)
+pub option_plain : IsPlain (understood schema_1 create_option_table)
 unfolding understood everything
 option_plain = (refl, refl)
 
@@ -243,11 +247,11 @@ pub option_alone : (lacks_sequence (created schema_1 (unplaced option_table)) �
 unfolding everything
 option_alone = (refl, refl)
 
-pub address_text_is : (command_of (understood schema_2 create_address) ≡ CreateTable) × (statement_of create_address (understood schema_2 create_address) ≡ create_address)
+pub address_text_is : (command_of (understood schema_2 create_address_table) ≡ CreateTable) × (statement_of create_address_table (understood schema_2 create_address_table) ≡ create_address_table)
 unfolding understood everything
 address_text_is = (refl, refl)
 
-pub address_plain : IsPlain (understood schema_2 create_address)
+pub address_plain : IsPlain (understood schema_2 create_address_table)
 unfolding understood everything
 address_plain = (refl, refl)
 
@@ -256,25 +260,25 @@ unfolding everything
 address_alone = (refl, refl)
 
 module _ (old new : State) (before : Database) (count : ℕ) where
-  pub makes_version : IsCreatingTables old empty_schema before → Executes create_version [] old new (Ok count) → IsCreatingTables new schema_with_version before
+  pub makes_version : IsCreatingTables old empty_schema before → Executes create_version_table [] old new (Ok count) → IsCreatingTables new schema_with_version_table before
   makes_version k h = subst (λ s. IsCreatingTables new s before) version_alone.1
-      (makes empty_schema create_version (unplaced version_table) version_text_is.0 version_text_is.1 version_plain version_is old new k.schema_is count h before k version_alone.0)
+      (makes empty_schema create_version_table (unplaced version_table) version_text_is.0 version_text_is.1 version_plain version_is old new k.schema_is count h before k version_alone.0)
 
-  pub makes_list : IsCreatingTables old schema_with_version before → Executes create_list [] old new (Ok count) → IsCreatingTables new schema_with_lists before
+  pub makes_list : IsCreatingTables old schema_with_version_table before → Executes create_list_table [] old new (Ok count) → IsCreatingTables new schema_with_lists before
   makes_list k h = subst (λ s. IsCreatingTables new s before) list_alone.1
-      (makes schema_with_version create_list (unplaced list_table) list_text_is.0 list_text_is.1 list_plain list_matches old new k.schema_is count h before k list_alone.0)
+      (makes schema_with_version_table create_list_table (unplaced list_table) list_text_is.0 list_text_is.1 list_plain list_matches old new k.schema_is count h before k list_alone.0)
 
-  pub makes_person : IsCreatingTables old schema_with_lists before → Executes create_person [] old new (Ok count) → IsCreatingTables new schema_with_persons before
+  pub makes_person : IsCreatingTables old schema_with_lists before → Executes create_person_table [] old new (Ok count) → IsCreatingTables new schema_with_persons before
   makes_person k h = subst (λ s. IsCreatingTables new s before) person_alone.1
-      (makes schema_with_lists create_person (unplaced person_table) person_text_is.0 person_text_is.1 person_plain person_is old new k.schema_is count h before k person_alone.0)
+      (makes schema_with_lists create_person_table (unplaced person_table) person_text_is.0 person_text_is.1 person_plain person_is old new k.schema_is count h before k person_alone.0)
 
-  pub makes_grant : IsCreatingTables old schema_with_persons before → Executes create_grant [] old new (Ok count) → IsCreatingTables new schema_with_grants before
+  pub makes_grant : IsCreatingTables old schema_with_persons before → Executes create_grant_table [] old new (Ok count) → IsCreatingTables new schema_with_grants before
   makes_grant k h = subst (λ s. IsCreatingTables new s before) grant_alone.1
-      (makes schema_with_persons create_grant (unplaced grant_table) grant_text_is.0 grant_text_is.1 grant_plain grant_is old new k.schema_is count h before k grant_alone.0)
+      (makes schema_with_persons create_grant_table (unplaced grant_table) grant_text_is.0 grant_text_is.1 grant_plain grant_is old new k.schema_is count h before k grant_alone.0)
 
-  pub makes_message : IsCreatingTables old schema_with_grants before → Executes create_message [] old new (Ok count) → IsCreatingTables new schema_with_messages before
+  pub makes_message : IsCreatingTables old schema_with_grants before → Executes create_message_table [] old new (Ok count) → IsCreatingTables new schema_with_messages before
   makes_message k h = subst (λ s. IsCreatingTables new s before) message_brings.1
-      (makes_both schema_with_grants create_message (unplaced message_table) message_text_is.0 message_text_is.1 message_plain message_is old new k.schema_is count h before k message_brings.0
+      (makes_both schema_with_grants create_message_table (unplaced message_table) message_text_is.0 message_text_is.1 message_plain message_is old new k.schema_is count h before k message_brings.0
       (unplaced sequence_table) sequence_is)
 
   pub makes_month_index : IsCreatingTables old schema_with_messages before → Executes create_month_index [] old new (Ok count) → IsCreatingTables new schema_with_month_index before
@@ -286,13 +290,13 @@ module _ (old new : State) (before : Database) (count : ℕ) where
       (makes_index schema_with_month_index create_author_index 4 message_table author_index refl author_index_text_is.0 author_index_text_is.1 author_index_plain author_index_is old new
       before k count h)
 
-  pub makes_option : IsCreatingTables old schema_1 before → Executes create_option [] old new (Ok count) → IsCreatingTables new schema_2 before
+  pub makes_option : IsCreatingTables old schema_1 before → Executes create_option_table [] old new (Ok count) → IsCreatingTables new schema_2 before
   makes_option k h = subst (λ s. IsCreatingTables new s before) option_alone.1
-      (makes schema_1 create_option (unplaced option_table) option_text_is.0 option_text_is.1 option_plain option_is old new k.schema_is count h before k option_alone.0)
+      (makes schema_1 create_option_table (unplaced option_table) option_text_is.0 option_text_is.1 option_plain option_is old new k.schema_is count h before k option_alone.0)
 
-  pub makes_address : IsCreatingTables old schema_2 before → Executes create_address [] old new (Ok count) → IsCreatingTables new archive_schema before
+  pub makes_address : IsCreatingTables old schema_2 before → Executes create_address_table [] old new (Ok count) → IsCreatingTables new archive_schema before
   makes_address k h = subst (λ s. IsCreatingTables new s before) address_alone.1
-      (makes schema_2 create_address (unplaced address_table) address_text_is.0 address_text_is.1 address_plain address_is old new k.schema_is count h before k address_alone.0)
+      (makes schema_2 create_address_table (unplaced address_table) address_text_is.0 address_text_is.1 address_plain address_is old new k.schema_is count h before k address_alone.0)
 
 -- ---- the transaction
 
@@ -312,10 +316,10 @@ begins old new count has h =
     let ran = runs_as begin_text [] old new empty_schema has Begin begin_is begin_plain count h in
     record {
       is_open = ran.1.is_open;
-      within = ran.1.mode;
-      behind = ran.1.committed_is;
+      is_in_transaction = ran.1.mode;
+      committed_is_before = ran.1.committed_is;
       schema_is = ap (λ (d : Database). d.schema) ran.1.now_is ∙ has;
-      empty = tt;
+      tables_are_empty = tt;
     }
 
 abbrev pub commit_text : List ℕ
@@ -336,12 +340,12 @@ commits old new before archive count k h =
       record {
         is_open = ran.1.is_open;
         autocommit = ran.1.mode;
-        settled = ran.1.committed_is ∙ sym ran.1.now_is;
+        committed_is = ran.1.committed_is ∙ sym ran.1.now_is;
         schema = ap (λ (d : Database). d.schema) ran.1.now_is ∙ k.schema_is;
-        tables = subst (λ (d : Database). AreArchiveTables d.trees) (sym ran.1.now_is) k.tables;
-        whole = tt;
+        tables = subst (λ (d : Database). AreArchiveTables d.trees) (sym ran.1.now_is) k.are_tables_of_version;
+        rollback_leaves_archive = tt;
       },
-      ap (λ (d : Database). archive_in_trees d.trees) ran.1.now_is ∙ k.remembers,
+      ap (λ (d : Database). archive_in_trees d.trees) ran.1.now_is ∙ k.archive_is,
     )
 
 abbrev pub rollback_text : List ℕ
@@ -386,16 +390,16 @@ nothing_in : (trees : Trees) → trees 0 ≡ version_rows VERSION → trees 1 �
 nothing_in trees version lists persons grants messages options addresses = (
   record {
     version = version;
-    lists = rw lists (record { round_trips = refl; rise = tt });
-    persons = rw persons (record { round_trips = refl; rise = tt });
-    grants = rw grants (record { round_trips = refl; rise = tt });
-    messages = rw messages (record { round_trips = refl; rise = tt });
+    lists = rw lists (record { rows_read_back = refl; is_table = tt });
+    persons = rw persons (record { rows_read_back = refl; is_table = tt });
+    grants = rw grants (record { rows_read_back = refl; is_table = tt });
+    messages = rw messages (record { rows_read_back = refl; is_table = tt });
     grants_distinct = rw grants tt;
     messages_distinct = rw messages tt;
-    positive = rw messages tt;
-    options = rw options (record { round_trips = refl; rise = tt });
+    rowids_are_positive = rw messages tt;
+    options = rw options (record { rows_read_back = refl; is_table = tt });
     options_distinct = rw options tt;
-    addresses = rw addresses (record { round_trips = refl; rise = tt });
+    addresses = rw addresses (record { rows_read_back = refl; is_table = tt });
     addresses_distinct = rw addresses tt;
   },
   rw (lists, persons, grants, messages, options, addresses),
@@ -418,15 +422,15 @@ makes_whole old new before count k h =
     let trees : new.now.trees ≡ written.0 =
     ap (λ (d : Database). d.trees) now ∙ ap (λ (it : Written). it.trees) (value_is counted.2) ∙ value_is counted.1 in
     let same = subst (SameBut 0 db) (sym trees) (same_but 0 db written.0 applied.tables) in
-    let it = nothing_in new.now.trees (ap (λ (t : Trees). t 0) trees ∙ applied.rows ∙ puts db given.0 k.empty.0 given.1.1)
-    (same.lists (λ e. omega (arith, e)) ∙ k.empty.1.0) (same.persons (λ e. omega (arith, e)) ∙ k.empty.1.1.0)
-    (same.grants (λ e. omega (arith, e)) ∙ k.empty.1.1.1.0) (same.messages (λ e. omega (arith, e)) ∙ k.empty.1.1.1.1.0)
-    (same.options (λ e. omega (arith, e)) ∙ k.empty.1.1.1.1.1.1.0) (same.addresses (λ e. omega (arith, e)) ∙ k.empty.1.1.1.1.1.1.1.0) in
+    let it = nothing_in new.now.trees (ap (λ (t : Trees). t 0) trees ∙ applied.rows ∙ puts db given.0 k.tables_are_empty.0 given.1.1)
+    (same.lists (λ e. omega (arith, e)) ∙ k.tables_are_empty.1.0) (same.persons (λ e. omega (arith, e)) ∙ k.tables_are_empty.1.1.0)
+    (same.grants (λ e. omega (arith, e)) ∙ k.tables_are_empty.1.1.1.0) (same.messages (λ e. omega (arith, e)) ∙ k.tables_are_empty.1.1.1.1.0)
+    (same.options (λ e. omega (arith, e)) ∙ k.tables_are_empty.1.1.1.1.1.1.0) (same.addresses (λ e. omega (arith, e)) ∙ k.tables_are_empty.1.1.1.1.1.1.1.0) in
     record {
       is_open = w.shown.is_open;
-      within = w.shown.mode ∙ k.within;
-      behind = w.shown.committed_is ∙ rw k.within k.behind;
+      is_in_transaction = w.shown.mode ∙ k.is_in_transaction;
+      committed_is_before = w.shown.committed_is ∙ rw k.is_in_transaction k.committed_is_before;
       schema_is = ap (λ (d : Database). d.schema) now;
-      tables = it.0;
-      remembers = it.1;
+      are_tables_of_version = it.0;
+      archive_is = it.1;
     }

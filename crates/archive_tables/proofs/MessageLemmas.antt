@@ -148,7 +148,8 @@ counts limit params mid next counter top h = elim (cases_Bool (is_lt (int_cmp (c
         let tree : edit.table.tree ≡ 10 = ap (λ (t : Table). t.tree) is in
         subst (λ t. SameBut t mid next) tree (same_but edit.table.tree mid next applied.tables)
 
-    counted : (c : Option Row) → CountsIn (record { limit = limit; keys = Enforced; schema = archive_schema; table = message_table; params = params }) mid c top (Some sequence_table) (Ok next)
+    counted : (c : Option Row) → CountsIn (record { limit = limit; keys = Enforced; schema = archive_schema; table = message_table; params = params }) mid c top
+        (Some sequence_table) (Ok next)
         → SameBut 10 mid next
     counted None h = written (counting mid message_table sequence_table top None) refl h
     counted (Some row) h = written (counting mid message_table sequence_table top (Some row)) refl h
@@ -164,7 +165,7 @@ module _ (list key sender : List ℕ) (arrival : ℤ) (text : List ℕ) (filing 
   more a = record a { messages = a.messages ++ new ∷ []; index_columns = a.index_columns ++ filing ∷ [] }
 
   abbrev fresh : Trees → ℤ → NumberedRecord IndexedMessage
-  fresh db top = record { number = at_least (Above top) (next_rowid (db 8)); it = (new, filing) }
+  fresh db top = record { number = at_least (Above top) (next_rowid (db 8)); content = (new, filing) }
 
   puts : (db : Trees) (top : ℤ) (given : List Row)
       → given ≡ (Null ∷ Null ∷ Text list ∷ Text key ∷ Blob sender ∷ Int arrival ∷ Blob text ∷ Int (pos 0) ∷ Null ∷ Int filing.sent ∷ Int filing.month ∷ Blob filing.author ∷ []) ∷ []
@@ -209,7 +210,7 @@ module _ (list key sender : List ℕ) (arrival : ℤ) (text : List ℕ) (filing 
       let same = subst (SameBut 8 db) (sym trees) (after db written.0 counted.0 (same_but 8 db written.0 applied.tables) later) in
       let both = one_filed (put_row (numbered_row indexed_message_cells (fresh db top)) (db 8)) (db 8) (new, filing) put.1 in
       let apart = subst (HaveDistinctKeys same_message_key) (sym both.0) (apart_more same_message_key (archive_of old).messages new flips none k.tables.messages_distinct) in
-      let positive = positive_more indexed_message_cells indexed_message_from_row filed_back (db 8) (fresh db top) far k.tables.messages k.tables.positive in
+      let positive = positive_more indexed_message_cells indexed_message_from_row filed_back (db 8) (fresh db top) far k.tables.messages k.tables.rowids_are_positive in
       let it = messages_change db next.now.trees k.tables same _ rows put.0 apart positive in
       (kept_by old next k w.shown (ap (λ (d : Database). d.schema) now) it.0, it.1 ∙ ap₂ (λ l n. record (archive_of old) { messages = l; index_columns = n }) both.0 both.1)
 

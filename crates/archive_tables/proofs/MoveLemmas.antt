@@ -39,7 +39,7 @@ use Rattle.sqlite_value.proofs.OrderLemmas.{value_cmp_total}
 use Rattle.std.proofs.lemmas.Cmp.{tied_itself}
 use Rattle.archive_model.specs.Records.{ListOption, Archive}
 use Rattle.archive_model.specs.Machine.{default_list_option}
-use Rattle.archive_tables.specs.Schema.{schema_1, schema_2, archive_schema, schema_of_version, create_option, create_address, version_table, option_table, address_table}
+use Rattle.archive_tables.specs.Schema.{schema_1, schema_2, archive_schema, schema_of_version, create_option_table, create_address_table, version_table, option_table, address_table}
 use Rattle.archive_tables.specs.Tables.{IsOpenArchiveInFormat, HoldsSinceVersion, NumberedRecord, numbered_row, HoldsRecords, HaveDistinctKeys}
 use Rattle.archive_tables.specs.Tables.{HavePositiveRowids, AreTablesWithVersionRow, newest_version, format_of_version, archive_of_version, version_rows}
 use Rattle.archive_tables.specs.Tables.{list_cells, list_from_row, person_cells, person_from_row, grant_cells}
@@ -77,7 +77,7 @@ module _ (said now_says : ℤ) (number next : ℕ) (old new : Trees) (k : AreTab
     messages = subst (HoldsRecords indexed_message_cells indexed_message_from_row) (sym same.messages) k.messages;
     grants_distinct = subst (λ l. HaveDistinctKeys same_grant_key (map grant_from_row l)) (sym same.grants) k.grants_distinct;
     messages_distinct = subst (λ l. HaveDistinctKeys same_message_key (map message_from_row l)) (sym same.messages) k.messages_distinct;
-    positive = subst HavePositiveRowids (sym same.messages) k.positive;
+    rowids_are_positive = subst HavePositiveRowids (sym same.messages) k.rowids_are_positive;
     options = options;
     options_distinct = options_distinct;
     addresses = addresses;
@@ -98,11 +98,11 @@ module _ {schema : Schema} {said : ℤ} {number : ℕ} {archive : Archive} {befo
       → archive_of_version next new.now.trees ≡ archive_of_version number old.now.trees → IsMigratingTables new before next_schema now_says next archive
   goes_on next_schema now_says next schema_is tables same = record {
     is_open = shown.is_open;
-    within = shown.mode ∙ k.within;
-    behind = shown.committed_is ∙ rw k.within k.behind;
+    is_in_transaction = shown.mode ∙ k.is_in_transaction;
+    committed_is_before = shown.committed_is ∙ rw k.is_in_transaction k.committed_is_before;
     schema_is = schema_is;
-    tables = tables;
-    remembers = same ∙ k.remembers;
+    are_tables_of_version = tables;
+    archive_is = same ∙ k.archive_is;
   }
 
 -- the same, whatever the rows are
@@ -110,8 +110,8 @@ stays_within : (old new : State) (before : Database) (schema next : Schema) → 
     → Shows old new new.now (if old.in_transaction then old.committed else new.now) old.in_transaction → new.now.schema ≡ next → IsInTransactionWithSchema new before next
 stays_within old new before schema next k shown is = record {
   is_open = shown.is_open;
-  within = shown.mode ∙ k.within;
-  behind = shown.committed_is ∙ rw k.within k.behind;
+  is_in_transaction = shown.mode ∙ k.is_in_transaction;
+  committed_is_before = shown.committed_is ∙ rw k.is_in_transaction k.committed_is_before;
   schema_is = is;
 }
 
@@ -131,11 +131,11 @@ begins_moving old new number count k h =
     let ran = runs_as begin_text [] old new old.now.schema refl Begin (begin_is old.now.schema) (begin_plain old.now.schema) count h in
     record {
       is_open = ran.1.is_open;
-      within = ran.1.mode;
-      behind = ran.1.committed_is ∙ k.settled;
+      is_in_transaction = ran.1.mode;
+      committed_is_before = ran.1.committed_is ∙ k.committed_is;
       schema_is = ap (λ (d : Database). d.schema) ran.1.now_is ∙ k.schema;
-      tables = subst (λ (d : Database). AreTablesWithVersionRow (pos number) number d.trees) (sym ran.1.now_is) k.tables;
-      remembers = ap (λ (d : Database). archive_of_version number d.trees) ran.1.now_is;
+      are_tables_of_version = subst (λ (d : Database). AreTablesWithVersionRow (pos number) number d.trees) (sym ran.1.now_is) k.tables;
+      archive_is = ap (λ (d : Database). archive_of_version number d.trees) ran.1.now_is;
     }
 
 pub begins_within : (old new : State) (count : ℕ) → Executes begin_text [] old new (Ok count) → IsInTransactionWithSchema new old.committed old.now.schema
@@ -143,51 +143,53 @@ begins_within old new count h =
     let ran = runs_as begin_text [] old new old.now.schema refl Begin (begin_is old.now.schema) (begin_plain old.now.schema) count h in
     record {
       is_open = ran.1.is_open;
-      within = ran.1.mode;
-      behind = ran.1.committed_is;
+      is_in_transaction = ran.1.mode;
+      committed_is_before = ran.1.committed_is;
       schema_is = ap (λ (d : Database). d.schema) ran.1.now_is;
     }
 
 -- ---- CREATE over tables that hold rows
 
 module _ (old new : State) (before : Database) (said : ℤ) (archive : Archive) (count : ℕ) where
-  pub moves_option : IsMigratingTables old before schema_1 said 1 archive → Executes create_option [] old new (Ok count)
+  pub moves_option : IsMigratingTables old before schema_1 said 1 archive → Executes create_option_table [] old new (Ok count)
       → IsMigratingTables new before schema_2 said 1 archive × (new.now.trees 13 ≡ [])
   moves_option k h =
-      let w = ran schema_1 create_option (unplaced option_table) option_text_is.0 option_text_is.1 option_plain option_is old new k.schema_is count h in
-      let made = table_made schema_1 create_option (unplaced option_table) option_text_is.0 option_text_is.1 option_plain option_is old new k.schema_is count h option_alone.0 in
+      let w = ran schema_1 create_option_table (unplaced option_table) option_text_is.0 option_text_is.1 option_plain option_is old new k.schema_is count h in
+      let made = table_made schema_1 create_option_table (unplaced option_table) option_text_is.0 option_text_is.1 option_plain option_is old new k.schema_is count h option_alone.0 in
       let rows = made.others in
       let same : SameRows old.now.trees new.now.trees = record { lists = rows.1.0; persons = rows.1.1.0; grants = rows.1.1.1.0; messages = rows.1.1.1.1.0 } in
-      let tables = tables_after said said 1 1 old.now.trees new.now.trees k.tables same (rows.0 ∙ k.tables.version) tt tt tt tt in
-      let archives = archive_after said said 1 1 old.now.trees new.now.trees k.tables same (ap (λ l. map default_list_option (map list_from_row l)) same.lists) refl in
+      let tables = tables_after said said 1 1 old.now.trees new.now.trees k.are_tables_of_version same (rows.0 ∙ k.are_tables_of_version.version) tt tt tt tt in
+      let archives = archive_after said said 1 1 old.now.trees new.now.trees k.are_tables_of_version same (ap (λ l. map default_list_option (map list_from_row l)) same.lists) refl in
       (goes_on old new k w.shown schema_2 said 1 (made.schema ∙ option_alone.1) tables archives, made.empty)
 
-  pub moves_address : IsMigratingTables old before schema_2 said 2 archive → Executes create_address [] old new (Ok count) → IsMigratingTables new before archive_schema said newest_version archive
+  pub moves_address : IsMigratingTables old before schema_2 said 2 archive → Executes create_address_table [] old new (Ok count)
+      → IsMigratingTables new before archive_schema said newest_version archive
   moves_address k h =
-      let w = ran schema_2 create_address (unplaced address_table) address_text_is.0 address_text_is.1 address_plain address_is old new k.schema_is count h in
-      let made = table_made schema_2 create_address (unplaced address_table) address_text_is.0 address_text_is.1 address_plain address_is old new k.schema_is count h address_alone.0 in
+      let w = ran schema_2 create_address_table (unplaced address_table) address_text_is.0 address_text_is.1 address_plain address_is old new k.schema_is count h in
+      let made = table_made schema_2 create_address_table (unplaced address_table) address_text_is.0 address_text_is.1 address_plain address_is old new k.schema_is count h address_alone.0 in
       let rows = made.others in
       let same : SameRows old.now.trees new.now.trees = record { lists = rows.1.0; persons = rows.1.1.0; grants = rows.1.1.1.0; messages = rows.1.1.1.1.0 } in
       let options = rows.1.1.1.1.1.1.0 in
       let empty : new.now.trees 15 ≡ [] = made.empty in
-      let tables = tables_after said said 2 3 old.now.trees new.now.trees k.tables same (rows.0 ∙ k.tables.version)
-      (subst (HoldsRecords option_cells option_from_row) (sym options) k.tables.options) (subst (λ l. HaveDistinctKeys same_option_key (map option_from_row l)) (sym options) k.tables.options_distinct)
-      (subst (HoldsRecords address_cells address_from_row) (sym empty) (record { round_trips = refl; rise = tt }))
+      let tables = tables_after said said 2 3 old.now.trees new.now.trees k.are_tables_of_version same (rows.0 ∙ k.are_tables_of_version.version)
+      (subst (HoldsRecords option_cells option_from_row) (sym options) k.are_tables_of_version.options)
+      (subst (λ l. HaveDistinctKeys same_option_key (map option_from_row l)) (sym options) k.are_tables_of_version.options_distinct)
+      (subst (HoldsRecords address_cells address_from_row) (sym empty) (record { rows_read_back = refl; is_table = tt }))
       (subst (λ l. HaveDistinctKeys same_address_key (map address_from_row l)) (sym empty) tt) in
-      let archives = archive_after said said 2 3 old.now.trees new.now.trees k.tables same (ap (map option_from_row) options) (ap (map address_from_row) empty) in
+      let archives = archive_after said said 2 3 old.now.trees new.now.trees k.are_tables_of_version same (ap (map option_from_row) options) (ap (map address_from_row) empty) in
       goes_on old new k w.shown archive_schema said newest_version (made.schema ∙ address_alone.1) tables archives
 
 module _ (old new : State) (before : Database) (count : ℕ) where
-  pub option_within : IsInTransactionWithSchema old before schema_1 → Executes create_option [] old new (Ok count) → IsInTransactionWithSchema new before schema_2
+  pub option_within : IsInTransactionWithSchema old before schema_1 → Executes create_option_table [] old new (Ok count) → IsInTransactionWithSchema new before schema_2
   option_within k h =
-      let w = ran schema_1 create_option (unplaced option_table) option_text_is.0 option_text_is.1 option_plain option_is old new k.schema_is count h in
-      let made = table_made schema_1 create_option (unplaced option_table) option_text_is.0 option_text_is.1 option_plain option_is old new k.schema_is count h option_alone.0 in
+      let w = ran schema_1 create_option_table (unplaced option_table) option_text_is.0 option_text_is.1 option_plain option_is old new k.schema_is count h in
+      let made = table_made schema_1 create_option_table (unplaced option_table) option_text_is.0 option_text_is.1 option_plain option_is old new k.schema_is count h option_alone.0 in
       stays_within old new before schema_1 schema_2 k w.shown (made.schema ∙ option_alone.1)
 
-  pub address_within : IsInTransactionWithSchema old before schema_2 → Executes create_address [] old new (Ok count) → IsInTransactionWithSchema new before archive_schema
+  pub address_within : IsInTransactionWithSchema old before schema_2 → Executes create_address_table [] old new (Ok count) → IsInTransactionWithSchema new before archive_schema
   address_within k h =
-      let w = ran schema_2 create_address (unplaced address_table) address_text_is.0 address_text_is.1 address_plain address_is old new k.schema_is count h in
-      let made = table_made schema_2 create_address (unplaced address_table) address_text_is.0 address_text_is.1 address_plain address_is old new k.schema_is count h address_alone.0 in
+      let w = ran schema_2 create_address_table (unplaced address_table) address_text_is.0 address_text_is.1 address_plain address_is old new k.schema_is count h in
+      let made = table_made schema_2 create_address_table (unplaced address_table) address_text_is.0 address_text_is.1 address_plain address_is old new k.schema_is count h address_alone.0 in
       stays_within old new before schema_2 archive_schema k w.shown (made.schema ∙ address_alone.1)
 
 -- ---- INSERT .. SELECT: the copied rows stand after the others, in their order
@@ -203,7 +205,7 @@ module _ {R : Type 0} (cells : R → Row) (read : Row → R) (back : (n : ℤ) (
   all_put : (rows : List Row) (rs : List R) → HoldsRecords cells read rows → HoldsRecords cells read (put cells rows rs) × (map read (put cells rows rs) ≡ map read rows ++ rs)
   all_put rows [] k = (k, sym (append-nil (map read rows)))
   all_put rows (r ∷ rs) k =
-      let new : NumberedRecord R = record { number = next_rowid rows; it = r } in
+      let new : NumberedRecord R = record { number = next_rowid rows; content = r } in
       let one = put_past cells read back rows new (inl refl) k in
       let rest = all_put (put_row (numbered_row cells new) rows) rs one.0 in
       (rest.0, rest.1 ∙ ap (λ (l : List R). l ++ rs) one.1 ∙ append_assoc (map read rows) (r ∷ []) rs)
@@ -278,12 +280,12 @@ module _ (old new : State) (before : Database) (said : ℤ) (archive : Archive) 
       let trees : new.now.trees ≡ written.0 =
       ap (λ (d : Database). d.trees) now ∙ ap (λ (it : Written). it.trees) (value_is counted.2) ∙ value_is counted.1 in
       let names = map list_from_row (db 1) in
-      let from : given.0 ≡ copied names = copied_of (db 1) given.0 k.tables.lists (copy_picks (overlay db []) given.0 (given.1.answer Null)) in
+      let from : given.0 ≡ copied names = copied_of (db 1) given.0 k.are_tables_of_version.lists (copy_picks (overlay db []) given.0 (given.1.answer Null)) in
       let made : edited db edit ≡ put option_cells [] (map default_list_option names) =
       ap (λ rows. edited db (edit_of db option_table [] Chosen 0 rows)) from ∙ puts db names ∙ ap (λ rows. put option_cells rows (map default_list_option names)) empty in
       let here : written.0 13 ≡ put option_cells [] (map default_list_option names) = applied.rows ∙ made in
       let rows : new.now.trees 13 ≡ put option_cells [] (map default_list_option names) = ap (λ (t : Trees). t 13) trees ∙ here in
-      let all = all_put option_cells option_from_row option_back [] (map default_list_option names) (record { round_trips = refl; rise = tt }) in
+      let all = all_put option_cells option_from_row option_back [] (map default_list_option names) (record { rows_read_back = refl; is_table = tt }) in
       let keyed = one_option_a_list_2 written.0 (applied.fits.rules Unique is_no_foreign_key) in
       let apart = apart_by_key option_cells (λ (x : ListOption). x.list) list_of_option option_from_row option_back _ all.0
       (subst (λ l. AllByRecursion (λ row. clashes plain (1 ∷ []) l row ≡ false) l) here keyed) in
@@ -294,9 +296,9 @@ module _ (old new : State) (before : Database) (said : ℤ) (archive : Archive) 
         grants = stay.1.1.1.0 (λ e. omega (arith, e));
         messages = stay.1.1.1.1.0 (λ e. omega (arith, e));
       } in
-      let tables = tables_after said said 1 2 db written.0 k.tables same (stay.0 (λ e. omega (arith, e)) ∙ k.tables.version)
+      let tables = tables_after said said 1 2 db written.0 k.are_tables_of_version same (stay.0 (λ e. omega (arith, e)) ∙ k.are_tables_of_version.version)
       (subst (HoldsRecords option_cells option_from_row) (sym here) all.0) (subst (λ l. HaveDistinctKeys same_option_key (map option_from_row l)) (sym here) apart) tt tt in
-      let archives = archive_after said said 1 2 db written.0 k.tables same (ap (map option_from_row) here ∙ all.1) refl in
+      let archives = archive_after said said 1 2 db written.0 k.are_tables_of_version same (ap (map option_from_row) here ∙ all.1) refl in
       goes_on old new k w.shown schema_2 said 2 (ap (λ (d : Database). d.schema) now ∙ refl) (subst (AreTablesWithVersionRow said 2) (sym trees) tables)
       (subst (λ t. archive_of_version 2 t ≡ archive_of_version 1 db) (sym trees) archives)
 
@@ -345,7 +347,7 @@ module _ (old new : State) (before : Database) (said : ℤ) (archive : Archive) 
       let written = passed queried.2 in
       let picks = picks_of 0 [] changed_cells [] (overlay db []) params queried.0 (queried.1.answer Null) in
       let row : Row = Int (pos 1) ∷ Int said ∷ [] in
-      let given : queried.0 ≡ (Int (pos 1) ∷ Int (pos 1) ∷ Int VERSION ∷ []) ∷ [] = one_row query params (db 0) queried.0 row picks (all_pass params (db 0) ∙ k.tables.version) in
+      let given : queried.0 ≡ (Int (pos 1) ∷ Int (pos 1) ∷ Int VERSION ∷ []) ∷ [] = one_row query params (db 0) queried.0 row picks (all_pass params (db 0) ∙ k.are_tables_of_version.version) in
       let edit = edit_of db version_table (ids_of queried.0) Given 1 queried.0 in
       let applied = one_step archive_schema _ db written.0 edit (no_action 0 (taken_by db edit) edit.news) written.1 in
       let trees : new.now.trees ≡ written.0 = ap (λ (d : Database). d.trees) now ∙ ap (λ (x : Written). x.trees) (value_is written.2) in
@@ -358,11 +360,12 @@ module _ (old new : State) (before : Database) (said : ℤ) (archive : Archive) 
       } in
       let options = same_rows.options (λ e. omega (arith, e)) in
       let addresses = same_rows.addresses (λ e. omega (arith, e)) in
-      let tables = tables_after said VERSION 3 3 db written.0 k.tables same (applied.rows ∙ says db said queried.0 k.tables.version given)
-      (subst (HoldsRecords option_cells option_from_row) (sym options) k.tables.options) (subst (λ l. HaveDistinctKeys same_option_key (map option_from_row l)) (sym options) k.tables.options_distinct)
-      (subst (HoldsRecords address_cells address_from_row) (sym addresses) k.tables.addresses)
-      (subst (λ l. HaveDistinctKeys same_address_key (map address_from_row l)) (sym addresses) k.tables.addresses_distinct) in
-      let archives = archive_after said VERSION 3 3 db written.0 k.tables same (ap (map option_from_row) options) (ap (map address_from_row) addresses) in
+      let tables = tables_after said VERSION 3 3 db written.0 k.are_tables_of_version same (applied.rows ∙ says db said queried.0 k.are_tables_of_version.version given)
+      (subst (HoldsRecords option_cells option_from_row) (sym options) k.are_tables_of_version.options)
+      (subst (λ l. HaveDistinctKeys same_option_key (map option_from_row l)) (sym options) k.are_tables_of_version.options_distinct)
+      (subst (HoldsRecords address_cells address_from_row) (sym addresses) k.are_tables_of_version.addresses)
+      (subst (λ l. HaveDistinctKeys same_address_key (map address_from_row l)) (sym addresses) k.are_tables_of_version.addresses_distinct) in
+      let archives = archive_after said VERSION 3 3 db written.0 k.are_tables_of_version same (ap (map option_from_row) options) (ap (map address_from_row) addresses) in
       goes_on old new k w.shown archive_schema VERSION newest_version (ap (λ (d : Database). d.schema) now ∙ refl) (subst (AreTablesWithVersionRow VERSION 3) (sym trees) tables)
       (subst (λ t. archive_of_version 3 t ≡ archive_of_version 3 db) (sym trees) archives)
 

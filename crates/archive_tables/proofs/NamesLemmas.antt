@@ -71,9 +71,9 @@ name_of o = bytes (column o.1 0)
 abbrev IsBoth : Output → Type 0
 IsBoth o = o ≡ both (name_of o)
 
-shown_all : (all : List (NumberedRecord (List ℕ))) → map (λ row. output query (env_of [] row)) (map (numbered_row list_cells) all) ≡ map both (map (λ (r : NumberedRecord (List ℕ)). r.it) all)
+shown_all : (all : List (NumberedRecord (List ℕ))) → map (λ row. output query (env_of [] row)) (map (numbered_row list_cells) all) ≡ map both (map (λ (r : NumberedRecord (List ℕ)). r.content) all)
 shown_all [] = refl
-shown_all (r ∷ all) = ap (λ l. both r.it ∷ l) (shown_all all)
+shown_all (r ∷ all) = ap (λ l. both r.content ∷ l) (shown_all all)
 
 all_both : (names : List (List ℕ)) → AllByRecursion IsBoth (map both names)
 all_both [] = tt
@@ -118,7 +118,7 @@ module _ (old new : State) {behind : Option Database} (k : IsOpenArchive behind 
       let all = map (numbered_from_row list_from_row) table in
       let its = records_are list_cells list_from_row (λ n r. refl) table k.tables.lists in
       let start : map (λ row. output query (env_of [] row)) (filter (passes [] []) table) ≡ map both (archive_of old).lists =
-      ap (map (λ row. output query (env_of [] row))) (all_pass [] table ∙ k.tables.lists.round_trips) ∙ shown_all all ∙ ap (map both) (sym its) in
+      ap (map (λ row. output query (env_of [] row))) (all_pass [] table ∙ k.tables.lists.rows_read_back) ∙ shown_all all ∙ ap (map both) (sym its) in
       let same = subst (λ l. IsPermutation l picks.ordered) start picks.same in
       let names = map name_of picks.ordered in
       let ordered = are_both picks.ordered (all-permutation IsBoth (map both (archive_of old).lists) picks.ordered same (all_both (archive_of old).lists)) in (

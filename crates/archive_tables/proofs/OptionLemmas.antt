@@ -80,7 +80,7 @@ unfolding understood everything
 add_plain = (refl, refl)
 
 abbrev fresh : Trees → ListOption → NumberedRecord ListOption
-fresh db o = record { number = next_rowid (db 13); it = o }
+fresh db o = record { number = next_rowid (db 13); content = o }
 
 adding : (db : Trees) (o : ListOption) (given : List Row) → given ≡ (Null ∷ option_cells o) ∷ []
     → edited db (edit_of db option_table [] Chosen 0 given) ≡ put_row (numbered_row option_cells (fresh db o)) (db 13)
@@ -177,8 +177,8 @@ module _ (list : List ℕ) where
         same_list : (o : ListOption) → (change o).list ≡ o.list
         same_list o = elim (is_option_of list o) as (λ c. (cond c (said o) o).list ≡ o.list) [ true ↦ refl | false ↦ refl ]
 
-    puts : (db : Trees) (r : NumberedRecord ListOption) (given : List Row) → given ≡ (Int r.number ∷ Int r.number ∷ Text r.it.list ∷ Int (merge_flag merge) ∷ []) ∷ []
-        → edited db (edit_of db option_table (ids_of given) Given 1 given) ≡ put_row (numbered_row option_cells (record r { it = said r.it })) (without_rowid r.number (db 13))
+    puts : (db : Trees) (r : NumberedRecord ListOption) (given : List Row) → given ≡ (Int r.number ∷ Int r.number ∷ Text r.content.list ∷ Int (merge_flag merge) ∷ []) ∷ []
+        → edited db (edit_of db option_table (ids_of given) Given 1 given) ≡ put_row (numbered_row option_cells (record r { content = said r.content })) (without_rowid r.number (db 13))
     puts db r given from = rw (from, cast_int r.number, cast_int (merge_flag merge))
 
     changes : {behind : Option Database} (old new : State) (count : ℕ) → IsOpenArchive behind old → Executes change_text change_params old new (Ok count)

@@ -53,7 +53,7 @@ abbrev params_of : Person → Row
 params_of p = Text p.name ∷ Text p.token ∷ []
 
 abbrev fresh : Trees → Person → NumberedRecord Person
-fresh db p = record { number = next_rowid (db 3); it = p }
+fresh db p = record { number = next_rowid (db 3); content = p }
 
 puts : (db : Trees) (p : Person) (given : List Row) → given ≡ (Null ∷ Text p.name ∷ Text p.token ∷ []) ∷ []
     → edited db (edit_of db person_table [] Chosen 0 given) ≡ put_row (numbered_row person_cells (fresh db p)) (db 3)

@@ -126,7 +126,7 @@ reaches_in : (limit : ℕ) (rows : List Row) → HoldsRecords indexed_message_ce
     → list_any (passes high (Int (pos limit) ∷ [])) rows ≡ list_any (λ row. int_le (pos limit) (id_in (rowid row))) rows
 reaches_in limit rows k =
     let all = map (numbered_from_row indexed_message_from_row) rows in
-    subst (λ l. list_any (passes high (Int (pos limit) ∷ [])) l ≡ list_any (λ row. int_le (pos limit) (id_in (rowid row))) l) (sym k.round_trips) (any_high limit all)
+    subst (λ l. list_any (passes high (Int (pos limit) ∷ [])) l ≡ list_any (λ row. int_le (pos limit) (id_in (rowid row))) l) (sym k.rows_read_back) (any_high limit all)
 
 abbrev AreLow : ℕ → List (NumberedRecord IndexedMessage) → Type 0
 AreLow limit = AllByRecursion (λ r. r.number <ℤ pos limit)
@@ -155,9 +155,9 @@ fewer_messages : (limit : ℕ) (rows : List Row) → 0 < limit → HoldsRecords 
     → length (filter (passes high (Int (pos limit) ∷ [])) rows) ≡ 0 → length (map message_from_row rows) < limit
 fewer_messages limit rows some k positive none =
     let all = map (numbered_from_row indexed_message_from_row) rows in
-    let lows = all_low limit all (ap (λ l. length (filter (passes high (Int (pos limit) ∷ [])) l)) (sym k.round_trips) ∙ none) in
-    let count = fewer limit (pos 0) all (omega (arith, ints, some)) (subst (AllByRecursion (λ row. value_cmp (Int (pos 0)) (rowid row) ≡ Less)) k.round_trips positive)
-    (subst IsTable k.round_trips k.rise) lows in
+    let lows = all_low limit all (ap (λ l. length (filter (passes high (Int (pos limit) ∷ [])) l)) (sym k.rows_read_back) ∙ none) in
+    let count = fewer limit (pos 0) all (omega (arith, ints, some)) (subst (AllByRecursion (λ row. value_cmp (Int (pos 0)) (rowid row) ≡ Less)) k.rows_read_back positive)
+    (subst IsTable k.rows_read_back k.is_table) lows in
     let same : length all ≡ length (map message_from_row rows) = length-map rows (numbered_from_row indexed_message_from_row) ∙ sym (length-map rows message_from_row) in
     omega (arith, ints, count, same)
 
@@ -173,7 +173,7 @@ module _ (old new : State) (limit : ℕ) {behind : Option Database} (k : IsOpenA
   reached rows h =
       let read = reads_as reach_text params old new archive_schema k.schema _ reach_is.0 reach_plain reach_is.1 rows h in
       let same = query_leaves old new reach_text params rows plain_here h in (
-        λ some none. fewer_messages limit (old.now.trees 8) some k.tables.messages k.tables.positive (nothing_high (overlay old.now.trees []) params rows (read.answer Null) none),
+        λ some none. fewer_messages limit (old.now.trees 8) some k.tables.messages k.tables.rowids_are_positive (nothing_high (overlay old.now.trees []) params rows (read.answer Null) none),
         stays old new k same,
       )
 

@@ -60,13 +60,13 @@ rows_are_its _ ours = absurd ours
 
 -- a statement over this schema, of so many parameters, that shows no row and begins or ends no transaction
 pub record KnowsIn (s : Schema) (st : Statement) : Type 0 where
-  pub fits : Fits st.sql (length st.given) (understood s st.sql)
+  pub fits : Fits st.sql (length st.parameters) (understood s st.sql)
   pub plain : IsPlain (understood s st.sql)
   pub writes : WritesIts (command_of (understood s st.sql))
 
 -- a statement of the archive's schema, of so many parameters, that writes rows and shows none
 pub record Knows (st : Statement) : Type 0 where
-  pub fits : Fits st.sql (length st.given) (understood archive_schema st.sql)
+  pub fits : Fits st.sql (length st.parameters) (understood archive_schema st.sql)
   pub plain : IsPlain (understood archive_schema st.sql)
   pub writes : WritesRows (command_of (understood archive_schema st.sql))
 
@@ -120,19 +120,19 @@ module _ (s : Schema) (st : Statement) (knows : KnowsIn s st) (old new : State) 
   in_schema P it = subst (λ x. P (understood x st.sql)) (sym has) it
 
   -- what is said of the compiled text is said of the statement
-  said : (c : Compiled) (full : Row) (out : Result (Tally × Database) (Option Error)) → understood old.now.schema st.sql ≡ Ok c → full ≡ st.given
+  said : (c : Compiled) (full : Row) (out : Result (Tally × Database) (Option Error)) → understood old.now.schema st.sql ≡ Ok c → full ≡ st.parameters
       → Does old.step_limit (mode_of old) full old.now (text_of st.sql c) c.returning c.command out → StatementMayEndIn st old.now out
   said c full out is given it = rw is (rw (free, given) at it)
 
-  step_fails_by : (e : Error) → Executes st.sql st.given old new (Err e) → IsMemoryOrDiskError old new e ⊎ IsStatementRefused st old.now
+  step_fails_by : (e : Error) → Executes st.sql st.parameters old new (Err e) → IsMemoryOrDiskError old new e ⊎ IsStatementRefused st old.now
   unfolding ExecutesIn IsNotRun
-  step_fails_by e (inl (inl refused)) = absurd (no_statement old st.sql st.given e (in_schema (Fits st.sql (length st.given)) knows.fits) (in_schema IsPlain knows.plain) refused.0)
+  step_fails_by e (inl (inl refused)) = absurd (no_statement old st.sql st.parameters e (in_schema (Fits st.sql (length st.parameters)) knows.fits) (in_schema IsPlain knows.plain) refused.0)
   step_fails_by e (inl (inr failed)) = inl (fails_by old new e up failed)
   step_fails_by e (inr ran) =
       let c = ran.0 in
       let bare = subst IsPlain ran.1.is (in_schema IsPlain knows.plain) in
       let ours = subst (λ r. WritesIts (command_of r)) ran.1.is (in_schema (λ r. WritesIts (command_of r)) knows.writes) in
-      let full : timed st.given c.formats ran.1.now ≡ st.given = rw (bare.1, append-nil st.given) refl in
+      let full : timed st.parameters c.formats ran.1.now ≡ st.parameters = rw (bare.1, append-nil st.parameters) refl in
       let silent : shows_rows false c ≡ false = its_shows_nothing c.command c.returning ours bare.0 in
       elim (rw silent at ran.2) [
         | inl refused ↦ elim refused.0 [
@@ -142,30 +142,30 @@ module _ (s : Schema) (st : Statement) (knows : KnowsIn s st) (old new : State) 
         | inr failed ↦ elim (fails_or_big old new _ e up failed) [ inl why ↦ inl why | inr big ↦ inr (None, said c _ (Err None) ran.1.is full big) ]
       ]
 
-  step_makes : (count : ℕ) → Executes st.sql st.given old new (Ok count) → StatementExecutesTo st old.now new.now
+  step_makes : (count : ℕ) → Executes st.sql st.parameters old new (Ok count) → StatementExecutesTo st old.now new.now
   unfolding ExecutesIn
   step_makes count ran =
       let c = ran.0 in
       let bare = subst IsPlain ran.1.is (in_schema IsPlain knows.plain) in
       let ours = subst (λ r. WritesIts (command_of r)) ran.1.is (in_schema (λ r. WritesIts (command_of r)) knows.writes) in
-      let full : timed st.given c.formats ran.1.now ≡ st.given = rw (bare.1, append-nil st.given) refl in
+      let full : timed st.parameters c.formats ran.1.now ≡ st.parameters = rw (bare.1, append-nil st.parameters) refl in
       let silent : shows_rows false c ≡ false = its_shows_nothing c.command c.returning ours bare.0 in
       let w = runs_its old new c.returning c.command _ _ count ours (rw silent at ran.2) in
       (w.tally, said c _ (Ok (w.tally, new.now)) ran.1.is full w.changed)
 
-  pub step_fails : (r : Result ℕ Error) → Executes st.sql st.given old new r → IfErr r (λ e. IsMemoryOrDiskError old new e ⊎ IsStatementRefused st old.now)
+  pub step_fails : (r : Result ℕ Error) → Executes st.sql st.parameters old new r → IfErr r (λ e. IsMemoryOrDiskError old new e ⊎ IsStatementRefused st old.now)
   step_fails (Ok count) h = tt
   step_fails (Err e) h = step_fails_by e h
 
-  pub step_carries_out : (r : Result ℕ Error) → Executes st.sql st.given old new r → OnOk r (StatementExecutesTo st old.now new.now)
+  pub step_carries_out : (r : Result ℕ Error) → Executes st.sql st.parameters old new r → OnOk r (StatementExecutesTo st old.now new.now)
   step_carries_out (Ok count) h = step_makes count h
   step_carries_out (Err e) h = tt
 
 module _ (st : Statement) (knows : Knows st) (old new : State) {behind : Option Database} (k : IsOpenArchive behind old) (free : old.step_limit ≡ None) where
-  pub write_fails : (r : Result ℕ Error) → Executes st.sql st.given old new r → IfErr r (λ e. IsMemoryOrDiskError old new e ⊎ IsStatementRefused st old.now)
+  pub write_fails : (r : Result ℕ Error) → Executes st.sql st.parameters old new r → IfErr r (λ e. IsMemoryOrDiskError old new e ⊎ IsStatementRefused st old.now)
   write_fails = step_fails archive_schema st (knows_in st knows) old new k.is_open k.schema free
 
-  pub write_carries_out : (r : Result ℕ Error) → Executes st.sql st.given old new r → OnOk r (StatementExecutesTo st old.now new.now)
+  pub write_carries_out : (r : Result ℕ Error) → Executes st.sql st.parameters old new r → OnOk r (StatementExecutesTo st old.now new.now)
   write_carries_out = step_carries_out archive_schema st (knows_in st knows) old new k.is_open k.schema free
 
 -- ---- BEGIN, COMMIT and ROLLBACK, whatever the schema is

@@ -39,7 +39,7 @@ use Rattle.sqlite_tied.specs.Compute.{everything}
 use Rattle.sqlite_trees.specs.Sound as sound
 use Rattle.sqlite_trees.specs.View.{IsStorableRow}
 use Rattle.sqlite_value.specs.Order.{value_cmp}
-use Rattle.archive_tables.specs.Schema.{empty_schema, schema_with_version, schema_with_lists, schema_with_persons, schema_with_grants}
+use Rattle.archive_tables.specs.Schema.{empty_schema, schema_with_version_table, schema_with_lists, schema_with_persons, schema_with_grants}
 use Rattle.archive_tables.specs.Schema.{schema_with_messages, schema_with_month_index, schema_1, schema_2, archive_schema}
 use Rattle.archive_tables.specs.Schema.{create_version, create_list, create_person, create_grant, create_message, create_month_index, create_author_index, create_option}
 use Rattle.archive_tables.specs.Schema.{create_address, version_table, list_table, person_table, grant_table, message_table, sequence_table, option_table, address_table, month_index}
@@ -58,10 +58,10 @@ use Rattle.archive_tables.proofs.CreateLemmas.{Proceeds, CanCreate, CanIndex, Co
 
 -- ---- the nine texts, each over what the ones before it made
 
-can_version : CanCreate empty_schema create_version (unplaced version_table)
+can_version : CanCreate empty_schema create_version_table (unplaced version_table)
 unfolding everything is_utf8 chars lib.Utf8.encode sound.fits_kind sound.begins sound.same_name sound.is_free_name value_cmp lib.Ieee.is_nan lib.Ieee.lt
 can_version = record {
-  text = IsUtf8-from_is_utf8 create_version refl;
+  text = IsUtf8-from_is_utf8 create_version_table refl;
   defined = version_is;
   short = lit< tt;
   free = refl;
@@ -76,19 +76,19 @@ can_version = record {
 }
 
 version_may : (trees : Trees) (out : Result (Tally × Database) (Option Error)) → StatementMayEndIn create_version_statement (over empty_schema trees) out → Does None at_once []
-    (over empty_schema trees) create_version None CreateTable out
+    (over empty_schema trees) create_version_table None CreateTable out
 unfolding understood everything
 version_may trees out h = h
 
-version_next : (trees : Trees) → AreEmpty trees empty_schema.tables → Proceeds create_version_statement empty_schema schema_with_version trees
+version_next : (trees : Trees) → AreEmpty trees empty_schema.tables → Proceeds create_version_statement empty_schema schema_with_version_table trees
 version_next trees empty =
     let whole = subst (Completes (created empty_schema (unplaced version_table))) version_alone.1 (completes_alone (created empty_schema (unplaced version_table)) version_alone.0) in
-    table_proceeds create_version_statement empty_schema schema_with_version create_version (unplaced version_table) trees can_version whole empty (version_may trees)
+    table_proceeds create_version_statement empty_schema schema_with_version_table create_version_table (unplaced version_table) trees can_version whole empty (version_may trees)
 
-can_list : CanCreate schema_with_version create_list (unplaced list_table)
+can_list : CanCreate schema_with_version_table create_list_table (unplaced list_table)
 unfolding everything is_utf8 chars lib.Utf8.encode sound.fits_kind sound.begins sound.same_name sound.is_free_name value_cmp lib.Ieee.is_nan lib.Ieee.lt
 can_list = record {
-  text = IsUtf8-from_is_utf8 create_list refl;
+  text = IsUtf8-from_is_utf8 create_list_table refl;
   defined = list_matches;
   short = lit< tt;
   free = refl;
@@ -102,20 +102,20 @@ can_list = record {
   listed = refl;
 }
 
-list_may : (trees : Trees) (out : Result (Tally × Database) (Option Error)) → StatementMayEndIn create_list_statement (over schema_with_version trees) out → Does None at_once []
-    (over schema_with_version trees) create_list None CreateTable out
+list_may : (trees : Trees) (out : Result (Tally × Database) (Option Error)) → StatementMayEndIn create_list_statement (over schema_with_version_table trees) out → Does None at_once []
+    (over schema_with_version_table trees) create_list_table None CreateTable out
 unfolding understood everything
 list_may trees out h = h
 
-list_next : (trees : Trees) → AreEmpty trees schema_with_version.tables → Proceeds create_list_statement schema_with_version schema_with_lists trees
+list_next : (trees : Trees) → AreEmpty trees schema_with_version_table.tables → Proceeds create_list_statement schema_with_version_table schema_with_lists trees
 list_next trees empty =
-    let whole = subst (Completes (created schema_with_version (unplaced list_table))) list_alone.1 (completes_alone (created schema_with_version (unplaced list_table)) list_alone.0) in
-    table_proceeds create_list_statement schema_with_version schema_with_lists create_list (unplaced list_table) trees can_list whole empty (list_may trees)
+    let whole = subst (Completes (created schema_with_version_table (unplaced list_table))) list_alone.1 (completes_alone (created schema_with_version_table (unplaced list_table)) list_alone.0) in
+    table_proceeds create_list_statement schema_with_version_table schema_with_lists create_list_table (unplaced list_table) trees can_list whole empty (list_may trees)
 
-can_person : CanCreate schema_with_lists create_person (unplaced person_table)
+can_person : CanCreate schema_with_lists create_person_table (unplaced person_table)
 unfolding everything is_utf8 chars lib.Utf8.encode sound.fits_kind sound.begins sound.same_name sound.is_free_name value_cmp lib.Ieee.is_nan lib.Ieee.lt
 can_person = record {
-  text = IsUtf8-from_is_utf8 create_person refl;
+  text = IsUtf8-from_is_utf8 create_person_table refl;
   defined = person_is;
   short = lit< tt;
   free = refl;
@@ -130,19 +130,19 @@ can_person = record {
 }
 
 person_may : (trees : Trees) (out : Result (Tally × Database) (Option Error)) → StatementMayEndIn create_person_statement (over schema_with_lists trees) out → Does None at_once []
-    (over schema_with_lists trees) create_person None CreateTable out
+    (over schema_with_lists trees) create_person_table None CreateTable out
 unfolding understood everything
 person_may trees out h = h
 
 person_next : (trees : Trees) → AreEmpty trees schema_with_lists.tables → Proceeds create_person_statement schema_with_lists schema_with_persons trees
 person_next trees empty =
     let whole = subst (Completes (created schema_with_lists (unplaced person_table))) person_alone.1 (completes_alone (created schema_with_lists (unplaced person_table)) person_alone.0) in
-    table_proceeds create_person_statement schema_with_lists schema_with_persons create_person (unplaced person_table) trees can_person whole empty (person_may trees)
+    table_proceeds create_person_statement schema_with_lists schema_with_persons create_person_table (unplaced person_table) trees can_person whole empty (person_may trees)
 
-can_grant : CanCreate schema_with_persons create_grant (unplaced grant_table)
+can_grant : CanCreate schema_with_persons create_grant_table (unplaced grant_table)
 unfolding everything is_utf8 chars lib.Utf8.encode sound.fits_kind sound.begins sound.same_name sound.is_free_name value_cmp lib.Ieee.is_nan lib.Ieee.lt
 can_grant = record {
-  text = IsUtf8-from_is_utf8 create_grant refl;
+  text = IsUtf8-from_is_utf8 create_grant_table refl;
   defined = grant_is;
   short = lit< tt;
   free = refl;
@@ -157,19 +157,19 @@ can_grant = record {
 }
 
 grant_may : (trees : Trees) (out : Result (Tally × Database) (Option Error)) → StatementMayEndIn create_grant_statement (over schema_with_persons trees) out → Does None at_once []
-    (over schema_with_persons trees) create_grant None CreateTable out
+    (over schema_with_persons trees) create_grant_table None CreateTable out
 unfolding understood everything
 grant_may trees out h = h
 
 grant_next : (trees : Trees) → AreEmpty trees schema_with_persons.tables → Proceeds create_grant_statement schema_with_persons schema_with_grants trees
 grant_next trees empty =
     let whole = subst (Completes (created schema_with_persons (unplaced grant_table))) grant_alone.1 (completes_alone (created schema_with_persons (unplaced grant_table)) grant_alone.0) in
-    table_proceeds create_grant_statement schema_with_persons schema_with_grants create_grant (unplaced grant_table) trees can_grant whole empty (grant_may trees)
+    table_proceeds create_grant_statement schema_with_persons schema_with_grants create_grant_table (unplaced grant_table) trees can_grant whole empty (grant_may trees)
 
-can_message : CanCreate schema_with_grants create_message (unplaced message_table)
+can_message : CanCreate schema_with_grants create_message_table (unplaced message_table)
 unfolding everything is_utf8 chars lib.Utf8.encode sound.fits_kind sound.begins sound.same_name sound.is_free_name value_cmp lib.Ieee.is_nan lib.Ieee.lt
 can_message = record {
-  text = IsUtf8-from_is_utf8 create_message refl;
+  text = IsUtf8-from_is_utf8 create_message_table refl;
   defined = message_is;
   short = lit< tt;
   free = refl;
@@ -201,7 +201,7 @@ can_count = record {
 }
 
 message_may : (trees : Trees) (out : Result (Tally × Database) (Option Error)) → StatementMayEndIn create_message_statement (over schema_with_grants trees) out → Does None at_once []
-    (over schema_with_grants trees) create_message None CreateTable out
+    (over schema_with_grants trees) create_message_table None CreateTable out
 unfolding understood everything
 message_may trees out h = h
 
@@ -209,7 +209,7 @@ message_next : (trees : Trees) → AreEmpty trees schema_with_grants.tables → 
 message_next trees empty =
     let whole = subst (Completes (created schema_with_grants (unplaced message_table))) message_brings.1
     (completes_counted (created schema_with_grants (unplaced message_table)) (unplaced sequence_table) message_brings.0 can_count) in
-    table_proceeds create_message_statement schema_with_grants schema_with_messages create_message (unplaced message_table) trees can_message whole empty (message_may trees)
+    table_proceeds create_message_statement schema_with_grants schema_with_messages create_message_table (unplaced message_table) trees can_message whole empty (message_may trees)
 
 can_months : CanIndex schema_with_messages message_table create_month_index month_index
 unfolding everything is_utf8 chars lib.Utf8.encode sound.fits_kind sound.begins sound.same_name sound.is_free_name value_cmp lib.Ieee.is_nan lib.Ieee.lt
@@ -260,10 +260,10 @@ authors_next : (trees : Trees) → AreEmpty trees schema_with_month_index.tables
 authors_next trees empty = subst (λ s. Proceeds create_author_index_statement schema_with_month_index s trees) author_indexed
     (index_proceeds schema_with_month_index 4 message_table refl create_author_index author_index can_authors trees empty create_author_index_statement (authors_may trees))
 
-can_option : CanCreate schema_1 create_option (unplaced option_table)
+can_option : CanCreate schema_1 create_option_table (unplaced option_table)
 unfolding everything is_utf8 chars lib.Utf8.encode sound.fits_kind sound.begins sound.same_name sound.is_free_name value_cmp lib.Ieee.is_nan lib.Ieee.lt
 can_option = record {
-  text = IsUtf8-from_is_utf8 create_option refl;
+  text = IsUtf8-from_is_utf8 create_option_table refl;
   defined = option_is;
   short = lit< tt;
   free = refl;
@@ -278,19 +278,19 @@ can_option = record {
 }
 
 option_may : (trees : Trees) (out : Result (Tally × Database) (Option Error)) → StatementMayEndIn create_option_statement (over schema_1 trees) out → Does None at_once []
-    (over schema_1 trees) create_option None CreateTable out
+    (over schema_1 trees) create_option_table None CreateTable out
 unfolding understood everything
 option_may trees out h = h
 
 option_next : (trees : Trees) → AreEmpty trees schema_1.tables → Proceeds create_option_statement schema_1 schema_2 trees
 option_next trees empty =
     let whole = subst (Completes (created schema_1 (unplaced option_table))) option_alone.1 (completes_alone (created schema_1 (unplaced option_table)) option_alone.0) in
-    table_proceeds create_option_statement schema_1 schema_2 create_option (unplaced option_table) trees can_option whole empty (option_may trees)
+    table_proceeds create_option_statement schema_1 schema_2 create_option_table (unplaced option_table) trees can_option whole empty (option_may trees)
 
-can_address : CanCreate schema_2 create_address (unplaced address_table)
+can_address : CanCreate schema_2 create_address_table (unplaced address_table)
 unfolding everything is_utf8 chars lib.Utf8.encode sound.fits_kind sound.begins sound.same_name sound.is_free_name value_cmp lib.Ieee.is_nan lib.Ieee.lt
 can_address = record {
-  text = IsUtf8-from_is_utf8 create_address refl;
+  text = IsUtf8-from_is_utf8 create_address_table refl;
   defined = address_is;
   short = lit< tt;
   free = refl;
@@ -305,14 +305,14 @@ can_address = record {
 }
 
 address_may : (trees : Trees) (out : Result (Tally × Database) (Option Error)) → StatementMayEndIn create_address_statement (over schema_2 trees) out → Does None at_once []
-    (over schema_2 trees) create_address None CreateTable out
+    (over schema_2 trees) create_address_table None CreateTable out
 unfolding understood everything
 address_may trees out h = h
 
 address_next : (trees : Trees) → AreEmpty trees schema_2.tables → Proceeds create_address_statement schema_2 archive_schema trees
 address_next trees empty =
     let whole = subst (Completes (created schema_2 (unplaced address_table))) address_alone.1 (completes_alone (created schema_2 (unplaced address_table)) address_alone.0) in
-    table_proceeds create_address_statement schema_2 archive_schema create_address (unplaced address_table) trees can_address whole empty (address_may trees)
+    table_proceeds create_address_statement schema_2 archive_schema create_address_table (unplaced address_table) trees can_address whole empty (address_may trees)
 
 -- ---- the number of the version
 
@@ -470,7 +470,7 @@ number_last = record { never = λ trees empty it. elim it [ inl refused ↦ numb
 
 all_never : Never all_create_statements empty_schema
 all_never =
-    then_never create_version_statement _ empty_schema schema_with_version version_next (then_never create_list_statement _ schema_with_version schema_with_lists list_next
+    then_never create_version_statement _ empty_schema schema_with_version_table version_next (then_never create_list_statement _ schema_with_version_table schema_with_lists list_next
     (then_never create_person_statement _ schema_with_lists schema_with_persons person_next (then_never create_grant_statement _ schema_with_persons schema_with_grants grant_next
     (then_never create_message_statement _ schema_with_grants schema_with_messages message_next (then_never create_month_index_statement _ schema_with_messages schema_with_month_index months_next
     (then_never create_author_index_statement _ schema_with_month_index schema_1 authors_next (then_never create_option_statement _ schema_1 schema_2 option_next

@@ -72,35 +72,36 @@ module _ {R : Type 0} (cells : R → Row) (read : Row → R) (back : (n : ℤ) (
 
   read_back : (all : List (NumberedRecord R)) → map (numbered_from_row read) (rows_of all) ≡ all
   read_back [] = refl
-  read_back (r ∷ more) = ap₂ (λ x l. record { number = r.number; it = x } ∷ l) (back r.number r.it) (read_back more)
+  read_back (r ∷ more) = ap₂ (λ x l. record { number = r.number; content = x } ∷ l) (back r.number r.content) (read_back more)
 
-  pub records_back : (all : List (NumberedRecord R)) → map read (rows_of all) ≡ map (λ (r : NumberedRecord R). r.it) all
+  pub records_back : (all : List (NumberedRecord R)) → map read (rows_of all) ≡ map (λ (r : NumberedRecord R). r.content) all
   records_back [] = refl
-  records_back (r ∷ more) = ap₂ ◌∷◌ (back r.number r.it) (records_back more)
+  records_back (r ∷ more) = ap₂ ◌∷◌ (back r.number r.content) (records_back more)
 
-  pub holds_from : (rows : List Row) (all : List (NumberedRecord R)) → rows ≡ rows_of all → IsTable rows → HoldsRecords cells read rows × (map read rows ≡ map (λ (r : NumberedRecord R). r.it) all)
+  pub holds_from : (rows : List Row) (all : List (NumberedRecord R)) → rows ≡ rows_of all → IsTable rows → HoldsRecords cells read rows ×
+      (map read rows ≡ map (λ (r : NumberedRecord R). r.content) all)
   holds_from rows all is up =
-      (record { round_trips = is ∙ ap rows_of (sym (ap (map (numbered_from_row read)) is ∙ read_back all)); rise = up }, ap (map read) is ∙ records_back all)
+      (record { rows_read_back = is ∙ ap rows_of (sym (ap (map (numbered_from_row read)) is ∙ read_back all)); is_table = up }, ap (map read) is ∙ records_back all)
 
-  pub records_are : (rows : List Row) → HoldsRecords cells read rows → map read rows ≡ map (λ (r : NumberedRecord R). r.it) (map (numbered_from_row read) rows)
-  records_are rows k = (holds_from rows (map (numbered_from_row read) rows) k.round_trips k.rise).1
+  pub records_are : (rows : List Row) → HoldsRecords cells read rows → map read rows ≡ map (λ (r : NumberedRecord R). r.content) (map (numbered_from_row read) rows)
+  records_are rows k = (holds_from rows (map (numbered_from_row read) rows) k.rows_read_back k.is_table).1
 
   one_more : (all : List (NumberedRecord R)) (r : NumberedRecord R) → (rows_of all ++ numbered_row cells r ∷ [] ≡ rows_of (all ++ r ∷ []))
-      × (map (λ (x : NumberedRecord R). x.it) (all ++ r ∷ []) ≡ map (λ (x : NumberedRecord R). x.it) all ++ r.it ∷ [])
+      × (map (λ (x : NumberedRecord R). x.content) (all ++ r ∷ []) ≡ map (λ (x : NumberedRecord R). x.content) all ++ r.content ∷ [])
   one_more [] r = (refl, refl)
-  one_more (x ∷ all) r = (ap (λ l. numbered_row cells x ∷ l) (one_more all r).0, ap (λ l. x.it ∷ l) (one_more all r).1)
+  one_more (x ∷ all) r = (ap (λ l. numbered_row cells x ∷ l) (one_more all r).0, ap (λ l. x.content ∷ l) (one_more all r).1)
 
   -- a row whose number is not below the next one goes to the end
   pub put_past : (rows : List Row) (new : NumberedRecord R) → (next_rowid rows ≡ new.number) ⊎ (next_rowid rows <ℤ new.number) → HoldsRecords cells read rows
-      → HoldsRecords cells read (put_row (numbered_row cells new) rows) × (map read (put_row (numbered_row cells new) rows) ≡ map read rows ++ new.it ∷ [])
+      → HoldsRecords cells read (put_row (numbered_row cells new) rows) × (map read (put_row (numbered_row cells new) rows) ≡ map read rows ++ new.content ∷ [])
       × (put_row (numbered_row cells new) rows ≡ rows ++ numbered_row cells new ∷ [])
   put_past rows new far k =
       let all = map (numbered_from_row read) rows in
-      let num = subst (AllByRecursion HasNumber) (sym k.round_trips) (have_numbers all) in
-      let last = put_last (numbered_row cells new) new.number rows refl (below_more _ _ rows far (all_below (pos 1) rows k.rise num)) in
+      let num = subst (AllByRecursion HasNumber) (sym k.rows_read_back) (have_numbers all) in
+      let last = put_last (numbered_row cells new) new.number rows refl (below_more _ _ rows far (all_below (pos 1) rows k.is_table num)) in
       let more = one_more all new in
-      let it = holds_from _ _ (last ∙ ap (λ l. l ++ numbered_row cells new ∷ []) k.round_trips ∙ more.0) (IsTable-put_row (numbered_row cells new) rows k.rise) in
-      (it.0, it.1 ∙ more.1 ∙ ap (λ l. l ++ new.it ∷ []) (sym (records_are rows k)), last)
+      let it = holds_from _ _ (last ∙ ap (λ l. l ++ numbered_row cells new ∷ []) k.rows_read_back ∙ more.0) (IsTable-put_row (numbered_row cells new) rows k.is_table) in
+      (it.0, it.1 ∙ more.1 ∙ ap (λ l. l ++ new.content ∷ []) (sym (records_are rows k)), last)
 
   -- above zero stays the rows' numbers: the new one is above the last, or the first
   positive_next : (rows : List Row) → AllByRecursion HasNumber rows → AllByRecursion (λ row. value_cmp (Int (pos 0)) (rowid row) ≡ Less) rows → (first : ℤ) → pos 0 <ℤ first
@@ -122,7 +123,7 @@ module _ {R : Type 0} (cells : R → Row) (read : Row → R) (back : (n : ℤ) (
   pub positive_more : (rows : List Row) (new : NumberedRecord R) → (next_rowid rows ≡ new.number) ⊎ (next_rowid rows <ℤ new.number) → HoldsRecords cells read rows
       → AllByRecursion (λ row. value_cmp (Int (pos 0)) (rowid row) ≡ Less) rows → AllByRecursion (λ row. value_cmp (Int (pos 0)) (rowid row) ≡ Less) (put_row (numbered_row cells new) rows)
   positive_more rows new far k all =
-      let num = subst (AllByRecursion HasNumber) (sym k.round_trips) (have_numbers (map (numbered_from_row read) rows)) in
+      let num = subst (AllByRecursion HasNumber) (sym k.rows_read_back) (have_numbers (map (numbered_from_row read) rows)) in
       let next = positive_next rows num all (pos 1) (omega (arith, ints)) in
       let above = above_too (next_rowid rows) new.number next far in
       subst (AllByRecursion (λ row. value_cmp (Int (pos 0)) (rowid row) ≡ Less)) (sym ((put_past rows new far k).2))

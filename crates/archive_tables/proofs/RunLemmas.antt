@@ -58,10 +58,10 @@ kept_at new d up now committed mode schema tables = (
   record {
     is_open = up;
     autocommit = mode;
-    settled = committed ∙ sym now;
+    committed_is = committed ∙ sym now;
     schema = rw now schema;
     tables = rw now tables;
-    whole = tt;
+    rollback_leaves_archive = tt;
   },
   now,
 )
@@ -72,10 +72,10 @@ stays {behind} old new k same = (
   record {
     is_open = same.0.is_open;
     autocommit = same.0.mode ∙ k.autocommit;
-    settled = same.0.committed_is ∙ k.settled ∙ ap (committed_database behind) (sym same.0.now_is);
+    committed_is = same.0.committed_is ∙ k.committed_is ∙ ap (committed_database behind) (sym same.0.now_is);
     schema = rw same.0.now_is k.schema;
     tables = rw same.0.now_is k.tables;
-    whole = k.whole;
+    rollback_leaves_archive = k.rollback_leaves_archive;
   },
   same.0.now_is,
 )
@@ -83,12 +83,12 @@ stays {behind} old new k same = (
 -- a call that goes back to the last commit
 pub goes_back : (db : Database) (old new : State) → IsOpenArchive (Some db) old → IsRolledBack old new → IsTrue new.is_open → IsRolledBackTo db new
 goes_back db old new k undone up =
-    kept_at new db up ((undone.undone up).0 ∙ k.settled) ((undone.undone up).1 ∙ k.settled) undone.autocommit k.whole.0 k.whole.1
+    kept_at new db up ((undone.undone up).0 ∙ k.committed_is) ((undone.undone up).1 ∙ k.committed_is) undone.autocommit k.rollback_leaves_archive.0 k.rollback_leaves_archive.1
 
 rests_over : (behind : Option Database) (old new : State) → IsOpenArchive behind old → IsUnchanged old new ⊎ IsRolledBack old new → FaultKeepsRowsOrRollsBack behind old new
 rests_over None old new k (inl same) = λ up. stays old new k same
 rests_over None old new k (inr undone) = λ up.
-    kept_at new old.now up ((undone.undone up).0 ∙ k.settled) ((undone.undone up).1 ∙ k.settled) undone.autocommit k.schema k.tables
+    kept_at new old.now up ((undone.undone up).0 ∙ k.committed_is) ((undone.undone up).1 ∙ k.committed_is) undone.autocommit k.schema k.tables
 rests_over (Some db) old new k (inl same) = λ up. inl (stays old new k same)
 rests_over (Some db) old new k (inr undone) = λ up. inr (goes_back db old new k undone up)
 
@@ -99,17 +99,17 @@ rests {behind} old new k how = rests_over behind old new k how
 settles : (behind : Option Database) (old new : State) → IsOpenArchive behind old → new.committed ≡ (if old.in_transaction then old.committed else new.now)
     → new.committed ≡ committed_database behind new.now
 settles None old new k is = is ∙ rw k.autocommit
-settles (Some db) old new k is = is ∙ rw k.autocommit k.settled
+settles (Some db) old new k is = is ∙ rw k.autocommit k.committed_is
 
 pub kept_by : {behind : Option Database} (old new : State) → IsOpenArchive behind old → Shows old new new.now (if old.in_transaction then old.committed else new.now) old.in_transaction
     → new.now.schema ≡ archive_schema → AreArchiveTables new.now.trees → IsOpenArchive behind new
 kept_by {behind} old new k shown schema tables = record {
   is_open = shown.is_open;
   autocommit = shown.mode ∙ k.autocommit;
-  settled = settles behind old new k shown.committed_is;
+  committed_is = settles behind old new k shown.committed_is;
   schema = schema;
   tables = tables;
-  whole = k.whole;
+  rollback_leaves_archive = k.rollback_leaves_archive;
 }
 
 -- ---- the parts of a write

@@ -12,23 +12,23 @@ use Rattle.archive_tables.specs.Schema.{author_index}
 abbrev pub unplaced : Table → Table
 unplaced t = record t { tree = 0 }
 
-pub version_is : table_defined_by create_version ≡ Ok (unplaced version_table)
+pub version_is : table_defined_by create_version_table ≡ Ok (unplaced version_table)
 unfolding everything
 version_is = refl
 
-pub list_matches : table_defined_by create_list ≡ Ok (unplaced list_table)
+pub list_matches : table_defined_by create_list_table ≡ Ok (unplaced list_table)
 unfolding everything
 list_matches = refl
 
-pub person_is : table_defined_by create_person ≡ Ok (unplaced person_table)
+pub person_is : table_defined_by create_person_table ≡ Ok (unplaced person_table)
 unfolding everything
 person_is = refl
 
-pub grant_is : table_defined_by create_grant ≡ Ok (unplaced grant_table)
+pub grant_is : table_defined_by create_grant_table ≡ Ok (unplaced grant_table)
 unfolding everything
 grant_is = refl
 
-pub message_is : table_defined_by create_message ≡ Ok (unplaced message_table)
+pub message_is : table_defined_by create_message_table ≡ Ok (unplaced message_table)
 unfolding everything
 message_is = refl
 
@@ -36,11 +36,11 @@ pub sequence_is : table_defined_by sequence_text ≡ Ok (unplaced sequence_table
 unfolding everything
 sequence_is = refl
 
-pub option_is : table_defined_by create_option ≡ Ok (unplaced option_table)
+pub option_is : table_defined_by create_option_table ≡ Ok (unplaced option_table)
 unfolding everything
 option_is = refl
 
-pub address_is : table_defined_by create_address ≡ Ok (unplaced address_table)
+pub address_is : table_defined_by create_address_table ≡ Ok (unplaced address_table)
 unfolding everything
 address_is = refl
 

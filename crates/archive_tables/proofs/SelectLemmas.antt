@@ -226,37 +226,37 @@ module _ (sql : List ℕ) (t : ℕ) (terms shown : List Term) (order : List (Ter
 module _ {R : Type 0} (cells : R → Row) (read : Row → R) (back : (n : ℤ) (r : R) → read (Int n ∷ cells r) ≡ r) (q : Query) (params : Row) (wanted : R → Bool)
     (tests : (n : ℤ) (r : R) → passes q.filter params (Int n ∷ cells r) ≡ wanted r) where
   abbrev its : List (NumberedRecord R) → List R
-  its = map (λ (r : NumberedRecord R). r.it)
+  its = map (λ (r : NumberedRecord R). r.content)
 
-  passing : (all : List (NumberedRecord R)) → filter (passes q.filter params) (map (numbered_row cells) all) ≡ map (numbered_row cells) (filter (λ (r : NumberedRecord R). wanted r.it) all)
+  passing : (all : List (NumberedRecord R)) → filter (passes q.filter params) (map (numbered_row cells) all) ≡ map (numbered_row cells) (filter (λ (r : NumberedRecord R). wanted r.content) all)
   passing [] = refl
   passing (r ∷ all) =
-      rw (tests r.number r.it) (elim (wanted r.it) as (λ b. cond b (numbered_row cells r ∷ filter (passes q.filter params) (map (numbered_row cells) all))
+      rw (tests r.number r.content) (elim (wanted r.content) as (λ b. cond b (numbered_row cells r ∷ filter (passes q.filter params) (map (numbered_row cells) all))
       (filter (passes q.filter params) (map (numbered_row cells) all))
-      ≡ map (numbered_row cells) (cond b (r ∷ filter (λ (x : NumberedRecord R). wanted x.it) all) (filter (λ (x : NumberedRecord R). wanted x.it) all)))
+      ≡ map (numbered_row cells) (cond b (r ∷ filter (λ (x : NumberedRecord R). wanted x.content) all) (filter (λ (x : NumberedRecord R). wanted x.content) all)))
       [ true ↦ ap (λ l. numbered_row cells r ∷ l) (passing all) | false ↦ passing all ])
 
-  filter_its : (all : List (NumberedRecord R)) → its (filter (λ (r : NumberedRecord R). wanted r.it) all) ≡ filter wanted (its all)
+  filter_its : (all : List (NumberedRecord R)) → its (filter (λ (r : NumberedRecord R). wanted r.content) all) ≡ filter wanted (its all)
   filter_its [] = refl
   filter_its (r ∷ all) =
-      elim (wanted r.it) as (λ b. its (cond b (r ∷ filter (λ (x : NumberedRecord R). wanted x.it) all) (filter (λ (x : NumberedRecord R). wanted x.it) all)) ≡ cond b
-      (r.it ∷ filter wanted (its all)) (filter wanted (its all)))
-      [ true ↦ ap (λ l. r.it ∷ l) (filter_its all) | false ↦ filter_its all ]
+      elim (wanted r.content) as (λ b. its (cond b (r ∷ filter (λ (x : NumberedRecord R). wanted x.content) all) (filter (λ (x : NumberedRecord R). wanted x.content) all)) ≡ cond b
+      (r.content ∷ filter wanted (its all)) (filter wanted (its all)))
+      [ true ↦ ap (λ l. r.content ∷ l) (filter_its all) | false ↦ filter_its all ]
 
   -- the rows that pass are those of the records that are wanted
   pub hits : (rows : List Row) → HoldsRecords cells read rows → (filter (passes q.filter params) rows ≡ map (numbered_row cells)
-      (filter (λ (r : NumberedRecord R). wanted r.it) (map (numbered_from_row read) rows)))
-      × (its (filter (λ (r : NumberedRecord R). wanted r.it) (map (numbered_from_row read) rows)) ≡ filter wanted (map read rows))
+      (filter (λ (r : NumberedRecord R). wanted r.content) (map (numbered_from_row read) rows)))
+      × (its (filter (λ (r : NumberedRecord R). wanted r.content) (map (numbered_from_row read) rows)) ≡ filter wanted (map read rows))
   hits rows k = (
-    ap (filter (passes q.filter params)) k.round_trips ∙ passing (map (numbered_from_row read) rows),
+    ap (filter (passes q.filter params)) k.rows_read_back ∙ passing (map (numbered_from_row read) rows),
     filter_its (map (numbered_from_row read) rows) ∙ ap (filter wanted) (sym (records_are cells read back rows k)),
   )
 
   pub count_wanted : (rows shown : List Row) → HoldsRecords cells read rows → Picks q params rows shown → length shown ≡ length (filter wanted (map read rows))
   count_wanted rows shown k p =
       let it = hits rows k in
-      picks_count q params rows shown p ∙ ap length it.0 ∙ length-map (filter (λ (r : NumberedRecord R). wanted r.it) (map (numbered_from_row read) rows)) (numbered_row cells)
-      ∙ sym (length-map (filter (λ (r : NumberedRecord R). wanted r.it) (map (numbered_from_row read) rows)) (λ (r : NumberedRecord R). r.it)) ∙ ap length it.1
+      picks_count q params rows shown p ∙ ap length it.0 ∙ length-map (filter (λ (r : NumberedRecord R). wanted r.content) (map (numbered_from_row read) rows)) (numbered_row cells)
+      ∙ sym (length-map (filter (λ (r : NumberedRecord R). wanted r.content) (map (numbered_from_row read) rows)) (λ (r : NumberedRecord R). r.content)) ∙ ap length it.1
 
   pub any_wanted : (rows shown : List Row) → HoldsRecords cells read rows → Picks q params rows shown → not (nat_eq (length shown) 0) ≡ list_any wanted (map read rows)
   any_wanted rows shown k p = ap (λ n. not (nat_eq n 0)) (count_wanted rows shown k p) ∙ any_is_some wanted (map read rows)
@@ -295,8 +295,9 @@ module _ (t : ℕ) (terms shown : List Term) (params : Row) where
       (rows picked : List Row) → HoldsRecords cells read rows → Picks query params rows picked → picked ≡ map show (filter wanted (map read rows))
   shows {R} cells read back wanted tests show same rows picked k it =
       let found = hits cells read back query params wanted tests rows k in
-      in_order rows picked k.rise it ∙ ap (map (λ row. (out row).1)) found.0 ∙ each (filter (λ (r : NumberedRecord R). wanted r.it) (map (numbered_from_row read) rows)) ∙ ap (map show) found.1
+      in_order rows picked k.is_table it ∙ ap (map (λ row. (out row).1)) found.0 ∙ each (filter (λ (r : NumberedRecord R). wanted r.content) (map (numbered_from_row read) rows)) ∙ ap
+      (map show) found.1
     where
-      each : (all : List (NumberedRecord R)) → map (λ row. (out row).1) (map (numbered_row cells) all) ≡ map show (map (λ (r : NumberedRecord R). r.it) all)
+      each : (all : List (NumberedRecord R)) → map (λ row. (out row).1) (map (numbered_row cells) all) ≡ map show (map (λ (r : NumberedRecord R). r.content) all)
       each [] = refl
-      each (r ∷ all) = ap₂ ◌∷◌ (same r.number r.it) (each all)
+      each (r ∷ all) = ap₂ ◌∷◌ (same r.number r.content) (each all)

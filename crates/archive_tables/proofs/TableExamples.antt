@@ -12,7 +12,7 @@ use Rattle.archive_model.specs.Machine.{default_list_option}
 use Rattle.archive_tables.specs.Tables.{numbered_row, numbered_from_row, indexed_message_cells, indexed_message_from_row, grant_cells, grant_from_row, same_message_key, HaveDistinctKeys}
 use Rattle.archive_tables.specs.Tables.{archive_in_trees, archive_of_version, option_cells, address_cells, version_rows, HasVersionRow}
 use Rattle.archive_tables.specs.declared.texts.schema.TheConstants.{VERSION}
-use Rattle.archive_tables.specs.Rows.{message_result_row, marks_result_row, decoded_marks, unmarked_message, version_result_rows}
+use Rattle.archive_tables.specs.Rows.{message_result_row, dated_marks_result_row, decoded_dated_marks, unmarked_message, version_result_rows}
 
 abbrev hello : Message
 hello = record {
@@ -35,10 +35,10 @@ hello_row =
 abbrev its_filing : IndexColumns
 its_filing = record { sent = pos 1046772000; month = pos 24038; author = codes "anna@example.org" }
 
-a_message_is_its_row : numbered_row indexed_message_cells (record { number = pos 7; it = (hello, its_filing) }) ≡ hello_row
+a_message_is_its_row : numbered_row indexed_message_cells (record { number = pos 7; content = (hello, its_filing) }) ≡ hello_row
 a_message_is_its_row = refl
 
-a_row_is_its_message : numbered_from_row indexed_message_from_row hello_row ≡ record { number = pos 7; it = (hello, its_filing) }
+a_row_is_its_message : numbered_from_row indexed_message_from_row hello_row ≡ record { number = pos 7; content = (hello, its_filing) }
 a_row_is_its_message = refl
 
 no_embargo_is_null : message_result_row (unmarked_message (codes "soc") (codes "e3b0") (codes "-") (pos 0) [])
@@ -90,9 +90,9 @@ eight_tables = refl
 their_trees : map (λ (t : Table). t.tree) archive_schema.tables ≡ 0 ∷ 1 ∷ 3 ∷ 6 ∷ 8 ∷ 10 ∷ 13 ∷ 15 ∷ []
 their_trees = refl
 
-an_option_is_its_row : numbered_row option_cells (record { number = pos 1; it = record { list = codes "soc"; merge = false } }) ≡ Int (pos 1) ∷ Text (codes "soc") ∷ Int (pos 0) ∷ []
+an_option_is_its_row : numbered_row option_cells (record { number = pos 1; content = record { list = codes "soc"; merge = false } }) ≡ Int (pos 1) ∷ Text (codes "soc") ∷ Int (pos 0) ∷ []
 an_option_is_its_row = refl
 
-an_address_is_its_row : numbered_row address_cells (record { number = pos 1; it = record { person = codes "anna"; address = codes "anna@example.org" } })
+an_address_is_its_row : numbered_row address_cells (record { number = pos 1; content = record { person = codes "anna"; address = codes "anna@example.org" } })
     ≡ Int (pos 1) ∷ Text (codes "anna") ∷ Text (codes "anna@example.org") ∷ []
 an_address_is_its_row = refl

@@ -77,7 +77,7 @@ module _ (old new : Trees) (k : AreArchiveTables old) where
           messages_distinct = subst (λ l. HaveDistinctKeys same_message_key (map message_from_row l)) (sym messages) k.messages_distinct;
           options_distinct = subst (λ l. HaveDistinctKeys same_option_key (map option_from_row l)) (sym options) k.options_distinct;
           addresses_distinct = subst (λ l. HaveDistinctKeys same_address_key (map address_from_row l)) (sym addresses) k.addresses_distinct;
-          positive = subst HavePositiveRowids (sym messages) k.positive;
+          rowids_are_positive = subst HavePositiveRowids (sym messages) k.rowids_are_positive;
         },
         archive_same _ _ (ap (map list_from_row) is) (ap (map person_from_row) persons) (ap (map grant_from_row) grants) (ap (map message_from_row) messages) (ap (map index_columns_from_row) messages)
             (ap (map option_from_row) options) (ap (map address_from_row) addresses),
@@ -104,7 +104,7 @@ module _ (old new : Trees) (k : AreArchiveTables old) where
           messages_distinct = subst (λ l. HaveDistinctKeys same_message_key (map message_from_row l)) (sym messages) k.messages_distinct;
           options_distinct = subst (λ l. HaveDistinctKeys same_option_key (map option_from_row l)) (sym options) k.options_distinct;
           addresses_distinct = subst (λ l. HaveDistinctKeys same_address_key (map address_from_row l)) (sym addresses) k.addresses_distinct;
-          positive = subst HavePositiveRowids (sym messages) k.positive;
+          rowids_are_positive = subst HavePositiveRowids (sym messages) k.rowids_are_positive;
         },
         archive_same _ _ (ap (map list_from_row) lists) (ap (map person_from_row) is) (ap (map grant_from_row) grants) (ap (map message_from_row) messages) (ap (map index_columns_from_row) messages)
             (ap (map option_from_row) options) (ap (map address_from_row) addresses),
@@ -131,7 +131,7 @@ module _ (old new : Trees) (k : AreArchiveTables old) where
           messages_distinct = subst (λ l. HaveDistinctKeys same_message_key (map message_from_row l)) (sym messages) k.messages_distinct;
           options_distinct = subst (λ l. HaveDistinctKeys same_option_key (map option_from_row l)) (sym options) k.options_distinct;
           addresses_distinct = subst (λ l. HaveDistinctKeys same_address_key (map address_from_row l)) (sym addresses) k.addresses_distinct;
-          positive = subst HavePositiveRowids (sym messages) k.positive;
+          rowids_are_positive = subst HavePositiveRowids (sym messages) k.rowids_are_positive;
         },
         archive_same _ _ (ap (map list_from_row) lists) (ap (map person_from_row) persons) (ap (map grant_from_row) is) (ap (map message_from_row) messages) (ap (map index_columns_from_row) messages)
             (ap (map option_from_row) options) (ap (map address_from_row) addresses),
@@ -159,7 +159,7 @@ module _ (old new : Trees) (k : AreArchiveTables old) where
           messages_distinct = subst (λ l. HaveDistinctKeys same_message_key (map message_from_row l)) (sym is) apart;
           options_distinct = subst (λ l. HaveDistinctKeys same_option_key (map option_from_row l)) (sym options) k.options_distinct;
           addresses_distinct = subst (λ l. HaveDistinctKeys same_address_key (map address_from_row l)) (sym addresses) k.addresses_distinct;
-          positive = subst HavePositiveRowids (sym is) positive;
+          rowids_are_positive = subst HavePositiveRowids (sym is) positive;
         },
         archive_same _ _ (ap (map list_from_row) lists) (ap (map person_from_row) persons) (ap (map grant_from_row) grants) (ap (map message_from_row) is) (ap (map index_columns_from_row) is)
             (ap (map option_from_row) options) (ap (map address_from_row) addresses),
@@ -186,7 +186,7 @@ module _ (old new : Trees) (k : AreArchiveTables old) where
           messages_distinct = subst (λ l. HaveDistinctKeys same_message_key (map message_from_row l)) (sym messages) k.messages_distinct;
           options_distinct = subst (λ l. HaveDistinctKeys same_option_key (map option_from_row l)) (sym is) apart;
           addresses_distinct = subst (λ l. HaveDistinctKeys same_address_key (map address_from_row l)) (sym addresses) k.addresses_distinct;
-          positive = subst HavePositiveRowids (sym messages) k.positive;
+          rowids_are_positive = subst HavePositiveRowids (sym messages) k.rowids_are_positive;
         },
         archive_same _ _ (ap (map list_from_row) lists) (ap (map person_from_row) persons) (ap (map grant_from_row) grants) (ap (map message_from_row) messages)
             (ap (map index_columns_from_row) messages)
@@ -214,7 +214,7 @@ module _ (old new : Trees) (k : AreArchiveTables old) where
           messages_distinct = subst (λ l. HaveDistinctKeys same_message_key (map message_from_row l)) (sym messages) k.messages_distinct;
           options_distinct = subst (λ l. HaveDistinctKeys same_option_key (map option_from_row l)) (sym options) k.options_distinct;
           addresses_distinct = subst (λ l. HaveDistinctKeys same_address_key (map address_from_row l)) (sym is) apart;
-          positive = subst HavePositiveRowids (sym messages) k.positive;
+          rowids_are_positive = subst HavePositiveRowids (sym messages) k.rowids_are_positive;
         },
         archive_same _ _ (ap (map list_from_row) lists) (ap (map person_from_row) persons) (ap (map grant_from_row) grants) (ap (map message_from_row) messages)
             (ap (map index_columns_from_row) messages)

@@ -32,7 +32,7 @@ one_refused st a it = inl it
 
 caused_later : (old mid new : State) (e : Error) → KeepsConnectionUnlessDiskFails old mid → IsMemoryOrDiskError mid new e → IsMemoryOrDiskError old new e
 caused_later old mid new e before (inl none) = inl none
-caused_later old mid new e before (inr more) = inr (omega (arith, more, before.shut.faults))
+caused_later old mid new e before (inr more) = inr (omega (arith, more, before.closes_only_by_fault.faults_never_fall))
 
 module _ (e : Error) (first rest : List Statement) (old mid new : State) where
   pub turn_first : IsMemoryOrDiskError old new e ⊎ IsAnyStatementRefused first old.now → IsMemoryOrDiskError old new e ⊎ IsAnyStatementRefused (first ++ rest) old.now

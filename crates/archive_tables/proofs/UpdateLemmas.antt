@@ -115,7 +115,8 @@ module _ (sql : List ℕ) (new_cells : List Term) (is : command_of (understood a
       same_key m = elim (is_message_at_key list key m) as (λ c. (cond c (set m) m).key ≡ m.key) [ true ↦ keeps_key m | false ↦ refl ]
 
   module _ (puts : (db : Trees) (r : NumberedRecord IndexedMessage) (given : List Row) → given ≡ shown_of r ∷ []
-      → edited db (edit_of db message_table (ids_of given) Given 1 given) ≡ put_row (numbered_row indexed_message_cells (record r { it = (set r.it.0, r.it.1) })) (without_rowid r.number (db 8))) where
+      → edited db (edit_of db message_table (ids_of given) Given 1 given) ≡ put_row (numbered_row indexed_message_cells (record r { content = (set r.content.0, r.content.1) }))
+      (without_rowid r.number (db 8))) where
     changes : {behind : Option Database} (old new : State) (count : ℕ) → IsOpenArchive behind old → Executes sql params old new (Ok count) → ChangesArchive behind old new
         (λ a. record a { messages = map change a.messages })
     changes old new count k h =
@@ -142,7 +143,7 @@ module _ (sql : List ℕ) (new_cells : List Term) (is : command_of (understood a
         let same = subst (SameBut 8 db) (sym trees) (same_but 8 db written.0 applied.tables) in
         let both = changed_filed (is_message_at_key list key) set (edited db edit) (db 8) it.1 in
         let apart = subst (HaveDistinctKeys same_message_key) (sym both.0) (apart_mapped same_message_key change keeps (archive_of old).messages k.tables.messages_distinct) in
-        let all = messages_change db new.now.trees k.tables same _ rows it.0 apart (it.2 (pos 0) k.tables.positive) in
+        let all = messages_change db new.now.trees k.tables same _ rows it.0 apart (it.2 (pos 0) k.tables.rowids_are_positive) in
         (kept_by old new k w.shown (ap (λ (d : Database). d.schema) now) all.0, all.1 ∙ ap₂ (λ l n. record (archive_of old) { messages = l; index_columns = n }) both.0 both.1)
 
     pub tries_to_change : (behind : Option Database) (old new : State) (r : Result ℕ Error) → IsOpenArchive behind old → Executes sql params old new r
@@ -196,16 +197,17 @@ unfolding understood everything
 clear_plain = (refl, refl)
 
 withdrawn_puts : (db : Trees) (r : NumberedRecord IndexedMessage) (by : ℤ) (given : List Row)
-    → given ≡ (Int r.number ∷ Int r.number ∷ Null ∷ Text r.it.0.list ∷ Text r.it.0.key ∷ Blob r.it.0.sender ∷ Int r.it.0.arrival ∷ Blob r.it.0.text ∷ Int by ∷ int_or_null_value
-    r.it.0.embargo ∷ Int r.it.1.sent ∷ Int r.it.1.month ∷ Blob r.it.1.author ∷ []) ∷ []
-    → edited db (edit_of db message_table (ids_of given) Given 1 given) ≡ put_row (numbered_row indexed_message_cells (record r { it = (record r.it.0 { withdrawn = by }, r.it.1) }))
+    → given ≡ (Int r.number ∷ Int r.number ∷ Null ∷ Text r.content.0.list ∷ Text r.content.0.key ∷ Blob r.content.0.sender ∷ Int r.content.0.arrival ∷ Blob r.content.0.text ∷ Int by ∷
+    int_or_null_value
+    r.content.0.embargo ∷ Int r.content.1.sent ∷ Int r.content.1.month ∷ Blob r.content.1.author ∷ []) ∷ []
+    → edited db (edit_of db message_table (ids_of given) Given 1 given) ≡ put_row (numbered_row indexed_message_cells (record r { content = (record r.content.0 { withdrawn = by }, r.content.1) }))
     (without_rowid r.number (db 8))
 withdrawn_puts db r by given from = rw (from, cast_null, cast_int r.number, cast_int r.it.0.arrival, cast_int by, cast_or_null r.it.0.embargo, cast_int r.it.1.sent, cast_int r.it.1.month)
 
 embargo_puts : (db : Trees) (r : NumberedRecord IndexedMessage) (until : Option ℤ) (given : List Row)
-    → given ≡ (Int r.number ∷ Int r.number ∷ Null ∷ Text r.it.0.list ∷ Text r.it.0.key ∷ Blob r.it.0.sender ∷ Int r.it.0.arrival ∷ Blob r.it.0.text ∷ Int
-    r.it.0.withdrawn ∷ int_or_null_value until ∷ Int r.it.1.sent ∷ Int r.it.1.month ∷ Blob r.it.1.author ∷ []) ∷ []
-    → edited db (edit_of db message_table (ids_of given) Given 1 given) ≡ put_row (numbered_row indexed_message_cells (record r { it = (record r.it.0 { embargo = until }, r.it.1) }))
+    → given ≡ (Int r.number ∷ Int r.number ∷ Null ∷ Text r.content.0.list ∷ Text r.content.0.key ∷ Blob r.content.0.sender ∷ Int r.content.0.arrival ∷ Blob r.content.0.text ∷ Int
+    r.content.0.withdrawn ∷ int_or_null_value until ∷ Int r.content.1.sent ∷ Int r.content.1.month ∷ Blob r.content.1.author ∷ []) ∷ []
+    → edited db (edit_of db message_table (ids_of given) Given 1 given) ≡ put_row (numbered_row indexed_message_cells (record r { content = (record r.content.0 { embargo = until }, r.content.1) }))
     (without_rowid r.number (db 8))
 embargo_puts db r until given from = rw (from, cast_null, cast_int r.number, cast_int r.it.0.arrival, cast_int r.it.0.withdrawn, cast_or_null until, cast_int r.it.1.sent, cast_int r.it.1.month)
 

@@ -72,11 +72,11 @@ read_3 : IsRead archive_schema
 read_3 = record { is = number_is.0; unlisted = number_is.1; plain = number_plain; fit = number_fit; typed = number_typed }
 
 reads_each : (number : ℕ) → IsKnownVersion number → IsRead (schema_of_version number)
-reads_each zero known = absurd (omega (arith, known.least))
+reads_each zero known = absurd (omega (arith, known.at_least_one))
 reads_each (suc zero) known = read_1
 reads_each (suc (suc zero)) known = read_2
 reads_each (suc (suc (suc zero))) known = read_3
-reads_each (suc (suc (suc (suc n)))) known = absurd (omega (arith, known.most))
+reads_each (suc (suc (suc (suc n)))) known = absurd (omega (arith, known.at_most_newest))
 
 module _ (old new : State) (number : ℕ) (known : IsKnownVersion number) (o : HasSchemaOfFormat (format_of_version number) old) where
   reads : IsRead (schema_of_version number)
@@ -91,8 +91,8 @@ module _ (old new : State) (number : ℕ) (known : IsKnownVersion number) (o : H
 
   -- and whatever it answers, it changes nothing
   as_it_was : IsUnchanged old new ⊎ IsRolledBack old new → IsRolledBackIfOpen new old.now
-  as_it_was (inl same) up = (same.0.now_is, same.0.committed_is ∙ o.settled, same.0.mode ∙ o.autocommit)
-  as_it_was (inr undone) up = ((undone.undone up).0 ∙ o.settled, (undone.undone up).1 ∙ o.settled, undone.autocommit)
+  as_it_was (inl same) up = (same.0.now_is, same.0.committed_is ∙ o.committed_is_now, same.0.mode ∙ o.autocommit)
+  as_it_was (inr undone) up = ((undone.undone up).0 ∙ o.committed_is_now, (undone.undone up).1 ∙ o.committed_is_now, undone.autocommit)
 
   is_plain : IsPlain (understood old.now.schema number_text)
   is_plain = subst (λ s. IsPlain (understood s number_text)) (sym o.schema) reads.plain

@@ -127,7 +127,7 @@ module _ (place : ℤ) where
   has_place r = alone _ ∙ int_is r.number place
 
   abbrev shown_at : NumberedRecord IndexedMessage → Row
-  shown_at r = message_result_row r.it.0
+  shown_at r = message_result_row r.content.0
 
   passing : (all : List (NumberedRecord IndexedMessage)) → filter (passes at_place (Int place ∷ [])) (map (numbered_row indexed_message_cells) all) ≡ map (numbered_row indexed_message_cells)
       (filter is_at all)
@@ -143,17 +143,17 @@ abbrev cells_of : ℤ → Row → Row
 cells_of place row = (output (plain_query 8 at_place all_cells by_number) (env_of (Int place ∷ []) row)).1
 
 shown_cells : (place : ℤ) (all : List (NumberedRecord IndexedMessage)) → map (cells_of place) (map (numbered_row indexed_message_cells) all) ≡ map
-    (λ (r : NumberedRecord IndexedMessage). message_result_row r.it.0) all
+    (λ (r : NumberedRecord IndexedMessage). message_result_row r.content.0) all
 shown_cells place [] = refl
-shown_cells place (r ∷ all) = ap (λ l. message_result_row r.it.0 ∷ l) (shown_cells place all)
+shown_cells place (r ∷ all) = ap (λ l. message_result_row r.content.0 ∷ l) (shown_cells place all)
 
 abbrev marks_seen : ℤ → Row → Row
 marks_seen place row = (output (plain_query 8 at_place mark_cells by_number) (env_of (Int place ∷ []) row)).1
 
 shown_marks : (place : ℤ) (all : List (NumberedRecord IndexedMessage)) → map (marks_seen place) (map (numbered_row indexed_message_cells) all) ≡ map
-    (λ (r : NumberedRecord IndexedMessage). dated_marks_result_row r.it.0) all
+    (λ (r : NumberedRecord IndexedMessage). dated_marks_result_row r.content.0) all
 shown_marks place [] = refl
-shown_marks place (r ∷ all) = ap (λ l. dated_marks_result_row r.it.0 ∷ l) (shown_marks place all)
+shown_marks place (r ∷ all) = ap (λ l. dated_marks_result_row r.content.0 ∷ l) (shown_marks place all)
 
 abbrev cell_of : List ℕ → Row → Row
 cell_of list row = (output (plain_query 8 of_list number_cell by_number) (env_of (Text list ∷ []) row)).1
@@ -200,20 +200,21 @@ kept_found w P (r ∷ all) h =
     [ true ↦ (h.0, kept_found w P all h.1) | false ↦ kept_found w P all h.1 ]
 
 pub messages_at : (all wanted : List (NumberedRecord IndexedMessage)) → AllByRecursion (λ r. finds all r ≡ Some r) wanted
-    → map (λ place. option_map (λ (r : NumberedRecord IndexedMessage). r.it.0) (find (λ (r : NumberedRecord IndexedMessage). int_eq r.number place) all))
+    → map (λ place. option_map (λ (r : NumberedRecord IndexedMessage). r.content.0) (find (λ (r : NumberedRecord IndexedMessage). int_eq r.number place) all))
     (map (λ (r : NumberedRecord IndexedMessage). r.number) wanted)
-    ≡ map (λ (r : NumberedRecord IndexedMessage). Some r.it.0) wanted
+    ≡ map (λ (r : NumberedRecord IndexedMessage). Some r.content.0) wanted
 messages_at all [] h = refl
-messages_at all (r ∷ wanted) h = ap₂ ◌∷◌ (ap (option_map (λ (r : NumberedRecord IndexedMessage). r.it.0)) h.0) (messages_at all wanted h.1)
+messages_at all (r ∷ wanted) h = ap₂ ◌∷◌ (ap (option_map (λ (r : NumberedRecord IndexedMessage). r.content.0)) h.0) (messages_at all wanted h.1)
 
 pub walked : (trees : Trees) (list : List ℕ) → AreArchiveTables trees → map (message_at trees) (message_rowids_in trees list) ≡ map Some (messages_in (archive_in_trees trees) list)
 walked trees list t =
     let all = numbered_indexed_messages trees in
-    let wanted = filter (λ (r : NumberedRecord IndexedMessage). bytes_eq r.it.0.list list) all in
-    let found = kept_found (λ (r : NumberedRecord IndexedMessage). bytes_eq r.it.0.list list) (λ r. finds all r ≡ Some r) all (each_found all (subst IsTable t.messages.round_trips t.messages.rise)) in
+    let wanted = filter (λ (r : NumberedRecord IndexedMessage). bytes_eq r.content.0.list list) all in
+    let found = kept_found (λ (r : NumberedRecord IndexedMessage). bytes_eq r.content.0.list list) (λ r. finds all r ≡ Some r) all
+    (each_found all (subst IsTable t.messages.rows_read_back t.messages.is_table)) in
     let its = hits indexed_message_cells indexed_message_from_row filed_back (plain_query 8 of_list number_cell by_number) (Text list ∷ []) (λ (f : IndexedMessage). bytes_eq f.0.list list)
     (has_list list) (trees 8) t.messages in
-    messages_at all wanted found ∙ sym (map-map (λ (f : IndexedMessage). Some f.0) (λ (r : NumberedRecord IndexedMessage). r.it) wanted) ∙ ap (map (λ (f : IndexedMessage). Some f.0)) its.1
+    messages_at all wanted found ∙ sym (map-map (λ (f : IndexedMessage). Some f.0) (λ (r : NumberedRecord IndexedMessage). r.content) wanted) ∙ ap (map (λ (f : IndexedMessage). Some f.0)) its.1
     ∙ wanted_messages (λ (m : Message). bytes_eq m.list list) Some (trees 8)
 
 -- ---- what the texts show
@@ -224,12 +225,12 @@ module _ (old new : State) {behind : Option Database} (k : IsOpenArchive behind 
   places_found list rows h =
       let params = Text list ∷ [] in
       let all = numbered_indexed_messages old.now.trees in
-      let wanted = filter (λ (r : NumberedRecord IndexedMessage). bytes_eq r.it.0.list list) all in
+      let wanted = filter (λ (r : NumberedRecord IndexedMessage). bytes_eq r.content.0.list list) all in
       let picks = asked places_text 8 of_list number_cell by_number _ places_is.0 places_plain places_is.1 (λ t. refl) params old new k rows h in
       let its = hits indexed_message_cells indexed_message_from_row filed_back (plain_query 8 of_list number_cell by_number) params (λ (f : IndexedMessage). bytes_eq f.0.list list) (has_list list)
       (old.now.trees 8) k.tables.messages in
       let same = asked_stays places_text 8 of_list number_cell by_number _ places_is.0 places_plain places_is.1 (λ t. refl) params old new k rows h in (
-        in_order 8 of_list number_cell params (old.now.trees 8) rows k.tables.messages.rise picks ∙ ap (map (cell_of list)) its.0 ∙ shown_cell list wanted,
+        in_order 8 of_list number_cell params (old.now.trees 8) rows k.tables.messages.is_table picks ∙ ap (map (cell_of list)) its.0 ∙ shown_cell list wanted,
         same,
       )
 
@@ -241,14 +242,14 @@ module _ (old new : State) {behind : Option Database} (k : IsOpenArchive behind 
       (places_typed list) old new k free e h
 
   pub at_found : (place : ℤ) (rows : List Row) → Shown at_text (Int place ∷ []) old new rows
-      → (rows ≡ map (λ (r : NumberedRecord IndexedMessage). message_result_row r.it.0) (filter (is_at place) (numbered_indexed_messages old.now.trees))) × LeavesRowsUnchanged behind old new
+      → (rows ≡ map (λ (r : NumberedRecord IndexedMessage). message_result_row r.content.0) (filter (is_at place) (numbered_indexed_messages old.now.trees))) × LeavesRowsUnchanged behind old new
   at_found place rows h =
       let params = Int place ∷ [] in
       let all = numbered_indexed_messages old.now.trees in
       let picks = asked at_text 8 at_place all_cells by_number _ at_is.0 at_plain at_is.1 (λ t. refl) params old new k rows h in
       let same = asked_stays at_text 8 at_place all_cells by_number _ at_is.0 at_plain at_is.1 (λ t. refl) params old new k rows h in (
-        in_order 8 at_place all_cells params (old.now.trees 8) rows k.tables.messages.rise picks
-            ∙ ap (map (cells_of place)) (ap (filter (passes at_place params)) k.tables.messages.round_trips ∙ passing place all) ∙ shown_cells place (filter (is_at place) all),
+        in_order 8 at_place all_cells params (old.now.trees 8) rows k.tables.messages.is_table picks
+            ∙ ap (map (cells_of place)) (ap (filter (passes at_place params)) k.tables.messages.rows_read_back ∙ passing place all) ∙ shown_cells place (filter (is_at place) all),
         same,
       )
 
@@ -262,14 +263,14 @@ module _ (old new : State) {behind : Option Database} (k : IsOpenArchive behind 
   at_rests place rows h = asked_rests at_text 8 at_place all_cells by_number _ at_is.0 at_plain at_is.1 (λ t. refl) (Int place ∷ []) old new k rows h
 
   pub marks_found : (place : ℤ) (rows : List Row) → Shown marks_at_text (Int place ∷ []) old new rows
-      → (rows ≡ map (λ (r : NumberedRecord IndexedMessage). dated_marks_result_row r.it.0) (filter (is_at place) (numbered_indexed_messages old.now.trees))) × LeavesRowsUnchanged behind old new
+      → (rows ≡ map (λ (r : NumberedRecord IndexedMessage). dated_marks_result_row r.content.0) (filter (is_at place) (numbered_indexed_messages old.now.trees))) × LeavesRowsUnchanged behind old new
   marks_found place rows h =
       let params = Int place ∷ [] in
       let all = numbered_indexed_messages old.now.trees in
       let picks = asked marks_at_text 8 at_place mark_cells by_number _ marks_at_is.0 marks_at_plain marks_at_is.1 (λ t. refl) params old new k rows h in
       let same = asked_stays marks_at_text 8 at_place mark_cells by_number _ marks_at_is.0 marks_at_plain marks_at_is.1 (λ t. refl) params old new k rows h in (
-        in_order 8 at_place mark_cells params (old.now.trees 8) rows k.tables.messages.rise picks
-            ∙ ap (map (marks_seen place)) (ap (filter (passes at_place params)) k.tables.messages.round_trips ∙ passing place all) ∙ shown_marks place (filter (is_at place) all),
+        in_order 8 at_place mark_cells params (old.now.trees 8) rows k.tables.messages.is_table picks
+            ∙ ap (map (marks_seen place)) (ap (filter (passes at_place params)) k.tables.messages.rows_read_back ∙ passing place all) ∙ shown_marks place (filter (is_at place) all),
         same,
       )
 

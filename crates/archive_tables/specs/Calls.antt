@@ -45,16 +45,16 @@ FaultKeepsRows = FaultKeepsRowsOrRollsBack None
 
 -- What shuts a connection: nothing but a fault of the disk, and none is forgotten.
 pub record ClosesOnlyByFault (old new : State) : Type 0 where
-  pub faults : old.faults ≤ new.faults
+  pub faults_never_fall : old.faults ≤ new.faults
   pub stays_open : HasCleanDisk new → IsTrue old.is_open → IsTrue new.is_open ⊎ MoreFaults old.faults new.faults
 
 -- What a call does to a connection, whatever the tables are and whatever it answers: only a fault shuts it, one that is shut stays
 -- shut, a disk that has returned what was written so far had done so before, and the limit on the steps of a query stays.
 pub record KeepsConnectionUnlessDiskFails (old new : State) : Type 0 where
-  pub returned : HasCleanDisk new → HasCleanDisk old
-  pub shut : ClosesOnlyByFault old new
-  pub stays_shut : HasCleanDisk new → IsTrue new.is_open → IsTrue old.is_open
-  pub limit : new.step_limit ≡ old.step_limit
+  pub disk_was_clean : HasCleanDisk new → HasCleanDisk old
+  pub closes_only_by_fault : ClosesOnlyByFault old new
+  pub closed_stays_closed : HasCleanDisk new → IsTrue new.is_open → IsTrue old.is_open
+  pub step_limit_is_same : new.step_limit ≡ old.step_limit
 
 -- A fault has a cause: memory was wanted, or the disk failed or refused once more than before.
 abbrev pub IsMemoryOrDiskError : State → State → Error → Type 0
@@ -93,8 +93,8 @@ module _ {S : Type 0} (g : Ghosts S) (old new : Held S) where
       HasCleanDisk (state g new) → IsArchiveAtRest (state g old) → (state g old).step_limit ≡ None → IfErr result (λ e. IsMemoryOrDiskError (state g old) (state g new) e ⊎ Unread)
 
   -- The same of a question that reads each row, outside a transaction or within one.
-  abbrev pub FailsByFault : {A : Type 0} → Result A Error → Type 0
-  FailsByFault result =
+  abbrev pub FailsOnlyByMemoryOrDisk : {A : Type 0} → Result A Error → Type 0
+  FailsOnlyByMemoryOrDisk result =
       HasCleanDisk (state g new) → (behind : Option Database) → IsOpenArchive behind (state g old) → (state g old).step_limit ≡ None
       → IfErr result (λ e. IsMemoryOrDiskError (state g old) (state g new) e)
 
@@ -120,39 +120,39 @@ module _ {S : Type 0} (g : Ghosts S) (old new : Held S) where
   -- How a call ends, whatever the tables are and whatever it answers: what it does to the connection, and that one that is shut
   -- answers nothing.
   pub record EndsConnectionCall {A E : Type 0} (result : Result A E) : Type 0 where
-    pub lasts : KeepsConnectionUnlessDiskFails (state g old) (state g new)
+    pub remains_open : KeepsConnectionUnlessDiskFails (state g old) (state g new)
     pub was_open : AnswersOnlyIfOpen result
 
   -- A question on the tables, outside a transaction or within one: what it says of them and leaves, why it fails, that it changes
   -- neither what is seen nor what a stop of the machine leaves, and how it ends.
   pub record AnswersFromDatabase {A : Type 0} (result : Result A Error) (Says : Archive → A → Type 0) (Unread : Type 0) : Type 0 where
-    pub over : AnswerHoldsOfArchive result Says
-    pub caused : FailsByFaultOr result Unread
-    pub same : AnswerSeesSameDatabase result
-    pub quiet : CrashAddsNothing g old new
-    pub ends : EndsConnectionCall result
+    pub answer_holds : AnswerHoldsOfArchive result Says
+    pub fault_has_cause : FailsByFaultOr result Unread
+    pub same_database : AnswerSeesSameDatabase result
+    pub crash_adds_nothing : CrashAddsNothing g old new
+    pub ends_call : EndsConnectionCall result
 
   -- The same of a question whose faults have a cause within a transaction, too.
   pub record AnswersOrFailsByFault {A : Type 0} (result : Result A Error) (Says : Archive → A → Type 0) : Type 0 where
-    pub over : AnswerHoldsOfArchive result Says
-    pub caused : FailsByFault result
-    pub same : AnswerSeesSameDatabase result
-    pub quiet : CrashAddsNothing g old new
-    pub ends : EndsConnectionCall result
+    pub answer_holds : AnswerHoldsOfArchive result Says
+    pub fault_has_cause : FailsOnlyByMemoryOrDisk result
+    pub same_database : AnswerSeesSameDatabase result
+    pub crash_adds_nothing : CrashAddsNothing g old new
+    pub ends_call : EndsConnectionCall result
 
   -- A question on the rows themselves.
   pub record AnswersFromRows {A : Type 0} (result : Result A Error) (Says : Trees → A → Type 0) (Unread : Type 0) : Type 0 where
-    pub over : AnswerHoldsOfRows result Says
-    pub caused : FailsByFaultOr result Unread
-    pub same : AnswerSeesSameDatabase result
-    pub quiet : CrashAddsNothing g old new
-    pub ends : EndsConnectionCall result
+    pub answer_holds : AnswerHoldsOfRows result Says
+    pub fault_has_cause : FailsByFaultOr result Unread
+    pub same_database : AnswerSeesSameDatabase result
+    pub crash_adds_nothing : CrashAddsNothing g old new
+    pub ends_call : EndsConnectionCall result
 
   -- A write by a statement on tables that are as it needs them, outside a transaction or within one: what it makes of them, why it
   -- fails, what a stop of the machine may leave, and how it ends.
   pub record WritesByStatement {A : Type 0} (result : Result A Error) (Needs : Archive → Type 0) (change : Archive → Archive) (statement : Statement) : Type 0 where
-    pub over : WriteChangesArchive result Needs change
-    pub caused : FailsByFaultOrRefusal result statement
-    pub made : ExecutesStatement result statement
+    pub answer_holds : WriteChangesArchive result Needs change
+    pub fault_has_cause : FailsByFaultOrRefusal result statement
+    pub executes_statement : ExecutesStatement result statement
     pub crash : CrashLeavesOldOrChanged g old new Needs change
-    pub ends : EndsConnectionCall result
+    pub ends_call : EndsConnectionCall result

@@ -13,8 +13,8 @@ use Rattle.archive_tables.specs.Tables.{TablesFormat, newest_format, IsOpenArchi
 -- Trees that list the schema of this form, are its tables, and remember this archive.
 pub record IsArchiveStoredInFormat (form : TablesFormat) (archive : Archive) (db : Trees) : Type 0 where
   pub lists : Lists (db catalog_tree) form.schema
-  pub tables : form.IsOf db
-  pub remembers : form.remembered db ≡ archive
+  pub tables : form.AreTablesOf db
+  pub archive_is : form.archive_of_trees db ≡ archive
 
 -- the same of the newest version
 abbrev pub IsArchiveStored : Archive → Trees → Type 0

@@ -14,27 +14,27 @@ use Rattle.archive_tables.specs.declared.filed.IndexedRow.{IndexedRow}
 -- ---- the numbers of all messages
 
 abbrev pub was_listed_before : NumberedRecord IndexedMessage → NumberedRecord IndexedMessage → Bool
-was_listed_before r s = has_lower_list_name r.it s.it
+was_listed_before r s = has_lower_list_name r.content s.content
 
 -- a row before the first whose list has no lower name
-abbrev pub with_listed_row : NumberedRecord IndexedMessage → List (NumberedRecord IndexedMessage) → List (NumberedRecord IndexedMessage)
-with_listed_row r [] = r ∷ []
-with_listed_row r (s ∷ rows) = if was_listed_before s r then s ∷ with_listed_row r rows else r ∷ s ∷ rows
+abbrev pub insert_row_by_list : NumberedRecord IndexedMessage → List (NumberedRecord IndexedMessage) → List (NumberedRecord IndexedMessage)
+insert_row_by_list r [] = r ∷ []
+insert_row_by_list r (s ∷ rows) = if was_listed_before s r then s ∷ insert_row_by_list r rows else r ∷ s ∷ rows
 
 -- by the names of the lists, and then by their numbers
 abbrev pub rows_by_list : List (NumberedRecord IndexedMessage) → List (NumberedRecord IndexedMessage)
 rows_by_list [] = []
-rows_by_list (r ∷ rows) = with_listed_row r (rows_by_list rows)
+rows_by_list (r ∷ rows) = insert_row_by_list r (rows_by_list rows)
 
 -- the rowids of all messages, lists in the byte order of their names, each list in mailbox order
-abbrev pub all_places : Trees → List ℤ
-all_places trees = map (λ (r : NumberedRecord IndexedMessage). r.number) (rows_by_list (numbered_indexed_messages trees))
+abbrev pub all_rowids : Trees → List ℤ
+all_rowids trees = map (λ (r : NumberedRecord IndexedMessage). r.number) (rows_by_list (numbered_indexed_messages trees))
 
 -- ---- the message of a number, with what is filed of it
 
 -- the message whose row has this rowid, with what is filed of it
 abbrev pub filed_at : Trees → ℤ → Option IndexedMessage
-filed_at trees place = option_map (λ (r : NumberedRecord IndexedMessage). r.it) (find (λ (r : NumberedRecord IndexedMessage). int_eq r.number place) (numbered_indexed_messages trees))
+filed_at trees place = option_map (λ (r : NumberedRecord IndexedMessage). r.content) (find (λ (r : NumberedRecord IndexedMessage). int_eq r.number place) (numbered_indexed_messages trees))
 
 -- without its marks
 abbrev pub indexed_result_row : IndexedMessage → Row

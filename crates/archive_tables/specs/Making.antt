@@ -23,27 +23,27 @@ empty_archive = record { lists = []; persons = []; grants = []; messages = []; i
 -- the tables of this schema are there, without rows, in a transaction that goes back to this database
 pub record IsCreatingTables (s : State) (schema : Schema) (before : Database) : Type 0 where
   pub is_open : IsTrue s.is_open
-  pub within : s.in_transaction ≡ true
-  pub behind : s.committed ≡ before
+  pub is_in_transaction : s.in_transaction ≡ true
+  pub committed_is_before : s.committed ≡ before
   pub schema_is : s.now.schema ≡ schema
-  pub empty : AllByRecursion (λ (t : Table). s.now.trees t.tree ≡ []) schema.tables
+  pub tables_are_empty : AllByRecursion (λ (t : Table). s.now.trees t.tree ≡ []) schema.tables
 
 -- an open transaction that goes back to this database, over this schema, whatever the rows are
 pub record IsInTransactionWithSchema (s : State) (before : Database) (schema : Schema) : Type 0 where
   pub is_open : IsTrue s.is_open
-  pub within : s.in_transaction ≡ true
-  pub behind : s.committed ≡ before
+  pub is_in_transaction : s.in_transaction ≡ true
+  pub committed_is_before : s.committed ≡ before
   pub schema_is : s.now.schema ≡ schema
 
 -- In a transaction that goes back to this database: tables of a version under this schema, which remember this archive, while
 -- `version` says this number.
 pub record IsMigratingTables (s : State) (before : Database) (schema : Schema) (said : ℤ) (number : ℕ) (archive : Archive) : Type 0 where
   pub is_open : IsTrue s.is_open
-  pub within : s.in_transaction ≡ true
-  pub behind : s.committed ≡ before
+  pub is_in_transaction : s.in_transaction ≡ true
+  pub committed_is_before : s.committed ≡ before
   pub schema_is : s.now.schema ≡ schema
-  pub tables : AreTablesWithVersionRow said number s.now.trees
-  pub remembers : archive_of_version number s.now.trees ≡ archive
+  pub are_tables_of_version : AreTablesWithVersionRow said number s.now.trees
+  pub archive_is : archive_of_version number s.now.trees ≡ archive
 
 -- all is there but the commit
 abbrev pub IsReadyToCommit : State → Database → Archive → Type 0
@@ -69,19 +69,19 @@ ExecutesUnderSchema g old new result schema statement =
 -- How a step of the making or the moving of tables ends: as each call does; where it fails as is said above, and why, over this schema;
 -- and what its statement makes.
 pub record EndsStep {S A : Type 0} (g : Ghosts S) (old new : Held S) (result : Result A Error) (schema : Schema) (statement : Statement) : Type 0 where
-  pub lasts : KeepsConnectionUnlessDiskFails (state g old) (state g new)
+  pub remains_open : KeepsConnectionUnlessDiskFails (state g old) (state g new)
   pub was_open : AnswersOnlyIfOpen g old new result
-  pub stopped : FailureKeepsOrRollsBack g old new result
-  pub caused : FailsUnderSchema g old new result schema statement
-  pub carried : ExecutesUnderSchema g old new result schema statement
+  pub failure_keeps_or_rolls_back : FailureKeepsOrRollsBack g old new result
+  pub fault_has_cause : FailsUnderSchema g old new result schema statement
+  pub executes : ExecutesUnderSchema g old new result schema statement
 
 -- How some steps end, one after the other, in a transaction of which this holds: as each call does; they fail for want of memory, by a
 -- fault of the disk, or since SQL refuses one of their statements in its turn; and what all of them make.
 pub record EndsSteps {S A : Type 0} (g : Ghosts S) (old new : Held S) (result : Result A Error) (Holds : State → Database → Type 0) (statements : List Statement) : Type 0 where
-  pub lasts : KeepsConnectionUnlessDiskFails (state g old) (state g new)
-  pub caused : HasCleanDisk (state g new) → (before : Database) → Holds (state g old) before → (state g old).step_limit ≡ None
+  pub remains_open : KeepsConnectionUnlessDiskFails (state g old) (state g new)
+  pub fault_has_cause : HasCleanDisk (state g new) → (before : Database) → Holds (state g old) before → (state g old).step_limit ≡ None
       → IfErr result (λ e. IsMemoryOrDiskError (state g old) (state g new) e ⊎ IsAnyStatementRefused statements (state g old).now)
-  pub carried : HasCleanDisk (state g new) → (before : Database) → Holds (state g old) before → (state g old).step_limit ≡ None
+  pub executes : HasCleanDisk (state g new) → (before : Database) → Holds (state g old) before → (state g old).step_limit ≡ None
       → OnOk result (StatementsExecuteTo statements (state g old).now (state g new).now)
 
 -- within a transaction over this schema, whatever the rows are, a stop of the machine leaves nothing that it did not leave before
@@ -96,27 +96,27 @@ TransactionCallFailsByFault g old new result within =
 
 -- How BEGIN ends: as a step; why it fails outside a transaction; and that what is seen stays, and what a stop of the machine leaves.
 pub record EndsBegin {S A : Type 0} (g : Ghosts S) (old new : Held S) (result : Result A Error) : Type 0 where
-  pub lasts : KeepsConnectionUnlessDiskFails (state g old) (state g new)
+  pub remains_open : KeepsConnectionUnlessDiskFails (state g old) (state g new)
   pub was_open : AnswersOnlyIfOpen g old new result
-  pub stopped : FailureKeepsOrRollsBack g old new result
-  pub caused : TransactionCallFailsByFault g old new result false
-  pub same : AnswerSeesSameDatabase g old new result
-  pub quiet : CrashAddsNothing g old new
+  pub failure_keeps_or_rolls_back : FailureKeepsOrRollsBack g old new result
+  pub fault_has_cause : TransactionCallFailsByFault g old new result false
+  pub same_database : AnswerSeesSameDatabase g old new result
+  pub crash_adds_nothing : CrashAddsNothing g old new
 
 -- How COMMIT ends: as a step; why it fails within a transaction; and that a stop of the machine may leave what was seen.
 pub record EndsCommit {S A : Type 0} (g : Ghosts S) (old new : Held S) (result : Result A Error) : Type 0 where
-  pub lasts : KeepsConnectionUnlessDiskFails (state g old) (state g new)
+  pub remains_open : KeepsConnectionUnlessDiskFails (state g old) (state g new)
   pub was_open : AnswersOnlyIfOpen g old new result
-  pub stopped : FailureKeepsOrRollsBack g old new result
-  pub caused : TransactionCallFailsByFault g old new result true
-  pub same : AnswerSeesSameDatabase g old new result
+  pub failure_keeps_or_rolls_back : FailureKeepsOrRollsBack g old new result
+  pub fault_has_cause : TransactionCallFailsByFault g old new result true
+  pub same_database : AnswerSeesSameDatabase g old new result
   pub crash : CrashAddsOnlyCommit g old new
 
 -- How ROLLBACK ends: where it fails as a step does; why, within a transaction; and a stop of the machine leaves nothing new.
 pub record EndsRollback {S A : Type 0} (g : Ghosts S) (old new : Held S) (result : Result A Error) : Type 0 where
-  pub stopped : FailureKeepsOrRollsBack g old new result
-  pub caused : TransactionCallFailsByFault g old new result true
-  pub quiet : CrashAddsNothing g old new
+  pub failure_keeps_or_rolls_back : FailureKeepsOrRollsBack g old new result
+  pub fault_has_cause : TransactionCallFailsByFault g old new result true
+  pub crash_adds_nothing : CrashAddsNothing g old new
 
 -- what is committed is what was there before, if the connection is still open
 abbrev pub IsCommittedUnchanged : State → Database → Type 0
@@ -126,7 +126,7 @@ IsCommittedUnchanged s before = IsTrue s.is_open → s.committed ≡ before
 pub record IsIdle (s : State) : Type 0 where
   pub is_open : IsTrue s.is_open
   pub autocommit : s.in_transaction ≡ false
-  pub settled : s.committed ≡ s.now
+  pub committed_is_now : s.committed ≡ s.now
 
 -- in a transaction over the tables of one schema, without rows, it makes those of the other
 abbrev pub CreatesTables : {S A : Type 0} → Ghosts S → Held S → Held S → Result A Error → (from to : Schema) → Type 0

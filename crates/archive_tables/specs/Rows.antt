@@ -88,11 +88,11 @@ numbered_indexed_messages trees = map (numbered_from_row indexed_message_from_ro
 
 -- the numbers of a list's messages, in mailbox order
 abbrev pub message_rowids_in : Trees → List ℕ → List ℤ
-message_rowids_in trees list = map (λ (r : NumberedRecord IndexedMessage). r.number) (filter (λ (r : NumberedRecord IndexedMessage). bytes_eq r.it.0.list list) (numbered_indexed_messages trees))
+message_rowids_in trees list = map (λ (r : NumberedRecord IndexedMessage). r.number) (filter (λ (r : NumberedRecord IndexedMessage). bytes_eq r.content.0.list list) (numbered_indexed_messages trees))
 
 -- the message of a number
 abbrev pub message_at : Trees → ℤ → Option Message
-message_at trees place = option_map (λ (r : NumberedRecord IndexedMessage). r.it.0) (find (λ (r : NumberedRecord IndexedMessage). int_eq r.number place) (numbered_indexed_messages trees))
+message_at trees place = option_map (λ (r : NumberedRecord IndexedMessage). r.content.0) (find (λ (r : NumberedRecord IndexedMessage). int_eq r.number place) (numbered_indexed_messages trees))
 
 -- a row of one column: the rowid of a message, its column `pos`
 abbrev pub rowid_result_row : ℤ → Row
@@ -101,7 +101,7 @@ rowid_result_row place = Int place ∷ []
 -- ---- the messages that are filed under a month or an author key, by the numbers of their rows
 
 abbrev pub was_sent_before : NumberedRecord IndexedMessage → NumberedRecord IndexedMessage → Bool
-was_sent_before r s = is_sent_before r.it s.it
+was_sent_before r s = is_sent_before r.content s.content
 
 -- a row before the first that was not sent before it
 abbrev pub with_dated_row : NumberedRecord IndexedMessage → List (NumberedRecord IndexedMessage) → List (NumberedRecord IndexedMessage)
@@ -115,13 +115,14 @@ rows_by_date (r ∷ rows) = with_dated_row r (rows_by_date rows)
 
 -- the numbers of the rows of which this holds
 abbrev pub message_rowids_where : (IndexedMessage → Bool) → Trees → List ℤ
-message_rowids_where wanted trees = map (λ (r : NumberedRecord IndexedMessage). r.number) (rows_by_date (filter (λ (r : NumberedRecord IndexedMessage). wanted r.it) (numbered_indexed_messages trees)))
+message_rowids_where wanted trees = map (λ (r : NumberedRecord IndexedMessage). r.number)
+    (rows_by_date (filter (λ (r : NumberedRecord IndexedMessage). wanted r.content) (numbered_indexed_messages trees)))
 
 -- the rowids of a list's messages that were sent in a month (year times 12 plus month less 1, in UTC), by sent date and then in
 -- mailbox order
-abbrev pub month_places : Trees → (list : List ℕ) → (month : ℤ) → List ℤ
-month_places trees list month = message_rowids_where (is_indexed_in_month list month) trees
+abbrev pub month_rowids : Trees → (list : List ℕ) → (month : ℤ) → List ℤ
+month_rowids trees list month = message_rowids_where (is_indexed_in_month list month) trees
 
 -- the rowids of a list's messages of an author key, by sent date and then in mailbox order
-abbrev pub author_places : Trees → (list key : List ℕ) → List ℤ
-author_places trees list key = message_rowids_where (is_indexed_by_author list key) trees
+abbrev pub author_rowids : Trees → (list key : List ℕ) → List ℤ
+author_rowids trees list key = message_rowids_where (is_indexed_by_author list key) trees

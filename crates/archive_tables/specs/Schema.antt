@@ -18,20 +18,20 @@ use Rattle.sqlite_value.specs.Keys.{plain}
 
 -- ---- the texts
 
-abbrev pub create_version : List ℕ
-create_version = codes "CREATE TABLE version (number INTEGER NOT NULL) STRICT"
+abbrev pub create_version_table : List ℕ
+create_version_table = codes "CREATE TABLE version (number INTEGER NOT NULL) STRICT"
 
-abbrev pub create_list : List ℕ
-create_list = codes "CREATE TABLE list (name TEXT NOT NULL PRIMARY KEY) STRICT"
+abbrev pub create_list_table : List ℕ
+create_list_table = codes "CREATE TABLE list (name TEXT NOT NULL PRIMARY KEY) STRICT"
 
-abbrev pub create_person : List ℕ
-create_person = codes "CREATE TABLE person (name TEXT NOT NULL PRIMARY KEY, token TEXT NOT NULL UNIQUE) STRICT"
+abbrev pub create_person_table : List ℕ
+create_person_table = codes "CREATE TABLE person (name TEXT NOT NULL PRIMARY KEY, token TEXT NOT NULL UNIQUE) STRICT"
 
-abbrev pub create_grant : List ℕ
-create_grant = codes "CREATE TABLE grant_row (person TEXT NOT NULL REFERENCES person (name), list TEXT NOT NULL REFERENCES list (name), kind INTEGER NOT NULL CHECK (kind BETWEEN 1 AND 3), from_day INTEGER NOT NULL CHECK (from_day BETWEEN -25567 AND 2932531), until_day INTEGER NOT NULL CHECK (until_day BETWEEN -25567 AND 2932531), PRIMARY KEY (person, list, kind), CHECK (from_day <= until_day)) STRICT"
+abbrev pub create_grant_table : List ℕ
+create_grant_table = codes "CREATE TABLE grant_row (person TEXT NOT NULL REFERENCES person (name), list TEXT NOT NULL REFERENCES list (name), kind INTEGER NOT NULL CHECK (kind BETWEEN 1 AND 3), from_day INTEGER NOT NULL CHECK (from_day BETWEEN -25567 AND 2932531), until_day INTEGER NOT NULL CHECK (until_day BETWEEN -25567 AND 2932531), PRIMARY KEY (person, list, kind), CHECK (from_day <= until_day)) STRICT"
 
-abbrev pub create_message : List ℕ
-create_message = codes "CREATE TABLE message (pos INTEGER PRIMARY KEY AUTOINCREMENT, list TEXT NOT NULL REFERENCES list (name), key TEXT NOT NULL, sender BLOB NOT NULL, arrival INTEGER NOT NULL, text BLOB NOT NULL, withdrawn INTEGER NOT NULL CHECK (withdrawn BETWEEN 0 AND 2), embargo INTEGER CHECK (embargo BETWEEN -25567 AND 2932531), sent INTEGER NOT NULL, month INTEGER NOT NULL, author BLOB NOT NULL, UNIQUE (list, key)) STRICT"
+abbrev pub create_message_table : List ℕ
+create_message_table = codes "CREATE TABLE message (pos INTEGER PRIMARY KEY AUTOINCREMENT, list TEXT NOT NULL REFERENCES list (name), key TEXT NOT NULL, sender BLOB NOT NULL, arrival INTEGER NOT NULL, text BLOB NOT NULL, withdrawn INTEGER NOT NULL CHECK (withdrawn BETWEEN 0 AND 2), embargo INTEGER CHECK (embargo BETWEEN -25567 AND 2932531), sent INTEGER NOT NULL, month INTEGER NOT NULL, author BLOB NOT NULL, UNIQUE (list, key)) STRICT"
 
 abbrev pub create_month_index : List ℕ
 create_month_index = codes "CREATE INDEX message_by_month ON message (list, month, sent, pos)"
@@ -39,11 +39,11 @@ create_month_index = codes "CREATE INDEX message_by_month ON message (list, mont
 abbrev pub create_author_index : List ℕ
 create_author_index = codes "CREATE INDEX message_by_author ON message (list, author, sent, pos)"
 
-abbrev pub create_option : List ℕ
-create_option = codes "CREATE TABLE list_option (list TEXT NOT NULL PRIMARY KEY REFERENCES list (name), merge INTEGER NOT NULL CHECK (merge BETWEEN 0 AND 1)) STRICT"
+abbrev pub create_option_table : List ℕ
+create_option_table = codes "CREATE TABLE list_option (list TEXT NOT NULL PRIMARY KEY REFERENCES list (name), merge INTEGER NOT NULL CHECK (merge BETWEEN 0 AND 1)) STRICT"
 
-abbrev pub create_address : List ℕ
-create_address = codes "CREATE TABLE address (person TEXT NOT NULL PRIMARY KEY REFERENCES person (name), address TEXT NOT NULL) STRICT"
+abbrev pub create_address_table : List ℕ
+create_address_table = codes "CREATE TABLE address (person TEXT NOT NULL PRIMARY KEY REFERENCES person (name), address TEXT NOT NULL) STRICT"
 
 -- ---- what they define: a tree for the rows of each table, and one for each key that is no rowid
 
@@ -201,12 +201,12 @@ schema_of_version number = if number == 1 then schema_1 else if number == 2 then
 -- ---- what is there after each of the texts, up to the last of version 1
 
 -- `version` comes first: its one row says which version the tables are of
-abbrev pub schema_with_version : Schema
-schema_with_version = created empty_schema version_table
+abbrev pub schema_with_version_table : Schema
+schema_with_version_table = created empty_schema version_table
 
 -- then `list`: the names of the mailing lists, no name twice
 abbrev pub schema_with_lists : Schema
-schema_with_lists = created schema_with_version list_table
+schema_with_lists = created schema_with_version_table list_table
 
 -- then `person`: names and bearer tokens, neither of them twice
 abbrev pub schema_with_persons : Schema

@@ -18,86 +18,86 @@ use Rattle.archive_tables.specs.Tables.{newest_version, person_cells, grant_cell
 -- the text of a statement, and what is put in for its parameters
 pub record Statement : Type 0 where
   pub sql : List ℕ
-  pub given : Row
+  pub parameters : Row
 
 abbrev pub insert_list_statement : List ℕ → Statement
-insert_list_statement name = record { sql = codes "INSERT INTO list (name) VALUES (?1)"; given = Text name ∷ [] }
+insert_list_statement name = record { sql = codes "INSERT INTO list (name) VALUES (?1)"; parameters = Text name ∷ [] }
 
 abbrev pub insert_person_statement : Person → Statement
-insert_person_statement p = record { sql = codes "INSERT INTO person (name, token) VALUES (?1, ?2)"; given = person_cells p }
+insert_person_statement p = record { sql = codes "INSERT INTO person (name, token) VALUES (?1, ?2)"; parameters = person_cells p }
 
 abbrev pub insert_grant_statement : Grant → Statement
 insert_grant_statement g = record {
   sql = codes "INSERT INTO grant_row (person, list, kind, from_day, until_day) VALUES (?1, ?2, ?3, ?4, ?5)";
-  given = grant_cells g;
+  parameters = grant_cells g;
 }
 
 -- the grant of the same person, list and rank gets the days of this one
 abbrev pub update_grant_statement : Grant → Statement
 update_grant_statement g = record {
   sql = codes "UPDATE grant_row SET from_day = ?4, until_day = ?5 WHERE person = ?1 AND list = ?2 AND kind = ?3";
-  given = grant_cells g;
+  parameters = grant_cells g;
 }
 
 abbrev pub delete_grant_statement : (person list : List ℕ) (rank : ℤ) → Statement
 delete_grant_statement person list rank = record {
   sql = codes "DELETE FROM grant_row WHERE person = ?1 AND list = ?2 AND kind = ?3";
-  given = Text person ∷ Text list ∷ Int rank ∷ [];
+  parameters = Text person ∷ Text list ∷ Int rank ∷ [];
 }
 
 -- it is neither withdrawn nor under embargo, whatever its marks say
 abbrev pub insert_message_statement : Message → IndexColumns → Statement
 insert_message_statement m filing = record {
   sql = codes "INSERT INTO message (list, key, sender, arrival, text, withdrawn, embargo, sent, month, author) VALUES (?1, ?2, ?3, ?4, ?5, 0, NULL, ?6, ?7, ?8)";
-  given = Text m.list ∷ Text m.key ∷ Blob m.sender ∷ Int m.arrival ∷ Blob m.text ∷ Int filing.sent ∷ Int filing.month ∷ Blob filing.author ∷ [];
+  parameters = Text m.list ∷ Text m.key ∷ Blob m.sender ∷ Int m.arrival ∷ Blob m.text ∷ Int filing.sent ∷ Int filing.month ∷ Blob filing.author ∷ [];
 }
 
 abbrev pub set_withdrawn_statement : (list key : List ℕ) (by : ℤ) → Statement
 set_withdrawn_statement list key by = record {
   sql = codes "UPDATE message SET withdrawn = ?3 WHERE list = ?1 AND key = ?2";
-  given = Text list ∷ Text key ∷ Int by ∷ [];
+  parameters = Text list ∷ Text key ∷ Int by ∷ [];
 }
 
 abbrev pub set_embargo_statement : (list key : List ℕ) (until : ℤ) → Statement
 set_embargo_statement list key until = record {
   sql = codes "UPDATE message SET embargo = ?3 WHERE list = ?1 AND key = ?2";
-  given = Text list ∷ Text key ∷ Int until ∷ [];
+  parameters = Text list ∷ Text key ∷ Int until ∷ [];
 }
 
 abbrev pub clear_embargo_statement : (list key : List ℕ) → Statement
-clear_embargo_statement list key = record { sql = codes "UPDATE message SET embargo = NULL WHERE list = ?1 AND key = ?2"; given = Text list ∷ Text key ∷ [] }
+clear_embargo_statement list key = record { sql = codes "UPDATE message SET embargo = NULL WHERE list = ?1 AND key = ?2"; parameters = Text list ∷ Text key ∷ [] }
 
 abbrev pub insert_option_statement : ListOption → Statement
-insert_option_statement o = record { sql = codes "INSERT INTO list_option (list, merge) VALUES (?1, ?2)"; given = option_cells o }
+insert_option_statement o = record { sql = codes "INSERT INTO list_option (list, merge) VALUES (?1, ?2)"; parameters = option_cells o }
 
 abbrev pub update_option_statement : ListOption → Statement
-update_option_statement o = record { sql = codes "UPDATE list_option SET merge = ?2 WHERE list = ?1"; given = option_cells o }
+update_option_statement o = record { sql = codes "UPDATE list_option SET merge = ?2 WHERE list = ?1"; parameters = option_cells o }
 
 abbrev pub insert_address_statement : Address → Statement
-insert_address_statement a = record { sql = codes "INSERT INTO address (person, address) VALUES (?1, ?2)"; given = address_cells a }
+insert_address_statement a = record { sql = codes "INSERT INTO address (person, address) VALUES (?1, ?2)"; parameters = address_cells a }
 
 abbrev pub update_address_statement : Address → Statement
-update_address_statement a = record { sql = codes "UPDATE address SET address = ?2 WHERE person = ?1"; given = address_cells a }
+update_address_statement a = record { sql = codes "UPDATE address SET address = ?2 WHERE person = ?1"; parameters = address_cells a }
 
 -- the texts of the schema
 
 abbrev creating : List ℕ → Statement
-creating text = record { sql = text; given = [] }
+creating text = record { sql = text; parameters = [] }
 
 abbrev pub create_version_statement : Statement
-create_version_statement = creating create_version
+create_version_statement = creating create_version_table
 
 abbrev pub create_list_statement : Statement
-create_list_statement = creating create_list
+create_list_statement = creating create_list_table
 
 abbrev pub create_person_statement : Statement
-create_person_statement = creating create_person
+create_person_statement = creating create_person_table
 
 abbrev pub create_grant_statement : Statement
-create_grant_statement = creating create_grant
+create_grant_statement = creating create_grant_table
 
 abbrev pub create_message_statement : Statement
-create_message_statement = creating create_message
+create_message_statement = creating create_message_table
 
 abbrev pub create_month_index_statement : Statement
 create_month_index_statement = creating create_month_index
@@ -106,22 +106,22 @@ abbrev pub create_author_index_statement : Statement
 create_author_index_statement = creating create_author_index
 
 abbrev pub create_option_statement : Statement
-create_option_statement = creating create_option
+create_option_statement = creating create_option_table
 
 abbrev pub create_address_statement : Statement
-create_address_statement = creating create_address
+create_address_statement = creating create_address_table
 
 -- the number of the newest version
 abbrev pub insert_version_statement : Statement
-insert_version_statement = record { sql = codes "INSERT INTO version (number) VALUES (?1)"; given = Int (pos newest_version) ∷ [] }
+insert_version_statement = record { sql = codes "INSERT INTO version (number) VALUES (?1)"; parameters = Int (pos newest_version) ∷ [] }
 
 -- the same in the place of an older one
 abbrev pub update_version_statement : Statement
-update_version_statement = record { sql = codes "UPDATE version SET number = ?1"; given = Int (pos newest_version) ∷ [] }
+update_version_statement = record { sql = codes "UPDATE version SET number = ?1"; parameters = Int (pos newest_version) ∷ [] }
 
 -- an option for each list
 abbrev pub backfill_options_statement : Statement
-backfill_options_statement = record { sql = codes "INSERT INTO list_option (list, merge) SELECT name, 1 FROM list ORDER BY rowid"; given = [] }
+backfill_options_statement = record { sql = codes "INSERT INTO list_option (list, merge) SELECT name, 1 FROM list ORDER BY rowid"; parameters = [] }
 
 -- ---- what SQL says of one
 
@@ -130,7 +130,7 @@ abbrev at_once : Mode
 at_once = record { keys = Enforced; in_doubt = false; may_wait = false }
 
 abbrev ends_as : Result Compiled CompileError → Statement → Database → Result (Tally × Database) (Option Error) → Type 0
-ends_as (Ok c) st db out = Does None at_once st.given db (text_of st.sql c) c.returning c.command out
+ends_as (Ok c) st db out = Does None at_once st.parameters db (text_of st.sql c) c.returning c.command out
 ends_as (Err e) st db out = ⊥
 
 -- how a statement may end on a database, but for want of memory and the disk

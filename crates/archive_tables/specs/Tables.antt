@@ -97,18 +97,18 @@ indexed_message_from_row row = (message_from_row row, index_columns_from_row row
 
 pub record NumberedRecord (R : Type 0) : Type 0 where
   pub number : ℤ
-  pub it : R
+  pub content : R
 
 abbrev pub numbered_row : {R : Type 0} → (R → Row) → NumberedRecord R → Row
-numbered_row cells r = Int r.number ∷ cells r.it
+numbered_row cells r = Int r.number ∷ cells r.content
 
 abbrev pub numbered_from_row : {R : Type 0} → (Row → R) → Row → NumberedRecord R
-numbered_from_row read row = record { number = id_in (rowid row); it = read row }
+numbered_from_row read row = record { number = id_in (rowid row); content = read row }
 
 -- rows of records, with rising numbers
 pub record HoldsRecords {R : Type 0} (cells : R → Row) (read : Row → R) (rows : List Row) : Type 0 where
-  pub round_trips : rows ≡ map (numbered_row cells) (map (numbered_from_row read) rows)
-  pub rise : IsTable rows
+  pub rows_read_back : rows ≡ map (numbered_row cells) (map (numbered_from_row read) rows)
+  pub is_table : IsTable rows
 
 -- no two are the same
 abbrev pub HaveDistinctKeys : {R : Type 0} → (R → R → Bool) → List R → Type 0
@@ -153,8 +153,8 @@ newest_version = 3
 
 -- a version that this program reads: the first to the newest
 pub record IsKnownVersion (number : ℕ) : Type 0 where
-  pub least : 1 ≤ number
-  pub most : number ≤ newest_version
+  pub at_least_one : 1 ≤ number
+  pub at_most_newest : number ≤ newest_version
 
 abbrev pub HoldsIf : Bool → Type 0 → Type 0
 HoldsIf true It = It
@@ -174,7 +174,7 @@ pub record AreTablesWithVersionRow (said : ℤ) (number : ℕ) (trees : Trees) :
   pub messages : HoldsRecords indexed_message_cells indexed_message_from_row (trees 8)
   pub grants_distinct : HaveDistinctKeys same_grant_key (map grant_from_row (trees 6))
   pub messages_distinct : HaveDistinctKeys same_message_key (map message_from_row (trees 8))
-  pub positive : HavePositiveRowids (trees 8)
+  pub rowids_are_positive : HavePositiveRowids (trees 8)
   pub options : HoldsSinceVersion 2 number (HoldsRecords option_cells option_from_row (trees 13))
   pub options_distinct : HoldsSinceVersion 2 number (HaveDistinctKeys same_option_key (map option_from_row (trees 13)))
   pub addresses : HoldsSinceVersion 3 number (HoldsRecords address_cells address_from_row (trees 15))
@@ -214,12 +214,12 @@ archive_of s = archive_in_trees s.now.trees
 -- The tables of a version: their schema, of which rows they are, and which archive these stand for.
 pub record TablesFormat : Type 1 where
   pub schema : Schema
-  pub IsOf : Trees → Type 0
-  pub remembered : Trees → Archive
+  pub AreTablesOf : Trees → Type 0
+  pub archive_of_trees : Trees → Archive
 
 -- a file of this version: its schema, its rows, and the archive that they stand for
 abbrev pub format_of_version : (number : ℕ) → TablesFormat
-format_of_version number = record { schema = schema_of_version number; IsOf = AreTablesOfVersion number; remembered = archive_of_version number }
+format_of_version number = record { schema = schema_of_version number; AreTablesOf = AreTablesOfVersion number; archive_of_trees = archive_of_version number }
 
 -- those that this program makes
 abbrev pub newest_format : TablesFormat
@@ -239,17 +239,17 @@ committed_database (Some db) now = db
 -- what is behind a transaction is an archive too
 abbrev pub RollbackLeavesArchive : TablesFormat → Option Database → Type 0
 RollbackLeavesArchive form None = ⊤
-RollbackLeavesArchive form (Some db) = (db.schema ≡ form.schema) × form.IsOf db.trees
+RollbackLeavesArchive form (Some db) = (db.schema ≡ form.schema) × form.AreTablesOf db.trees
 
 -- The premise on a database: it is open, with this behind it, and its schema and its tables are of this form, as this crate
 -- leaves them.
 pub record IsOpenArchiveInFormat (form : TablesFormat) (behind : Option Database) (s : State) : Type 0 where
   pub is_open : IsTrue s.is_open
   pub autocommit : s.in_transaction ≡ is_in_transaction behind
-  pub settled : s.committed ≡ committed_database behind s.now
+  pub committed_is : s.committed ≡ committed_database behind s.now
   pub schema : s.now.schema ≡ form.schema
-  pub tables : form.IsOf s.now.trees
-  pub whole : RollbackLeavesArchive form behind
+  pub tables : form.AreTablesOf s.now.trees
+  pub rollback_leaves_archive : RollbackLeavesArchive form behind
 
 -- The premise on a call, in a transaction or not: the newest version, open, and a rollback would leave an archive too.
 abbrev pub IsOpenArchive : Option Database → State → Type 0
@@ -263,7 +263,7 @@ IsArchiveAtRest = IsOpenArchive None
 pub record HasSchemaOfFormat (form : TablesFormat) (s : State) : Type 0 where
   pub is_open : IsTrue s.is_open
   pub autocommit : s.in_transaction ≡ false
-  pub settled : s.committed ≡ s.now
+  pub committed_is_now : s.committed ≡ s.now
   pub schema : s.now.schema ≡ form.schema
 
 -- an open file of the newest version's schema, outside a transaction; its rows may be damaged

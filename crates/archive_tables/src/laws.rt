@@ -5,8 +5,8 @@ ghost use Rattle.archive_model.specs.Questions.{messages_in};
 ghost use Rattle.archive_model.specs.Filing.{indexed_messages, messages_in_month, messages_by_author};
 ghost use Rattle.archive_model.specs.Damage.{sort_by_list_name};
 ghost use Rattle.archive_tables.specs.Tables.{AreArchiveTables, archive_in_trees};
-ghost use Rattle.archive_tables.specs.Rows.{message_rowids_in, month_places, author_places, message_at};
-ghost use Rattle.archive_tables.specs.Listed.{all_places, filed_at};
+ghost use Rattle.archive_tables.specs.Rows.{message_rowids_in, month_rowids, author_rowids, message_at};
+ghost use Rattle.archive_tables.specs.Listed.{all_rowids, filed_at};
 
 /// The messages of the numbers of a list are the list's messages, in mailbox order.
 pub fn a_walk_shows_each_message()
@@ -19,10 +19,10 @@ pub fn a_walk_shows_each_message()
 /// mailbox order.
 pub fn a_walk_shows_each_filed_message()
     ensures month { (trees : Trees) (list : List ℕ) (month : ℤ) → AreArchiveTables trees
-        → map (message_at trees) (month_places trees list month) ≡ map Some
+        → map (message_at trees) (month_rowids trees list month) ≡ map Some
         (messages_in_month (archive_in_trees trees) list month) }
     ensures author { (trees : Trees) (list key : List ℕ) → AreArchiveTables trees
-        → map (message_at trees) (author_places trees list key) ≡ map Some
+        → map (message_at trees) (author_rowids trees list key) ≡ map Some
         (messages_by_author (archive_in_trees trees) list key) }
 {}
 
@@ -30,5 +30,5 @@ pub fn a_walk_shows_each_filed_message()
 /// order.
 pub fn a_walk_shows_each_message_of_all_lists()
     ensures { (trees : Trees) → AreArchiveTables trees
-        → map (filed_at trees) (all_places trees) ≡ map Some (sort_by_list_name (indexed_messages (archive_in_trees trees))) }
+        → map (filed_at trees) (all_rowids trees) ≡ map Some (sort_by_list_name (indexed_messages (archive_in_trees trees))) }
 {}

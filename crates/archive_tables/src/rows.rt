@@ -65,7 +65,7 @@ pub fn read_name(row: &Row) -> Result<String, Error>
 }
 
 /// The number in a row that shows one.
-pub fn read_place(row: &Row) -> Result<i64, Error>
+pub fn read_rowid(row: &Row) -> Result<i64, Error>
     ensures read { IfOk result (λ place. (n : _) → row.now ≡ rowid_result_row n → place ≡ n) }
     ensures fault { IfErr result (λ e. (n : _) → row.now ≡ rowid_result_row n → e ≡ out_of_memory_error) }
 {
@@ -116,7 +116,7 @@ pub fn read_dated_marks(row: &Row) -> Result<DatedMarksRow, Error>
 }
 
 /// What is said of the threads of a list, in a row that shows it: whether they are gathered by subject.
-pub fn read_merge(row: &Row) -> Result<bool, Error>
+pub fn read_merges_by_subject(row: &Row) -> Result<bool, Error>
     ensures read { IfOk result (λ merge. (o : ListOption) → row.now ≡ merge_result_row o
         → merge ≡ o.merge) }
     ensures fault { IfErr result (λ e. (o : ListOption) → row.now ≡ merge_result_row o → e ≡ out_of_memory_error) }

@@ -8,13 +8,13 @@ use Rattle.clap.specs.declared.builder.Command.TheViews.{out-Command}
 
 -- how a command reads words; none of its arguments is also its subcommands'
 pub record CommandParsesAsApp (app : App) (command : Command) : Type 0 where
-  pub reads : app_of command ≡ app
-  pub local : (out-Command command).has_globals ≡ false
+  pub app_is : app_of command ≡ app
+  pub has_no_globals : (out-Command command).has_globals ≡ false
 
 -- how an argument reads words; it is not also the subcommands'
 pub record ArgParsesByRule (rule : Rule) (arg : Arg) : Type 0 where
-  pub reads : rule_of arg ≡ rule
-  pub local : arg.global ≡ false
+  pub rule_is : rule_of arg ≡ rule
+  pub is_not_global : arg.global ≡ false
 
 -- an argument with one value
 unfoldable pub valued_rule : Text → Rule

@@ -7,7 +7,7 @@ pub use devices::{DeviceFailure, Sink, Source};
 pub use reading::{ReadError, read_all};
 pub use tap::Tap;
 pub use told::Transcript;
-pub use writing::{WriteFault, write_bytes, write_two};
+pub use writing::{WriteFault, write_bytes, write_two_slices};
 
 mod counted;
 mod devices;

@@ -34,7 +34,7 @@ pub fn write_bytes<W: Sink>(out: &mut W, bytes: &[u8]) -> Result<(), WriteFault>
 }
 
 /// Writes two pieces, one after the other: `written` counts over both.
-pub fn write_two<W: Sink>(out: &mut W, first: &[u8], second: &[u8]) -> Result<(), WriteFault>
+pub fn write_two_slices<W: Sink>(out: &mut W, first: &[u8], second: &[u8]) -> Result<(), WriteFault>
     requires { length first.now + length second.now < 2 ^ 64 }
     ensures ok { OnOk result (W.told out.new ≡ W.told out.old ++ (first.now ++ second.now)) }
     ensures fault { IfErr result (λ e. (e.written ≤ length (first.now ++ second.now))

@@ -15,7 +15,7 @@ pub fn each_day_has_one_date()
 {}
 
 /// What is written of a day, of a month and of the month of an instant is read again.
-pub fn texts_are_read_again()
+pub fn texts_round_trip()
     ensures day { (day : ℤ) → is_day day ≡ true → day_of_text (day_text day) ≡ Some day }
     ensures month { (month : ℕ) → is_month month ≡ true → month_of_text (month_text month) ≡ Some month }
     ensures instant { (instant : ℤ) → is_instant instant ≡ true →

@@ -118,8 +118,8 @@ pub part_of : {S : Type 0} (g : Ghosts S) (ask : Ask) (text : List ℕ) (old ask
     → StoreHasCleanDisk g new → IsReady g old → length after < 2 ^ 64
     → (b : Archive) × HasImported ask text (archive_in g old) b × AppendsPrefixOfText before after (exported_text b ask) count
 part_of g ask text old asked new left lasts before after count part = λ returned ready fits.
-    let it = left.1 (lasts.returned returned) ready in
-    (archive_in g asked, it.1, part returned it.0.held fits)
+    let it = left.1 (lasts.disk_was_clean returned) ready in
+    (archive_in g asked, it.1, part returned it.0.is_archive_at_rest fits)
 
 -- ---- all three are told
 
@@ -147,11 +147,11 @@ module _ {S : Type 0} (g : Ghosts S) (ask : Ask) (text : List ℕ) (month : ℕ)
   written_then a b c one two =
       let it = subst (Both a) (sym two.0) one in
       record {
-        imported = it.0;
+        imports = it.0;
         not_refused = it.1;
-        listed = it.2;
-        written = subst (λ x. after ≡ before ++ exported_text x ask) (sym two.0) two.2;
-        counted = subst (λ x. told.count ≡ min (length (exported_text x ask)) (2 ^ 64 - 1)) (sym two.0) two.3;
+        lines_are = it.2;
+        writes_export = subst (λ x. after ≡ before ++ exported_text x ask) (sym two.0) two.2;
+        exported_length_is = subst (λ x. told.count ≡ min (length (exported_text x ask)) (2 ^ 64 - 1)) (sym two.0) two.3;
       }
 
   pub all_told : RelatesReadyArchives g old mid Imported → RelatesReadyArchives g mid asked Listed → RelatesReadyArchives g asked new Written

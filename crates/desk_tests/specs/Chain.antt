@@ -19,11 +19,11 @@ use Rattle.desk_tests.specs.declared.chain.Told.{Told}
 
 -- All three were answered: the file was imported, and the lines, the text and the count are those of the archive that it left.
 pub record ImportsListsAndExports (ask : Ask) (text : List ℕ) (month : ℕ) (before after : List ℕ) (a b : Archive) (told : Told) : Type 0 where
-  pub imported : IsImported ask.list text a b told.report
+  pub imports : IsImported ask.list text a b told.report
   pub not_refused : ask_reason b ask ≡ None
-  pub listed : told.lines.items ≡ month_lines month (map shown_message (view_of b ask))
-  pub written : after ≡ before ++ exported_text b ask
-  pub counted : told.count ≡ min (length (exported_text b ask)) (2 ^ 64 - 1)
+  pub lines_are : told.lines.items ≡ month_lines month (map shown_message (view_of b ask))
+  pub writes_export : after ≡ before ++ exported_text b ask
+  pub exported_length_is : told.count ≡ min (length (exported_text b ask)) (2 ^ 64 - 1)
 
 -- Why they stopped, where neither memory nor the database was at fault: after so many messages of the file, in the month, or
 -- after so many bytes of the export.

@@ -63,9 +63,9 @@ unfolding ruling_on
 hides rest text is = record {
   rules = hiding rest;
   is_policy = is;
-  withdrawn = λ ask reader marks by none some.
+  hides_withdrawn = λ ask reader marks by none some.
       subst (λ (rules : List Rule). is_allowed_ruling (verdict_of rules (policy_facts_of ask reader marks)) ≡ false) (sym by) (withdrawn_hidden rest (policy_facts_of ask reader marks) none some);
-  held_back = λ ask reader marks by none on.
+  hides_embargoed = λ ask reader marks by none on.
       subst (λ (rules : List Rule). is_allowed_ruling (verdict_of rules (policy_facts_of ask reader marks)) ≡ false) (sym by) (held_back_hidden rest (policy_facts_of ask reader marks) none on);
 }
 
@@ -88,9 +88,9 @@ rules_in (Err fault) = []
 
 pub promised : (text : List ℕ) (ask : Ask) (reader : ReaderFacts) → HidesFromAllButModerators text → written_policy text ≡ Ok ask.rules
     → reader.standing ≢ Moderator → DeniesWithdrawn ask reader
-promised text ask reader hidden is none = λ marks some other. hidden.withdrawn ask reader marks (ap rules_in (sym is ∙ hidden.is_policy)) none some
+promised text ask reader hidden is none = λ marks some other. hidden.hides_withdrawn ask reader marks (ap rules_in (sym is ∙ hidden.is_policy)) none some
 
 pub held_back : (text : List ℕ) (ask : Ask) (reader : ReaderFacts) (until : ℤ) → HidesFromAllButModerators text → written_policy text ≡ Ok ask.rules
     → reader.standing ≢ Moderator → int_lt ask.day until ≡ true → DeniesEmbargoed until ask reader
 held_back text ask reader until hidden is none early =
-    λ marks marked other. hidden.held_back ask reader marks (ap rules_in (sym is ∙ hidden.is_policy)) none (ap (is_before_until ask.day) marked ∙ early)
+    λ marks marked other. hidden.hides_embargoed ask reader marks (ap rules_in (sym is ∙ hidden.is_policy)) none (ap (is_before_until ask.day) marked ∙ early)

@@ -29,7 +29,7 @@ members_text =
 pub record HidesFromAllButModerators (text : List ℕ) : Type 0 where
   pub rules : List Rule
   pub is_policy : written_policy text ≡ Ok rules
-  pub withdrawn : (ask : Ask) (reader : ReaderFacts) (marks : MessageFacts) → ask.rules ≡ rules → reader.standing ≢ Moderator
+  pub hides_withdrawn : (ask : Ask) (reader : ReaderFacts) (marks : MessageFacts) → ask.rules ≡ rules → reader.standing ≢ Moderator
       → marks.withdrawn ≢ No → policy_allows ask reader marks ≡ false
-  pub held_back : (ask : Ask) (reader : ReaderFacts) (marks : MessageFacts) → ask.rules ≡ rules → reader.standing ≢ Moderator
+  pub hides_embargoed : (ask : Ask) (reader : ReaderFacts) (marks : MessageFacts) → ask.rules ≡ rules → reader.standing ≢ Moderator
       → is_embargoed (policy_facts_of ask reader marks) ≡ true → policy_allows ask reader marks ≡ false

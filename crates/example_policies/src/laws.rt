@@ -8,7 +8,7 @@ ghost use Rattle.example_policies.specs.Samples.{HidesFromAllButModerators, memb
 
 /// Under each sample policy a message that was withdrawn, or is held back on the day, is denied to everybody but the moderators of
 /// its list, also to whoever wrote it. So what is promised of withdrawn messages, and of those held back, is promised to all of them.
-pub fn the_sample_policies_hide_what_is_withheld()
+pub fn the_sample_policies_hide_withheld_messages()
     ensures seeds { HidesFromAllButModerators seeds_text }
     ensures members { HidesFromAllButModerators members_text }
     ensures promised { (text : List ℕ) (ask : Ask) (reader : ReaderFacts) → HidesFromAllButModerators text

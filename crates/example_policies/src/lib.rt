@@ -3,4 +3,4 @@
 
 mod laws;
 
-pub use laws::the_sample_policies_hide_what_is_withheld;
+pub use laws::the_sample_policies_hide_withheld_messages;

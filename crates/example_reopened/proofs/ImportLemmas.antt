@@ -38,5 +38,5 @@ module _ {D : Type 0} {g : DiskGhosts D} (files : Files D) (mid new : Store (Fil
       → RelatesTableArchivesIfOpen over_files mid new (λ a b. b ≡ a) → (StoreHasCleanDisk over_files new → HoldsTables over_files mid → Says (archive_in over_files mid))
       → IsTrueOfImportedArchive files new list text report Says
   of_imported report Says before goes says returned archive held =
-      let here = before (goes.0.returned returned) archive held in
-      (archive_in over_files mid, here.1, says returned here.0.held)
+      let here = before (goes.0.disk_was_clean returned) archive held in
+      (archive_in over_files mid, here.1, says returned here.0.is_archive_at_rest)

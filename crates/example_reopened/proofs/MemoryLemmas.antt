@@ -41,9 +41,9 @@ AreItems = (bytes : List ℕ) (items : List Item) → DividesIntoItems bytes ite
 
 pub can_be_read : TakesIn → StepsOn → AreItems → (it : Withdrawal) (a b : Archive) (report : Report) → ImportsAndWithdraws it a b report → CanBeRead a → CanBeRead b
 can_be_read takes steps items it a b report made can =
-    let here = subst CanBeRead (sym made.is_imported.added.archive_is)
-    (takes a it.list.now made.is_imported.items (items it.mbox.now made.is_imported.items made.is_imported.divided) can) in
-    subst CanBeRead (sym (ap (λ (o : StepOutcome). o.0) made.withdrawn)) (steps made.imported (withdraw_command_of it) (it.by, refl) here)
+    let here = subst CanBeRead (sym made.is_imported.adds_all.archive_is)
+    (takes a it.list.now made.is_imported.items (items it.mbox.now made.is_imported.items made.is_imported.divides_into_items) can) in
+    subst CanBeRead (sym (ap (λ (o : StepOutcome). o.0) made.withdraws)) (steps made.imported (withdraw_command_of it) (it.by, refl) here)
 
 -- ---- 503
 
@@ -64,14 +64,15 @@ module _ (refused : IsRefused) (followed : IsFollowed) (takes : TakesIn) (steps 
     wanting ready free can behind bad =
         let made = behind.withdrawn.1 (memory_is_clean (store_connection behind.found)) ready in
         let readable = can_be_read takes steps items it (archive_in over_memory old) (archive_in over_memory behind.found) report made.1 can in
-        let unlimited : HasNoStepLimit over_memory behind.found = behind.withdrawn.0.limit ∙ free in
-        let on = followed behind.found behind.ends.between answered.first behind.ends.first_ends.stays in
-        let later = on.1 (memory_is_clean (store_connection behind.ends.between)) made.0.held in
+        let unlimited : HasNoStepLimit over_memory behind.found = behind.withdrawn.0.step_limit_is_same ∙ free in
+        let on = followed behind.found behind.ends.store_between answered.first behind.ends.first_ends.stays in
+        let later = on.1 (memory_is_clean (store_connection behind.ends.store_between)) made.0.is_archive_at_rest in
         let grown = behind.ends.second_error_cause.0 in
         elim bad [
-          | inl one ↦ let more = refused behind.found behind.ends.between answered.first (gives.told first.input) (gives.told first'.input) rules day made.0.held
+          | inl one ↦ let more = refused behind.found behind.ends.store_between answered.first (gives.told first.input)
+              (gives.told first'.input) rules day made.0.is_archive_at_rest
               unlimited readable behind.ends.first_error_cause one in omega (arith, more, grown)
-          | inr other ↦ let more = refused behind.ends.between new answered.second (gives.told second.input) (gives.told second'.input) rules day later.0
-              (on.0.limit ∙ unlimited) (subst CanBeRead (sym later.1) readable)
+          | inr other ↦ let more = refused behind.ends.store_between new answered.second (gives.told second.input) (gives.told second'.input) rules day later.0
+              (on.0.step_limit_is_same ∙ unlimited) (subst CanBeRead (sym later.1) readable)
               behind.ends.second_error_cause other in omega (arith, more)
         ]

@@ -28,8 +28,8 @@ module _ {D : Type 0} {g : DiskGhosts D} (files : Files D) where
     -- what a call says of the archive that the store remembers
     pub serves_held_archive : (Says : Archive → Type 0) → (StoreHasCleanDisk over_files new → HoldsTables over_files mid → Says (archive_in over_files mid)) → IsTrueOfArchiveInFiles files new Says
     serves_held_archive Says says returned archive held =
-        let it = leads_to files mid takes (lasts.returned returned) archive held in
-        subst Says it.1 (says returned it.0.held)
+        let it = leads_to files mid takes (lasts.disk_was_clean returned) archive held in
+        subst Says it.1 (says returned it.0.is_archive_at_rest)
 
     -- why 503 went out
     pub caused_since : (result : Result ℕ ServeFault) (told_before told_after : List ℕ) (rules : List Rule) (day : ℤ) → HasNoStepLimit over_files mid

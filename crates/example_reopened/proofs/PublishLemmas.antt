@@ -62,11 +62,11 @@ module _ (takes : TakesIn) (steps : StepsOn) (items : AreItems) {D R W : Type 0}
   caused_behind (inl one) = elim (ends.first_error_cause.1 one) [
     | inl more ↦ let grown = ends.second_error_cause.0 in inl (omega (arith, more, grown))
     | inr why ↦ inr (λ returned before held.
-        let later = ends.second_ends.stays.same.0 in
-        let was = later.returned returned in
-        let here = leads (ends.first_ends.stays.same.0.returned was) before held in
-        let faults = later.shut.faults in
-        elim (why was here.0.held free) [
+        let later = ends.second_ends.stays.archive_is_same.0 in
+        let was = later.disk_was_clean returned in
+        let here = leads (ends.first_ends.stays.archive_is_same.0.disk_was_clean was) before held in
+        let faults = later.closes_only_by_fault.faults_never_fall in
+        elim (why was here.0.is_archive_at_rest free) [
           | inl more ↦ inl (omega (arith, more, faults))
           | inr bad ↦ inr (unread before (archive_in over_files found) (gives.told first.input) (gives.told first'.input) refl here.1 bad)
         ])
@@ -74,15 +74,15 @@ module _ (takes : TakesIn) (steps : StepsOn) (items : AreItems) {D R W : Type 0}
   caused_behind (inr other) = elim (ends.second_error_cause.1 other) [
     | inl more ↦ inl (omega (arith, more))
     | inr why ↦ inr (λ returned before held.
-        let later = ends.second_ends.stays.same.0 in
-        let was = later.returned returned in
-        let here = leads (ends.first_ends.stays.same.0.returned was) before held in
-        let faults = later.shut.faults in
-        elim (ends.first_ends.stays.same.0.shut.stays_open was here.0.held.is_open) [
-          | inl up ↦ let there = ends.first_ends.stays.same.1 was here.0.held up in
-              elim (why returned there.0 (ends.first_ends.stays.same.0.limit ∙ free)) [
+        let later = ends.second_ends.stays.archive_is_same.0 in
+        let was = later.disk_was_clean returned in
+        let here = leads (ends.first_ends.stays.archive_is_same.0.disk_was_clean was) before held in
+        let faults = later.closes_only_by_fault.faults_never_fall in
+        elim (ends.first_ends.stays.archive_is_same.0.closes_only_by_fault.stays_open was here.0.is_archive_at_rest.is_open) [
+          | inl up ↦ let there = ends.first_ends.stays.archive_is_same.1 was here.0.is_archive_at_rest up in
+              elim (why returned there.0 (ends.first_ends.stays.archive_is_same.0.step_limit_is_same ∙ free)) [
                 | inl more ↦ inl (omega (arith, more))
-                | inr bad ↦ inr (unread before (archive_in over_files ends.between) (gives.told second.input) (gives.told second'.input) there.1 here.1 bad)
+                | inr bad ↦ inr (unread before (archive_in over_files ends.store_between) (gives.told second.input) (gives.told second'.input) there.1 here.1 bad)
               ]
           | inr more ↦ inl (omega (arith, more, faults))
         ])

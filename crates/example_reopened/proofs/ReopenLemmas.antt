@@ -33,7 +33,7 @@ AreAlike {D} g = (closed opened : Held (FileStore D g)) (files : Files D) (archi
     → (AreClean g files.log files.db → IsCopied closed files) → Finds files opened → IsOpened opened → HoldsArchive over_files opened archive
 
 newest_known : IsKnownVersion newest_version
-newest_known = record { least = omega (arith); most = omega (arith) }
+newest_known = record { at_least_one = omega (arith); at_most_newest = omega (arith) }
 
 module _ {D : Type 0} {g : DiskGhosts D} where
   -- ---- closed, and opened again
@@ -44,17 +44,17 @@ module _ {D : Type 0} {g : DiskGhosts D} where
       → IsOpenArchiveInFormat (format_of_version number) None (file_state opened) × ((file_state opened).now.trees ≡ (file_state closed).now.trees)
   tables_again number closed opened files held live copied found opens =
       let trees : (file_state opened).now.trees ≡ (file_state closed).now.trees =
-      ap (λ (db : Database). db.trees) opens.0.clean ∙ finds_again closed opened files copied found ∙ ap (λ (db : Database). db.trees) held.settled in
+      ap (λ (db : Database). db.trees) opens.0.clean ∙ finds_again closed opened files copied found ∙ ap (λ (db : Database). db.trees) held.committed_is in
       let before = (live held.is_open).0.lists in
       let after = (opens.1 opens.0.is_open).0.lists in
       let schema = lists_once _ _ _ (subst (λ (db : Trees). Lists (db catalog_tree) (file_state opened).now.schema) trees after) before in (
         record {
           is_open = opens.0.is_open;
           autocommit = opens.0.autocommit;
-          settled = sym opens.0.clean;
+          committed_is = sym opens.0.clean;
           schema = schema ∙ held.schema;
           tables = subst (AreTablesOfVersion number) (sym trees) held.tables;
-          whole = tt;
+          rollback_leaves_archive = tt;
         },
         trees,
       )
@@ -73,8 +73,8 @@ module _ {D : Type 0} {g : DiskGhosts D} where
       → (archive : Archive) → FilesHoldClosedRows g files archive → HoldsTables over_files store × (archive_in over_files store ≡ archive)
   rows_to files store takes returned archive held =
       let (opened, found, opens, brought) = takes returned in
-      let again = tables_again held.number held.closed opened files held.tables held.live held.copied found opens in
-      let it = brought held.number held.known again.0 in
+      let again = tables_again held.number held.closed_connection opened files held.tables held.is_live held.is_copied found opens in
+      let it = brought held.number held.is_known_version again.0 in
       (it.0, it.1 ∙ ap (archive_of_version held.number) again.1 ∙ held.rows_stand_for_archive)
 
   -- so it remembers what the files held
@@ -87,13 +87,13 @@ module _ {D : Type 0} {g : DiskGhosts D} where
     -- after a call
     pub leads_on : (R : Archive → Archive → Type 0) → RelatesFilesToStore files mid (λ a b. b ≡ a) → RelatesReadyArchives over_files mid new R → RelatesFilesToStore files new R
     leads_on R before goes returned archive held =
-        let here = before (goes.0.returned returned) archive held in
+        let here = before (goes.0.disk_was_clean returned) archive held in
         let there = goes.1 returned here.0 in
         (there.0, subst (λ a. R a (archive_in over_files new)) here.1 there.1)
 
     pub leads_on_if_open : (R : Archive → Archive → Type 0) → RelatesFilesToStore files mid (λ a b. b ≡ a) → RelatesReadyArchivesIfOpen over_files mid new R → RelatesFilesToOpenStore files new R
     leads_on_if_open R before goes returned archive held up =
-        let here = before (goes.0.returned returned) archive held in
+        let here = before (goes.0.disk_was_clean returned) archive held in
         let there = goes.1 returned here.0 up in
         (there.0, subst (λ a. R a (archive_in over_files new)) here.1 there.1)
 
@@ -107,8 +107,8 @@ module _ {D : Type 0} {g : DiskGhosts D} where
     -- and after a request
     pub leads_still : (R : Archive → Archive → Type 0) → RelatesFilesToStore files mid R → RelatesTableArchivesIfOpen over_files mid new (λ a b. b ≡ a) → RelatesFilesToOpenStore files new R
     leads_still R before goes returned archive held up =
-        let here = before (goes.0.returned returned) archive held in
-        let there = goes.1 returned here.0.held up in
+        let here = before (goes.0.disk_was_clean returned) archive held in
+        let there = goes.1 returned here.0.is_archive_at_rest up in
         (ready_with over_files new (archive_in over_files mid) there.0 there.1 here.0.is_indexed_correctly, subst (λ b. R archive b) (sym there.1) here.1)
 
 -- ---- closed and opened again
@@ -121,23 +121,23 @@ module _ {D : Type 0} {g : DiskGhosts D} (store again : Store (FileStore D g)) w
         opened,
         files,
         record {
-          live = live;
-          copied = copied;
-          found = found;
-          opens = opens;
-          adopted = λ archive holds now. let it = brought newest_version newest_known holds.0 in (it.0, it.1 ∙ holds.1);
+          is_live = live;
+          is_copied = copied;
+          finds_files = found;
+          is_opened = opens;
+          keeps_archive = λ archive holds now. let it = brought newest_version newest_known holds.0 in (it.0, it.1 ∙ holds.1);
         },
       )
 
   -- so it remembers the same archive
   pub remembers : AreAlike g → WasReopened store again → RemembersSameArchive store again
   remembers law was = (
-    λ returned. let it = (was returned).2 in (it.copied it.found.honest).was_clean,
+    λ returned. let it = (was returned).2 in (it.is_copied it.finds_files.honest).was_clean,
     λ returned ready.
         let it = (was returned).2 in
-        let holds = law (store_connection store) (was returned).0 (was returned).1 (archive_in over_files store) (ready.held, refl, ready.is_indexed_correctly)
-        it.live it.copied it.found it.opens in
-        let is = it.adopted (archive_in over_files store) holds returned in
+        let holds = law (store_connection store) (was returned).0 (was returned).1 (archive_in over_files store) (ready.is_archive_at_rest, refl, ready.is_indexed_correctly)
+        it.is_live it.is_copied it.finds_files it.is_opened in
+        let is = it.keeps_archive (archive_in over_files store) holds returned in
         (ready_with over_files again (archive_in over_files store) is.0 is.1 ready.is_indexed_correctly, is.1),
   )
 
@@ -146,18 +146,18 @@ module _ {D : Type 0} {g : DiskGhosts D} (store again : Store (FileStore D g)) w
 module _ {D : Type 0} {g : DiskGhosts D} (old mid new : Store (FileStore D g)) (same : RemembersSameArchive old mid) where
   goes_again : (R : Archive → Archive → Type 0) → RelatesReadyArchives over_files mid new R → RelatesAcrossReopen old new R
   goes_again R goes = (
-    λ returned. same.0 (goes.0.returned returned),
+    λ returned. same.0 (goes.0.disk_was_clean returned),
     λ returned ready.
-        let here = same.1 (goes.0.returned returned) ready in
+        let here = same.1 (goes.0.disk_was_clean returned) ready in
         let there = goes.1 returned here.0 in
         (there.0, subst (λ a. R a (archive_in over_files new)) here.1 there.1),
   )
 
   goes_again_if_open : (R : Archive → Archive → Type 0) → RelatesReadyArchivesIfOpen over_files mid new R → RelatesAcrossReopenIfOpen old new R
   goes_again_if_open R goes = (
-    λ returned. same.0 (goes.0.returned returned),
+    λ returned. same.0 (goes.0.disk_was_clean returned),
     λ returned ready up.
-        let here = same.1 (goes.0.returned returned) ready in
+        let here = same.1 (goes.0.disk_was_clean returned) ready in
         let there = goes.1 returned here.0 up in
         (there.0, subst (λ a. R a (archive_in over_files new)) here.1 there.1),
   )

@@ -129,7 +129,7 @@ route_is a b same = cc
 
 openly : IsAnonymousListRequest the_mbox
 openly = record {
-  public = λ token path is. token_is None token (codes "/l/soc/mbox") path is;
-  listing = λ token path route is where_to.
+  has_no_token = λ token path is. token_is None token (codes "/l/soc/mbox") path is;
+  asks_for_no_message = λ token path route is where_to.
       ap is_message_route (route_is (mbox soc) route (sym (ap route_of (path_is None token (codes "/l/soc/mbox") path is)) ∙ where_to));
 }

@@ -55,7 +55,7 @@ module _ (archive : Archive) (rules : List Rule) (day : ℤ) (list key : List �
 
   others : (head : RequestHead) → IsAnonymousListRequest head → IsAskedByOthers (DeniesWithdrawnBy (withdrawn_state_by by)) archive rules day head list key
   others head asker reader route asked asks names =
-      of_nobody asked reader (nobody archive asks.token reader (asker.public asks.token asks.path asks.request) asks.who)
+      of_nobody asked reader (nobody archive asks.token reader (asker.has_no_token asks.token asks.path asks.request_is) asks.reader_is)
 
 party_marked : (by : WithdrawnBy) → (withdrawal_number (withdrawn_state_by by) ≡ withdrawn_by_number by) × (withdrawn_state_by by ≢ No)
 party_marked Author = (refl, λ same. absurd (cc))
@@ -69,7 +69,7 @@ replies_hide_message promise it imported after is rules day head asker denies =
     let whole : (after, done) ≡ step imported (withdraw it.list.now it.key.now (withdrawal_number (withdrawn_state_by it.by))) =
     is ∙ ap (λ n. step imported (withdraw it.list.now it.key.now n)) (sym number) in
     ap (λ (o : StepOutcome). reply_of o.0 rules day head) whole
-    ∙ promise imported rules day head it.list.now it.key.now (withdrawn_state_by it.by) some (sym (ap (λ (o : StepOutcome). o.1) whole)) asker.listing
+    ∙ promise imported rules day head it.list.now it.key.now (withdrawn_state_by it.by) some (sym (ap (λ (o : StepOutcome). o.1) whole)) asker.asks_for_no_message
     (others imported rules day it.list.now it.key.now it.by denies head asker)
 
 -- ---- the two commands
@@ -83,7 +83,7 @@ module _ {S : Type 0} (g : Ghosts S) (old mid new : Store S) (it : Withdrawal) (
       → RelatesReadyArchives g old new (λ a c. ImportsAndWithdraws it a c report)
   withdrawn promise clause =
       goes_as g old new (λ a c. (b : Archive) × Imports a b × ((c, done) ≡ step b (withdraw_command_of it))) (λ a c. ImportsAndWithdraws it a c report)
-      (λ a c (b, imported, is). record { imported = b; is_imported = imported; withdrawn = is; replies_hide_message = replies_hide_message promise it b c is })
+      (λ a c (b, imported, is). record { imported = b; is_imported = imported; withdraws = is; replies_hide_message = replies_hide_message promise it b c is })
       (goes_on g old mid new Imports (λ b c. (c, done) ≡ step b (withdraw_command_of it)) first
       (stepped g mid new lasts (λ a. step a (withdraw_command_of it)) (Some done) done (step_right (withdraw_command_of it)) refl clause))
 

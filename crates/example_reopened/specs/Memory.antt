@@ -11,6 +11,6 @@ use Rattle.archive_store.specs.declared.store.Store.{Store}
 
 -- It is ready, and remembers what the commands made of an empty archive; no limit is set on the steps of a query.
 pub record HoldsArchiveOfCommands (commands : List Command) (store : Store MemStore) : Type 0 where
-  pub ready : IsReady over_memory store
-  pub remembers : archive_in over_memory store ≡ (run empty_archive (map spec_command commands)).archive
-  pub unlimited : HasNoStepLimit over_memory store
+  pub is_ready : IsReady over_memory store
+  pub archive_is : archive_in over_memory store ≡ (run empty_archive (map spec_command commands)).archive
+  pub has_no_step_limit : HasNoStepLimit over_memory store

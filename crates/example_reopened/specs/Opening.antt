@@ -43,7 +43,7 @@ module _ {D : Type 0} {g : Ghosts D} (files : Files D) (store : Store (FileStore
   -- How an answer ends that a store gives which was just opened from the files: it still remembers what they held, if its connection
   -- is open; no direction failed where a reply went out, and each fault has its cause, and 503 and S3 too.
   pub record EndsAnswerAfterOpening {R W : Type 0} (gives : Gives R) (takes : Takes W) (before after : Client R W) (result : Result ℕ ServeFault) : Type 0 where
-    pub stays : RelatesFilesToOpenStore files store (λ a b. b ≡ a)
-    pub quiet : OnOk result (ClientMeetsNoFailure gives takes before after)
+    pub archive_is_kept : RelatesFilesToOpenStore files store (λ a b. b ≡ a)
+    pub no_failure_if_ok : OnOk result (ClientMeetsNoFailure gives takes before after)
     pub cause : IfErr result (λ fault. HasClientFaultCause gives takes before after fault)
-    pub caused : Sent503OrBrokeOff result → Has503OrS3Cause
+    pub fault_has_cause : Sent503OrBrokeOff result → Has503OrS3Cause

@@ -26,12 +26,12 @@ use Rattle.archive_pages.specs.Reopened.{IsReopened}
 -- archive, whatever is filed of a message.
 pub record FilesHoldClosedRows {D : Type 0} (g : Ghosts D) (files : Files D) (archive : Archive) : Type 0 where
   pub number : ℕ
-  pub known : IsKnownVersion number
-  pub closed : Held (FileStore D g)
-  pub tables : IsOpenArchiveInFormat (format_of_version number) None (file_state closed)
-  pub rows_stand_for_archive : archive_of_version number (file_state closed).now.trees ≡ archive
-  pub live : IsLive (file_state closed)
-  pub copied : AreClean g files.log files.db → IsCopied closed files
+  pub is_known_version : IsKnownVersion number
+  pub closed_connection : Held (FileStore D g)
+  pub tables : IsOpenArchiveInFormat (format_of_version number) None (file_state closed_connection)
+  pub rows_stand_for_archive : archive_of_version number (file_state closed_connection).now.trees ≡ archive
+  pub is_live : IsLive (file_state closed_connection)
+  pub is_copied : AreClean g files.log files.db → IsCopied closed_connection files
 
 -- The files hold this archive, of whatever version: the same, and what is filed of each message is what its text says.
 pub record FilesHoldClosedArchive {D : Type 0} (g : Ghosts D) (files : Files D) (archive : Archive) : Type 0 where

@@ -41,8 +41,8 @@ withdrawn_state_by Board = marks.Board
 
 -- a request without a token, for anything but one message by its key
 pub record IsAnonymousListRequest (head : RequestHead) : Type 0 where
-  pub public : (token : Option (List ℕ)) (path : List ℕ) → request_of head ≡ asks token path → token ≡ None
-  pub listing : AsksForNoMessage head
+  pub has_no_token : (token : Option (List ℕ)) (path : List ℕ) → request_of head ≡ asks token path → token ≡ None
+  pub asks_for_no_message : AsksForNoMessage head
 
 -- On this day the policy denies who has no token each message that this party withdrew, on every list.
 abbrev pub DeniesWithdrawnToPublic : WithdrawnBy → List Rule → (day : ℤ) → Type 0
@@ -60,7 +60,7 @@ withdraw_command_of it = withdraw it.list.now it.key.now (withdrawn_by_number it
 pub record ImportsAndWithdraws (it : Withdrawal) (before after : Archive) (report : Report) : Type 0 where
   pub imported : Archive
   pub is_imported : IsImported it.list.now it.mbox.now before imported report
-  pub withdrawn : (after, done) ≡ step imported (withdraw_command_of it)
+  pub withdraws : (after, done) ≡ step imported (withdraw_command_of it)
   pub replies_hide_message : (rules : List Rule) (day : ℤ) (head : RequestHead) → IsAnonymousListRequest head → DeniesWithdrawnToPublic it.by rules day
       → reply_of after rules day head ≡ reply_of (without_message imported it.list.now it.key.now) rules day head
 
@@ -86,11 +86,11 @@ module _ {R W : Type 0} (gives : Gives R) (takes : Takes W) where
   -- How two answers end, the second from the store that the first left: what each leaves of the store, that no direction failed where a
   -- reply went out, and the cause of each fault, of 503 and of S3. The replies go by these rules, on this day.
   pub record EndsTwoAnswers {S : Type 0} (g : Ghosts S) (rules : List Rule) (day : ℤ) (old new : Store S) (first first' second second' : Client R W) (answered : TwoAnswers) : Type 0 where
-    pub between : Store S
-    pub first_ends : EndsAnswer g gives takes old between first.input first'.input first.output first'.output answered.first
-    pub first_error_cause : ServesOr503 g old between answered.first (IsInputDataUnreadable (gives.told first.input) (gives.told first'.input) rules day)
-    pub second_ends : EndsAnswer g gives takes between new second.input second'.input second.output second'.output answered.second
-    pub second_error_cause : ServesOr503 g between new answered.second (IsInputDataUnreadable (gives.told second.input) (gives.told second'.input) rules day)
+    pub store_between : Store S
+    pub first_ends : EndsAnswer g gives takes old store_between first.input first'.input first.output first'.output answered.first
+    pub first_error_cause : ServesOr503 g old store_between answered.first (IsInputDataUnreadable (gives.told first.input) (gives.told first'.input) rules day)
+    pub second_ends : EndsAnswer g gives takes store_between new second.input second'.input second.output second'.output answered.second
+    pub second_error_cause : ServesOr503 g store_between new answered.second (IsInputDataUnreadable (gives.told second.input) (gives.told second'.input) rules day)
 
   -- How two answers behind a withdrawal end: the store that the withdrawal left, and what `EndsTwoAnswers` says of the answers from there on.
   pub record EndsAnswersAfterWithdrawal {S : Type 0} (g : Ghosts S) (rules : List Rule) (day : ℤ) (old new : Store S) (it : Withdrawal) (first first' second second' : Client R W)

@@ -10,15 +10,15 @@ ghost use Rattle.example_reopened.specs.Withdrawing.{AnswersAfterWithdrawal};
 
 use crate::withdrawing::{TwoAnswers, WithdrawError, Withdrawal, import_withdraw_and_answer};
 use archive_desk::Report;
-use archive_desk::laws::{the_commands_of_a_run_are_said, what_commands_write_can_be_read};
+use archive_desk::laws::{commands_of_a_run_are_well_formed, commands_write_readable_archives};
 use archive_pages::Client;
 use archive_pages::laws::{
-    in_memory_503_means_that_memory_was_refused, in_memory_each_request_is_followed_by_the_next,
+    in_memory_503_means_that_memory_was_refused, in_memory_each_request_leaves_the_store_ready,
 };
 use archive_store::{Command, Store, StoreFault};
 use civil_time::Day;
 use mbox_core::device::{Sink, Source};
-use mbox_core::laws::divided_are_items;
+use mbox_core::laws::messages_of_a_division_are_items;
 use policy_core::Policy;
 use sqlite::MemStore;
 use std::alloc::Global;
@@ -64,10 +64,10 @@ pub fn import_withdraw_and_answer_in_memory<T: Threader, R: Source, W: Sink>(
     ensures stopped { IfErr result (λ _. (first.new ≡ first.old) × (second.new ≡ second.old)) }
 {
     in_memory_503_means_that_memory_was_refused();
-    in_memory_each_request_is_followed_by_the_next();
-    what_commands_write_can_be_read();
-    the_commands_of_a_run_are_said(commands);
-    divided_are_items();
+    in_memory_each_request_leaves_the_store_ready();
+    commands_write_readable_archives();
+    commands_of_a_run_are_well_formed(commands);
+    messages_of_a_division_are_items();
     let mut store = match run_in_memory(alloc, commands) {
         Ok(store) => store,
         Err(fault) => return Err(InMemoryError::Store(fault)),

@@ -11,12 +11,12 @@ ghost use Rattle.sqlite.specs.Files.{over_files};
 use crate::reopening::{open, reopen};
 use crate::withdrawing::{TwoAnswers, WithdrawError, Withdrawal, answer_both, import_and_withdraw};
 use archive_desk::Report;
-use archive_desk::laws::what_commands_write_can_be_read;
+use archive_desk::laws::commands_write_readable_archives;
 use archive_pages::Client;
 use archive_store::{Store, StoreFault};
 use civil_time::Day;
 use mbox_core::device::{Sink, Source};
-use mbox_core::laws::divided_are_items;
+use mbox_core::laws::messages_of_a_division_are_items;
 use policy_core::Policy;
 use sqlite::{Alter, FileStore, Files, Options};
 use sqlite_disk::Disk;
@@ -87,8 +87,8 @@ pub fn withdraw_reopen_and_answer<D: Disk + Drop, T: Threader, R: Source, W: Sin
     ensures stopped { IfErr result (λ stop. IsFilesError files withdrawal.now stop
         × (first.new ≡ first.old) × (second.new ≡ second.old)) }
 {
-    what_commands_write_can_be_read();
-    divided_are_items();
+    commands_write_readable_archives();
+    messages_of_a_division_are_items();
     let (mut again, report) = match withdraw_and_reopen(alloc, files, options, withdrawal) {
         Ok(done) => done,
         Err(stop) => return Err(stop),

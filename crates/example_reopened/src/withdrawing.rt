@@ -5,7 +5,7 @@ ghost use Rattle.archive_store.specs.Told.{CountsRefusals, RelatesReadyArchives,
 ghost use Rattle.example_reopened.specs.Withdrawing.{AnswersAfterWithdrawal, EndsAnswersAfterWithdrawal, EndsTwoAnswers, IsWithdrawError, ImportsAndWithdraws, IsWithdrawOutOfMemory};
 
 use archive_desk::{ImportStop, Report, import};
-use archive_pages::laws::what_is_withdrawn_might_never_have_come;
+use archive_pages::laws::a_withdrawn_message_might_never_have_arrived;
 use archive_pages::{Client, ServeFault, answer};
 use archive_store::{Key, Store, StoreFault};
 use civil_time::Day;
@@ -58,7 +58,7 @@ pub fn import_and_withdraw<S: Alter>(
     ensures stopped { IfErr result (λ stop. IsWithdrawError S.Store store.old store.new withdrawal.now stop) }
     ensures counted { CountsRefusals IsWithdrawOutOfMemory store.old store.new result }
 {
-    what_is_withdrawn_might_never_have_come();
+    a_withdrawn_message_might_never_have_arrived();
     let report = match import(store, alloc, withdrawal.list, withdrawal.mbox) {
         Ok(report) => report,
         Err(stop) => return Err(WithdrawError::Import(stop)),

@@ -57,24 +57,24 @@ module _ {Y S F D C P T R O E I L K A B M : Type 0} (dev : DeviceContracts S F I
       let clock : second.clock ≡ old.clock =
       ap (λ (w : Environment Y S F D C P T R O E I L K A B M). w.clock) same_second ∙ ap (λ (w : Environment Y S F D C P T R O E I L K A B M). w.clock) same_first in
       record {
-        first = first;
-        second = second;
-        taken = taken;
-        stepped = command_outcome;
-        ran = ran;
-        served = served;
-        by_policy = subst (λ (f : F). AreRulesOfPolicyFile dev.gives f (Some it.policy) served.rules) files served.is_policy;
-        on_day = subst (λ (c : C). IsReadingDay dev.clock it.day true c served.clock (Some served.day)) clock served.is_day;
+        after_import = first;
+        after_withdrawal = second;
+        imports = taken;
+        withdraws = command_outcome;
+        runs_serve = ran;
+        serves_all = served;
+        rules_are_of_policy = subst (λ (f : F). AreRulesOfPolicyFile dev.gives f (Some it.policy) served.rules) files served.is_policy;
+        day_is = subst (λ (c : C). IsReadingDay dev.clock it.day true c served.clock (Some served.day)) clock served.is_day;
         served_from_one_archive = λ returned_first returned_second returned before held right.
-            let one = taken.2.becomes returned_first before held right in
-            let two = command_outcome.2.becomes returned_second one.0 one.3 one.2 in
+            let one = taken.2.store_changes returned_first before held right in
+            let two = command_outcome.2.store_changes returned_second one.0 one.3 one.2 in
             let last = served.serves_held_archive returned two.0 two.3 in (
               two.0,
               record {
                 imported = one.0;
                 report = taken.0;
                 is_imported = one.1;
-                withdrawn = withdrawn_so it.list it.key it.by one.0 two.0 command_outcome.0 two.1.0 two.1.1;
+                withdraws = withdrawn_so it.list it.key it.by one.0 two.0 command_outcome.0 two.1.0 two.1.1;
               },
               last.0,
               last.1,

@@ -1,4 +1,4 @@
--- A worked example: what the words of three commands order, as `example_withdrawn` gives them.
+-- A worked example: what the words of three commands order, as `example_served` gives them.
 use Rattle.std.proofs.Common.{◌≡◌, [], ◌∷◌, pos, Some, inl, true, refl, codes}
 use Rattle.civil_time.specs.Calendar.{days_before_year, days_in_first_months}
 use Rattle.clap.specs.Words.{takes}

@@ -63,7 +63,7 @@ module _ {Y S F D C P T R O E I L K A B M : Type 0} (dev : DeviceContracts S F I
       pub report : Report
       pub is_imported : ReadsOpenedFile dev.opens dev.input_of old.files it.mbox
           (λ text ended failed. (ended ≡ 1) × (failed ≡ 0) × IsImported it.list text before imported report)
-      pub withdrawn : (after, done) ≡ step imported (withdrawal it.list it.key (withdrawn_by_number it.by))
+      pub withdraws : (after, done) ≡ step imported (withdrawal it.list it.key (withdrawn_by_number it.by))
 
     -- All three were carried out, each in the world that the one before it had left. The peers were served by the rules that the policy
     -- writes, on the day that was given or that the clock told. Where the database held an archive before, in which what is filed of each
@@ -72,19 +72,19 @@ module _ {Y S F D C P T R O E I L K A B M : Type 0} (dev : DeviceContracts S F I
     -- begin with, or 503, which has its cause (`ran`), or a beginning of it; and the database holds this archive behind it all, unless a
     -- fault of the disk had shut it.
     pub record ImportsWithdrawsAndServes : Type 0 where
-      pub first : Environment Y S F D C P T R O E I L K A B M
-      pub second : Environment Y S F D C P T R O E I L K A B M
-      pub taken : HasImportedMbox dev old first (import_args_of it)
-      pub stepped : HasRunStoreCommand dev first second (withdraw_args_of it)
-      pub ran : RunsOrder dev second new (Serve (serve_args_of it)) (Ok tt)
-      pub served : HasServedAll dev second new (serve_args_of it)
-      pub by_policy : AreRulesOfPolicyFile dev.gives old.files (Some it.policy) served.rules
-      pub on_day : IsReadingDay dev.clock it.day true old.clock served.clock (Some served.day)
-      pub served_from_one_archive : StoreHasCleanDisk dev.pages taken.2.after → StoreHasCleanDisk dev.pages stepped.2.after → StoreHasCleanDisk dev.pages served.later
+      pub after_import : Environment Y S F D C P T R O E I L K A B M
+      pub after_withdrawal : Environment Y S F D C P T R O E I L K A B M
+      pub imports : HasImportedMbox dev old after_import (import_args_of it)
+      pub withdraws : HasRunStoreCommand dev after_import after_withdrawal (withdraw_args_of it)
+      pub runs_serve : RunsOrder dev after_withdrawal new (Serve (serve_args_of it)) (Ok tt)
+      pub serves_all : HasServedAll dev after_withdrawal new (serve_args_of it)
+      pub rules_are_of_policy : AreRulesOfPolicyFile dev.gives old.files (Some it.policy) serves_all.rules
+      pub day_is : IsReadingDay dev.clock it.day true old.clock serves_all.clock (Some serves_all.day)
+      pub served_from_one_archive : StoreHasCleanDisk dev.pages imports.2.store_after → StoreHasCleanDisk dev.pages withdraws.2.store_after → StoreHasCleanDisk dev.pages serves_all.later
           → (before : Archive) → dev.databases.holds old.databases it.file before → IsIndexedCorrectly before
           → (archive : Archive) × MakesPublishedArchive before archive
-          × ExchangesAreAnswered archive served.rules served.day served.outcomes served.all
-          × (IsOpen dev.pages served.later → dev.databases.holds new.databases it.file archive)
+          × ExchangesAreAnswered archive serves_all.rules serves_all.day serves_all.outcomes serves_all.exchanges
+          × (IsOpen dev.pages serves_all.later → dev.databases.holds new.databases it.file archive)
 
   -- ---- where one of them was not carried out
 

@@ -43,7 +43,7 @@ same_stored : (a b : Archive) (there db : Trees) → db ≡ there → IsArchiveS
 same_stored a b there db is stored same = record {
   lists = subst (λ (t : Trees). Lists (t catalog_tree) archive_schema) (sym is) stored.lists;
   tables = subst AreArchiveTables (sym is) stored.tables;
-  remembers = ap archive_in_trees is ∙ stored.remembers ∙ sym same;
+  archive_is = ap archive_in_trees is ∙ stored.archive_is ∙ sym same;
 }
 
 -- what an open finds of this archive and of the one that the machine makes of it
@@ -85,7 +85,7 @@ module _ {D : Type 0} {g : Ghosts D} where
 
   -- what a stop leaves of an open store is what it sees
   now_is : SeenMayStay g → (c : Held (FileStore D g)) → IsArchiveAtRest (file_state c) → (db : Trees) → (file_state c).may_leave db → db ≡ (file_state c).now.trees
-  now_is stays c kept db may = settled_at c.store stays db kept.is_open may ∙ ap (λ (d : Database). d.trees) kept.settled
+  now_is stays c kept db may = settled_at c.store stays db kept.is_open may ∙ ap (λ (d : Database). d.trees) kept.committed_is
 
   -- a connection that was opened from files which hold an archive
   kept_from : (files : Files D) (opened : Held (FileStore D g)) (archive : Archive) → Finds files opened → IsOpened opened → (held : FilesHoldArchive g files archive)
@@ -94,34 +94,35 @@ module _ {D : Type 0} {g : Ghosts D} where
       let lists = (opens.1 opens.0.is_open).0.lists in record {
         is_open = opens.0.is_open;
         autocommit = opens.0.autocommit;
-        settled = sym opens.0.clean;
-        schema = lists_once _ _ _ (subst (λ (t : Trees). Lists (t catalog_tree) (file_state opened).now.schema) is lists) held.stored.lists;
-        tables = subst AreArchiveTables (sym is) held.stored.tables;
-        whole = tt;
+        committed_is = sym opens.0.clean;
+        schema = lists_once _ _ _ (subst (λ (t : Trees). Lists (t catalog_tree) (file_state opened).now.schema) is lists) held.stores_archive.lists;
+        tables = subst AreArchiveTables (sym is) held.stores_archive.tables;
+        rollback_leaves_archive = tt;
       }
 
   -- and that was taken over
   remembers_it : SeenMayStay g → (files : Files D) (opened : Held (FileStore D g)) (store : Store (FileStore D g)) → Finds files opened → IsOpened opened
       → IsAdopted over_files opened store → StoreHasCleanDisk over_files store → (archive : Archive) → FilesHoldArchive g files archive → RemembersDurably store archive
   remembers_it stays files opened store found opens adopted returned archive held =
-      let is : (file_state opened).now.trees ≡ held.db = ap (λ (d : Database). d.trees) opens.0.clean ∙ found.holds held.db held.held in
+      let is : (file_state opened).now.trees ≡ held.db = ap (λ (d : Database). d.trees) opens.0.clean ∙ found.holds held.db held.files_hold_database in
       let kept = kept_from files opened archive found opens held is in
-      let it = adopted.found returned kept in
-      let rows = adopted.rows returned (record { is_open = kept.is_open; autocommit = kept.autocommit; settled = kept.settled; schema = kept.schema }) it.0.is_open in
-      let same = it.1 ∙ ap archive_in_trees is ∙ held.stored.remembers in
+      let it = adopted.archive_at_rest_is_same returned kept in
+      let rows = adopted.keeps_rows returned (record { is_open = kept.is_open; autocommit = kept.autocommit; committed_is_now = kept.committed_is; schema = kept.schema }) it.0.is_open in
+      let same = it.1 ∙ ap archive_in_trees is ∙ held.stores_archive.archive_is in
       let there : (file_state (store_connection store)).now.trees ≡ held.db = ap (λ (d : Database). d.trees) rows.0 ∙ is in record {
-        ready = ready_with over_files store archive it.0 same held.is_indexed_correctly;
-        same = same;
-        safe = λ db may. same_stored archive (archive_of (file_state (store_connection store))) held.db db (now_is stays (store_connection store) it.0 db may ∙ there) held.stored same;
+        is_ready = ready_with over_files store archive it.0 same held.is_indexed_correctly;
+        archive_is = same;
+        is_crash_safe = λ db may. same_stored archive (archive_of (file_state (store_connection store))) held.db db
+            (now_is stays (store_connection store) it.0 db may ∙ there) held.stores_archive same;
       }
 
   pub opened_from : SeenMayStay g → (files : Files D) (opened : Held (FileStore D g)) (store : Store (FileStore D g))
       → (HasCleanDisk (file_state opened) → Finds files opened) → (HasCleanDisk (file_state opened) → IsOpened opened) → IsAdopted over_files opened store
       → IsOpenedFrom files store
   opened_from stays files opened store found opens adopted = record {
-    clean = λ returned. (found (adopted.returned returned)).honest;
-    remembers = λ returned.
-        remembers_it stays files opened store (found (adopted.returned returned)) (opens (adopted.returned returned)) adopted returned;
+    clean = λ returned. (found (adopted.disk_was_clean returned)).honest;
+    remembers_durably = λ returned.
+        remembers_it stays files opened store (found (adopted.disk_was_clean returned)) (opens (adopted.disk_was_clean returned)) adopted returned;
   }
 
   -- ---- one behind the other
@@ -133,7 +134,7 @@ module _ {D : Type 0} {g : Ghosts D} where
         ∥∥₁_map (left.found honest) (λ it. (
           it.0,
           it.1,
-          λ archive stored right. opened.remembers returned archive (record { db = it.0; held = it.2; stored = stored; is_indexed_correctly = right }),
+          λ archive stored right. opened.remembers_durably returned archive (record { db = it.0; files_hold_database = it.2; stores_archive = stored; is_indexed_correctly = right }),
         )),
       )
 
@@ -149,7 +150,7 @@ module _ {D : Type 0} {g : Ghosts D} where
       let is : (now, told) ≡ step before = subst (λ a. (now, told) ≡ step a) same steps.1 in
       let there = now_is stays new steps.0 db may in
       let stored : (a : Archive) → IsArchiveStored a db → IsArchiveStored now db =
-      λ a it. record { lists = it.lists; tables = it.tables; remembers = ap archive_in_trees there } in (
+      λ a it. record { lists = it.lists; tables = it.tables; archive_is = ap archive_in_trees there } in (
         now,
         is,
         elim left [ inl it ↦ stored before it | inr it ↦ stored (step before).0 it ],
@@ -164,14 +165,14 @@ module _ {D : Type 0} {g : Ghosts D} where
       → IsReopenedAfterCrash mid again → CommandSurvivesCrash files again step reply
   stopped_in stays files store mid again step reply right opened had does crash behind returned before held =
       let both = behind returned in
-      let was = opened.remembers (had both.0) before held in
-      let kept = was.ready.held in
+      let was = opened.remembers_durably (had both.0) before held in
+      let kept = was.is_ready.is_archive_at_rest in
       ∥∥₁_map both.1 (λ it.
       let left : IsArchiveStored before it.0 ⊎ IsArchiveStored (step before).0 it.0 =
       elim (crash kept both.0 it.0 it.1) [
-        | inl earlier ↦ inl (subst (λ a. IsArchiveStored a it.0) was.same (was.safe it.0 earlier))
-        | inr made ↦ inr (subst (λ a. IsArchiveStored (step a).0 it.0) was.same made)
+        | inl earlier ↦ inl (subst (λ a. IsArchiveStored a it.0) was.archive_is (was.is_crash_safe it.0 earlier))
+        | inr made ↦ inr (subst (λ a. IsArchiveStored (step a).0 it.0) was.archive_is made)
       ] in
-      let there = found_in stays (store_connection store) (store_connection mid) before step reply it.0 was.same held.is_indexed_correctly (right before held.is_indexed_correctly)
+      let there = found_in stays (store_connection store) (store_connection mid) before step reply it.0 was.archive_is held.is_indexed_correctly (right before held.is_indexed_correctly)
       (does both.0 kept) it.1 left in
       (there.0, there.1, it.2 there.0 there.2 there.3))

@@ -18,21 +18,21 @@ use Rattle.archive_store.specs.declared.store.Store.{Store}
 -- These files hold a database that stores this archive, in which what is filed of each message is what its text says.
 pub record FilesHoldArchive {D : Type 0} (g : Ghosts D) (files : Files D) (archive : Archive) : Type 0 where
   pub db : Trees
-  pub held : HoldsDatabase (image_of g files) db
-  pub stored : IsArchiveStored archive db
+  pub files_hold_database : HoldsDatabase (image_of g files) db
+  pub stores_archive : IsArchiveStored archive db
   pub is_indexed_correctly : IsIndexedCorrectly archive
 
 module _ {D : Type 0} {g : Ghosts D} where
   -- The store is ready and remembers this archive, and a stop of the machine leaves nothing else.
   pub record RemembersDurably (store : Store (FileStore D g)) (archive : Archive) : Type 0 where
-    pub ready : IsReady over_files store
-    pub same : archive_in over_files store ≡ archive
-    pub safe : IsCrashSafe (file_state (store_connection store))
+    pub is_ready : IsReady over_files store
+    pub archive_is : archive_in over_files store ≡ archive
+    pub is_crash_safe : IsCrashSafe (file_state (store_connection store))
 
   -- A store that was opened from files: where the disk has returned what was written to it, it remembers what they held.
   pub record IsOpenedFrom (files : Files D) (store : Store (FileStore D g)) : Type 0 where
     pub clean : StoreHasCleanDisk over_files store → AreClean g files.log files.db
-    pub remembers : StoreHasCleanDisk over_files store → (archive : Archive) → FilesHoldArchive g files archive → RemembersDurably store archive
+    pub remembers_durably : StoreHasCleanDisk over_files store → (archive : Archive) → FilesHoldArchive g files archive → RemembersDurably store archive
 
   -- What a stop of the machine left of a store's files: where the disk has returned what was written to it, they hold a database that
   -- the stop may leave.

@@ -26,7 +26,7 @@ module _ (shortens : (text rest : List ℕ) (reply : Bool) → RemovesOnePiece t
 
   pub base_few : (subject base : List ℕ) (reply : Bool) → IsBaseSubject subject base reply → length base ≤ length subject
   base_few subject base reply b =
-      let lowered : length base ≡ length b.rest = ap length b.is ∙ length-map b.rest to_ascii_lowercase in
-      let removed = reaches_few (with_single_spaces subject) b.rest reply b.reached in
+      let lowered : length base ≡ length b.remaining_text = ap length b.base_is_lowercase ∙ length-map b.remaining_text to_ascii_lowercase in
+      let removed = reaches_few (with_single_spaces subject) b.remaining_text reply b.removes_pieces in
       let white = spaced_few subject in
       omega (arith, lowered, removed, white)

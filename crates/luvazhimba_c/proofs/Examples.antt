@@ -34,30 +34,30 @@ first_stands : IsMessageAtOffset mbox 0 (record { envelope = said; text = codes 
 unfolding lines content
 first_stands = record {
   heading = codes "From a@b Tue Mar  4 10:00:00 2003\n";
-  blank = codes "\n";
+  blank_line = codes "\n";
   heading_is_first_line = refl;
-  says = separator_is heading said heading_says;
+  heading_separates = separator_is heading said heading_says;
   is_blank = refl;
-  parts = refl;
-  begins = refl;
-  ends = refl;
-  follows = refl;
-  arrival = refl;
+  bytes_are = refl;
+  start_is_after_heading = refl;
+  end_is_after_text = refl;
+  next_is_after_blank = refl;
+  arrival_is = refl;
 }
 
 second_stands : IsMessageAtOffset mbox 37 (record { envelope = said; text = [] }) (record { start = 71; end = 71; arrival = pos 1046772000 }) 71
 unfolding lines content
 second_stands = record {
   heading = codes "From a@b Tue Mar  4 10:00:00 2003\n";
-  blank = [];
+  blank_line = [];
   heading_is_first_line = refl;
-  says = separator_is heading said heading_says;
+  heading_separates = separator_is heading said heading_says;
   is_blank = refl;
-  parts = refl;
-  begins = refl;
-  ends = refl;
-  follows = refl;
-  arrival = refl;
+  bytes_are = refl;
+  start_is_after_heading = refl;
+  end_is_after_text = refl;
+  next_is_after_blank = refl;
+  arrival_is = refl;
 }
 
 both_stand : AreMessagesFromOffset mbox 0 (record { envelope = said; text = codes "x\n" } ∷ record { envelope = said; text = [] } ∷ [])

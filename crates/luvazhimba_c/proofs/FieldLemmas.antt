@@ -3,7 +3,7 @@ use Rattle.std.proofs.Common.{◌≡◌, ℕ, ◌+◌, ◌-◌, ◌<◌, ◌≤�
 use Rattle.std.proofs.lemmas.List.{length-map, length-take-le}
 use Rattle.mail_core.specs.Headers.{own_id_of, id_option_to_list, sent_date_of}
 use Rattle.mbox_core.specs.Division.{Item, DividesIntoItems}
-use Rattle.mbox_core.proofs.DivisionLaws.{one_division}
+use Rattle.mbox_core.proofs.DivisionLaws.{each_text_has_at_most_one_division}
 use Rattle.luvazhimba_c.specs.Fields.{field_texts, field_text_lengths, has_sent_date, field_numbers, all_field_texts}
 use Rattle.luvazhimba_c.specs.Fields.{all_field_text_lengths, field_numbers_of_item, mbox_totals, HoldMboxFields, LacksRoomForMboxFields}
 use Rattle.luvazhimba_c.specs.Places.{AreMessagesFromOffset, ArePlacesOfMessages}
@@ -33,7 +33,7 @@ stand_len bytes at (i ∷ is) [] s = absurd s
 stand_len bytes at (i ∷ is) (p ∷ ps) (next, here, later) = let others = stand_len bytes next is ps later in omega (arith, others)
 
 places_len : (mbox : List ℕ) (items : List Item) (places : List LuvMessage) → DividesIntoItems mbox items → ArePlacesOfMessages mbox places → length places ≡ length items
-places_len mbox items places d m = stand_len mbox m.first m.items places m.stand ∙ ap length (one_division mbox m.items items m.divides d)
+places_len mbox items places d m = stand_len mbox m.first_offset m.items places m.places_are_of_messages ∙ ap length (each_text_has_at_most_one_division mbox m.items items m.divides_into_items d)
 
 -- what was gathered of the messages of an mbox
 module _ (mbox : List ℕ) (items : List Item) (numbers : List LuvFields) (texts lens : List ℕ) (many count len : ℕ) (divides : DividesIntoItems mbox items)
@@ -52,7 +52,7 @@ module _ (mbox : List ℕ) (items : List Item) (numbers : List LuvFields) (texts
       let are : many ≡ length items = sym (length-take-le many messages low) ∙ places_len mbox items (take many messages) divides places in
       record {
         items = items;
-        divides = divides;
+        divides_into_items = divides;
         places = places;
         numbers = ap (λ n. take n fields) (are ∙ sym (length-map items field_numbers_of_item) ∙ ap length (sym are_numbers)) ∙ f ∙ are_numbers;
         texts = ap (λ n. take n bytes) is_len ∙ g ∙ are_texts;
@@ -66,7 +66,7 @@ module _ (mbox : List ℕ) (items : List Item) (numbers : List LuvFields) (texts
       → LacksRoomForMboxFields mbox messages fields bytes sizes (record { messages = many; count = count; len = len })
   none_fits messages fields bytes sizes (others, division, e, short) = record {
     items = items;
-    divides = divides;
-    short = inl short;
-    totals = totals_are (e ∙ ap length (one_division mbox others items division divides));
+    divides_into_items = divides;
+    array_too_short = inl short;
+    totals = totals_are (e ∙ ap length (each_text_has_at_most_one_division mbox others items division divides));
   }

@@ -16,7 +16,7 @@ use Rattle.mail_core.specs.Pieces.{Piece, Pieces, ids_in}
 use Rattle.mail_core.specs.Pieces.Piece.{comment, quoted_string, msg_id, single}
 use Rattle.mail_core.specs.Quotes.{IsClosedQuote, IsQuotedContent}
 use Rattle.mail_core.specs.Quotes.IsQuotedContent.{nothing, byte, pair}
-use Rattle.mail_core.proofs.PieceLemmas.{some_division, one_list}
+use Rattle.mail_core.proofs.PieceLemmas.{each_text_has_a_division_or_a_preamble, one_list}
 use Rattle.mbox_items.proofs.LineLemmas.{concat-lines}
 use Rattle.luvazhimba_c.specs.Ids.{id_text, id_text_length, ids_of_message, id_texts, id_text_lengths}
 
@@ -83,7 +83,7 @@ pieces_fit (msg_id m id ∷ ps) text (rest, e, is, h) =
 
 ids_fit : (text : List ℕ) → FitIn (ids_of text) (length text)
 ids_fit text =
-    let d = some_division text in
+    let d = each_text_has_a_division_or_a_preamble text in
     let F : List MessageId → Type 0 = λ ids. FitIn ids (length text) in
     subst F (one_list d.0 text d.1) (pieces_fit d.0 text d.1)
 

@@ -132,15 +132,15 @@ module _ (bytes : List ℕ) (at n : ℕ) (item : Item) (rest : List Item) (len :
   from m heading says ls are f b = record {
     stands = λ arrival e. record {
       heading = heading;
-      blank = b.blank;
+      blank_line = b.blank;
       heading_is_first_line = are ∙ ap (λ x. heading ∷ x) (sym f.others);
-      says = says;
+      heading_separates = says;
       is_blank = b.is_blank;
-      parts = f.parts ∙ ap (λ x. heading ++ x) b.parts;
-      begins = ap (λ x. at + x) (sym f.long);
-      ends = refl;
-      follows = ap (λ x. at + n + length item.text + x) (sym b.long);
-      arrival = e;
+      bytes_are = f.parts ∙ ap (λ x. heading ++ x) b.parts;
+      start_is_after_heading = ap (λ x. at + x) (sym f.long);
+      end_is_after_text = refl;
+      next_is_after_blank = ap (λ x. at + n + length item.text + x) (sym b.long);
+      arrival_is = e;
     };
     later = b.blocks;
   }

@@ -107,5 +107,5 @@ rows_few n rows full once =
     let all = in_all rows in
     let two = two_below_each rows full in
     let each = each_counted n rows once.no_other in
-    let sum = sum_of_ones (λ p. row_count_of_place p rows) n once.once in
+    let sum = sum_of_ones (λ p. row_count_of_place p rows) n once.each_place_once in
     omega (arith, all, two, each, sum)

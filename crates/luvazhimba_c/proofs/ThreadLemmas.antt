@@ -5,7 +5,7 @@ use Rattle.std.proofs.lemmas.List.{drop-drop}
 use Rattle.std.specs.List.{concat}
 use Rattle.mail_core.specs.Places.{between}
 use Rattle.mbox_core.specs.Division.{Item, DividesIntoItems}
-use Rattle.mbox_core.proofs.DivisionLaws.{one_division}
+use Rattle.mbox_core.proofs.DivisionLaws.{each_text_has_at_most_one_division}
 use Rattle.thread_core.specs.Threads.{threads_of}
 use Rattle.luvazhimba_c.specs.Entries.{entry_of_message, entry_at, AreThreadsOfMbox}
 use Rattle.luvazhimba_c.specs.Places.{IsMessageAtOffset, AreMessagesFromOffset, ArePlacesOfMessages}
@@ -15,10 +15,10 @@ use Rattle.luvazhimba_c.specs.declared.messages.LuvMessage.{LuvMessage}
 text_there : (bytes : List ℕ) (at : ℕ) (item : Item) (place : LuvMessage) (next : ℕ) → IsMessageAtOffset bytes at item place next
     → between bytes place.start place.end ≡ item.text
 text_there bytes at item place next s =
-    let tail = s.blank ++ drop next bytes in
+    let tail = s.blank_line ++ drop next bytes in
     let begins : drop place.start bytes ≡ item.text ++ tail =
-    ap (λ n. drop n bytes) s.begins ∙ sym (drop-drop (length s.heading) at bytes) ∙ ap (drop (length s.heading)) s.parts ∙ drop-append_seam s.heading (item.text ++ tail) in
-    let to : place.end ≡ place.start + length item.text = s.ends in
+    ap (λ n. drop n bytes) s.start_is_after_heading ∙ sym (drop-drop (length s.heading) at bytes) ∙ ap (drop (length s.heading)) s.bytes_are ∙ drop-append_seam s.heading (item.text ++ tail) in
+    let to : place.end ≡ place.start + length item.text = s.end_is_after_text in
     let long : place.end - place.start ≡ length item.text = omega (arith, to) in
     ap (λ n. take n (drop place.start bytes)) long ∙ ap (take (length item.text)) begins ∙ take-append_seam item.text tail
 
@@ -29,14 +29,15 @@ each_there f bytes at [] [] s = refl
 each_there f bytes at [] (p ∷ ps) s = absurd s
 each_there f bytes at (i ∷ is) [] s = absurd s
 each_there f bytes at (i ∷ is) (p ∷ ps) (next, here, later) =
-    let first : f (between bytes p.start p.end) p.arrival ≡ f i.text i.envelope.arrival = ap (λ text. f text p.arrival) (text_there bytes at i p next here) ∙ ap (f i.text) here.arrival in
+    let first : f (between bytes p.start p.end) p.arrival ≡ f i.text i.envelope.arrival = ap (λ text. f text p.arrival) (text_there bytes at i p next here) ∙ ap (f i.text) here.arrival_is in
     let others = each_there f bytes next is ps later in cc
 
 -- the same of the messages of an mbox, which has one division
 pub said_there : {X : Type 0} (f : List ℕ → ℤ → X) (mbox : List ℕ) (items : List Item) (places : List LuvMessage) → DividesIntoItems mbox items → ArePlacesOfMessages mbox places
     → map (λ (p : LuvMessage). f (between mbox p.start p.end) p.arrival) places ≡ map (λ (i : Item). f i.text i.envelope.arrival) items
 said_there f mbox items places d m =
-    each_there f mbox m.first m.items places m.stand ∙ ap (map (λ (i : Item). f i.text i.envelope.arrival)) (one_division mbox m.items items m.divides d)
+    each_there f mbox m.first_offset m.items places m.places_are_of_messages ∙ ap (map (λ (i : Item). f i.text i.envelope.arrival))
+    (each_text_has_at_most_one_division mbox m.items items m.divides_into_items d)
 
 -- and of lists, one behind the other
 pub texts_there : (g : List ℕ → List ℕ) (mbox : List ℕ) (items : List Item) (places : List LuvMessage) → DividesIntoItems mbox items → ArePlacesOfMessages mbox places
@@ -52,6 +53,6 @@ pub threads_there : (mbox : List ℕ) (places : List LuvMessage) (merge : Bool) 
     → AreThreadsOfMbox mbox merge (threads_of (map (entry_at mbox) places) merge)
 threads_there mbox places merge m = record {
   items = m.items;
-  divides = m.divides;
-  are = ap (λ entries. threads_of entries merge) (each_there entry_of_message mbox m.first m.items places m.stand);
+  divides_into_items = m.divides_into_items;
+  rows_are_threads = ap (λ entries. threads_of entries merge) (each_there entry_of_message mbox m.first_offset m.items places m.places_are_of_messages);
 }

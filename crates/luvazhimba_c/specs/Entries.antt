@@ -32,15 +32,15 @@ entry_of_item item = entry_of_message item.text item.envelope.arrival
 -- the rows are the threads of the messages of an mbox, which has one division
 pub record AreThreadsOfMbox (bytes : List ℕ) (merge : Bool) (rows : List Row) : Type 0 where
   pub items : List Item
-  pub divides : DividesIntoItems bytes items
-  pub are : rows ≡ threads_of (map entry_of_item items) merge
+  pub divides_into_items : DividesIntoItems bytes items
+  pub rows_are_threads : rows ≡ threads_of (map entry_of_item items) merge
 
 -- so much room is too little for the threads of the messages of an mbox, and how many rows are wanted is said
 pub record LacksRoomForRows (bytes : List ℕ) (merge : Bool) (room count : ℕ) : Type 0 where
   pub rows : List Row
-  pub are : AreThreadsOfMbox bytes merge rows
+  pub rows_are_threads : AreThreadsOfMbox bytes merge rows
   pub is_count : count ≡ length rows
-  pub short : room < count
+  pub array_too_short : room < count
 
 -- a message's place lies in the bytes
 abbrev pub LiesWithinBytes : List ℕ → LuvMessage → Type 0

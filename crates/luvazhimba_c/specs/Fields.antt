@@ -48,7 +48,7 @@ pub record HoldMessageFields (message : List ℕ) (arrival : ℤ) (bytes sizes :
 
 -- one of the arrays is too short for these, and what is wanted is said
 pub record LacksRoomForFields (message : List ℕ) (arrival : ℤ) (texts lens : List ℕ) (found : LuvFields) : Type 0 where
-  pub short : (length texts < found.len) ⊎ (length lens < found.count)
+  pub array_too_short : (length texts < found.len) ⊎ (length lens < found.count)
   pub numbers : found ≡ field_numbers message arrival
 
 -- ---- of each message of an mbox
@@ -81,7 +81,7 @@ mbox_totals items = record {
 -- texts of all of them, and with the lengths of these.
 pub record HoldMboxFields (mbox : List ℕ) (messages : List LuvMessage) (fields : List LuvFields) (bytes sizes : List ℕ) (found : LuvTotals) : Type 0 where
   pub items : List Item
-  pub divides : DividesIntoItems mbox items
+  pub divides_into_items : DividesIntoItems mbox items
   pub places : ArePlacesOfMessages mbox (take found.messages messages)
   pub numbers : take found.messages fields ≡ map field_numbers_of_item items
   pub texts : take found.len bytes ≡ all_field_texts items
@@ -91,6 +91,6 @@ pub record HoldMboxFields (mbox : List ℕ) (messages : List LuvMessage) (fields
 -- one of the arrays is too short for these, and what is wanted is said
 pub record LacksRoomForMboxFields (mbox : List ℕ) (messages : List LuvMessage) (fields : List LuvFields) (texts lens : List ℕ) (found : LuvTotals) : Type 0 where
   pub items : List Item
-  pub divides : DividesIntoItems mbox items
-  pub short : (length messages < found.messages) ⊎ (length fields < found.messages) ⊎ (length texts < found.len) ⊎ (length lens < found.count)
+  pub divides_into_items : DividesIntoItems mbox items
+  pub array_too_short : (length messages < found.messages) ⊎ (length fields < found.messages) ⊎ (length texts < found.len) ⊎ (length lens < found.count)
   pub totals : found ≡ mbox_totals items

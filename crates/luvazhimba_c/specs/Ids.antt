@@ -31,8 +31,8 @@ id_text_lengths message = map id_text_length (ids_of_message message)
 
 -- how many ids there are, and how long their texts are together
 pub record CountsMessageIds (message : List ℕ) (found : LuvIds) : Type 0 where
-  pub own : found.own ≡ length (id_option_to_list (own_id_of message))
-  pub count : found.count ≡ length (ids_of_message message)
+  pub own_count_is : found.own ≡ length (id_option_to_list (own_id_of message))
+  pub count_is : found.count ≡ length (ids_of_message message)
   pub len : found.len ≡ length (id_texts message)
 
 -- the arrays begin with the texts of the ids and with their lengths
@@ -43,5 +43,5 @@ pub record HoldMessageIds (message bytes numbers : List ℕ) (found : LuvIds) : 
 
 -- one of the arrays is too short, and what is wanted is said
 pub record LacksRoomForIds (message texts lens : List ℕ) (found : LuvIds) : Type 0 where
-  pub short : (length texts < found.len) ⊎ (length lens < found.count)
+  pub array_too_short : (length texts < found.len) ⊎ (length lens < found.count)
   pub counts : CountsMessageIds message found

@@ -14,7 +14,7 @@ ghost use Rattle.luvazhimba_c.specs.Ids.{id_texts, id_text_lengths};
 ghost use Rattle.luvazhimba_c.specs.Places.{ArePlacesOfMessages};
 
 use subject_core::laws::removals_end_at_one_base;
-use thread_core::laws::{dummies_have_two_children, each_place_stands_in_one_row};
+use thread_core::laws::{dummies_have_two_children, each_message_is_in_one_row};
 
 /// The threads of messages where `luv_cut` says that they stand are the threads of the mbox.
 pub fn places_have_the_threads_of_the_mbox()
@@ -69,5 +69,5 @@ pub fn rows_are_at_most_twice_the_messages()
     ensures { (entries : List Entry) (merge : Bool) → length (threads_of entries merge) ≤ 2 * length entries }
 {
     dummies_have_two_children();
-    each_place_stands_in_one_row();
+    each_message_is_in_one_row();
 }

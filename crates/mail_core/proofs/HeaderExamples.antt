@@ -8,7 +8,7 @@ use Rattle.mail_core.specs.MsgIds.{MessageId, id_at, id_right_to_close, sides_of
 use Rattle.civil_time.specs.Calendar.{days_before_year, days_in_first_months}
 use Rattle.mail_core.specs.DateTokens.{tokens_of, tokens_from, token_at, token_byte_kind}
 use Rattle.civil_time.specs.Zones.{hours_west}
-use Rattle.mail_core.specs.Sent.{date_at, second_at, time_at, signed_zone_at}
+use Rattle.mail_core.specs.Sent.{date_at, leading_two_digit_second, time_at, signed_zone_at}
 use Rattle.civil_time.specs.Names.{month_of_name}
 use Rattle.mail_core.specs.Headers.{own_id_of, references_of, sent_date_of, unfolded_subject_of, subject_line_of}
 
@@ -49,19 +49,19 @@ unfolding fields_of header_blocks lines content is_empty_line unfolded ids_from 
 an_empty_references = refl
 
 sent_date : sent_date_of (line (codes "Date: 2 Jan 1970 00:00:05 +0000") ++ line []) (pos 0) ≡ pos 86405
-unfolding fields_of header_blocks lines content is_empty_line tokens_of tokens_from token_at token_byte_kind date_at second_at time_at signed_zone_at month_of_name hours_west
+unfolding fields_of header_blocks lines content is_empty_line tokens_of tokens_from token_at token_byte_kind date_at leading_two_digit_second time_at signed_zone_at month_of_name hours_west
     after_closing_paren comment_byte_kind days_before_year days_in_first_months
 sent_date = refl
 
 -- a Date below the header is text
 a_date_in_the_body : sent_date_of (line (codes "To: x") ++ line [] ++ line (codes "Date: 2 Jan 1970 00:00:05 +0000")) (pos 0) ≡ pos 0
-unfolding fields_of header_blocks lines content is_empty_line tokens_of tokens_from token_at token_byte_kind date_at second_at time_at signed_zone_at month_of_name hours_west
+unfolding fields_of header_blocks lines content is_empty_line tokens_of tokens_from token_at token_byte_kind date_at leading_two_digit_second time_at signed_zone_at month_of_name hours_west
     after_closing_paren comment_byte_kind days_before_year days_in_first_months
 a_date_in_the_body = refl
 
 -- the first Date counts, though it is no date
 two_dates : sent_date_of (line (codes "Date: soon") ++ line (codes "Date: 2 Jan 1970 00:00:05 +0000")) (pos 0) ≡ pos 0
-unfolding fields_of header_blocks lines content is_empty_line tokens_of tokens_from token_at token_byte_kind date_at second_at time_at signed_zone_at month_of_name hours_west
+unfolding fields_of header_blocks lines content is_empty_line tokens_of tokens_from token_at token_byte_kind date_at leading_two_digit_second time_at signed_zone_at month_of_name hours_west
     after_closing_paren comment_byte_kind days_before_year days_in_first_months
 two_dates = refl
 

@@ -4,7 +4,7 @@ use Rattle.std.proofs.Common.{sym, Option, Some, None, subst, take, option_map, 
 use Rattle.std.specs.List.{AllByRecursion}
 use Rattle.std.specs.Option.{option_and_then}
 use Rattle.std.proofs.Math.Seq.{take-append_seam}
-use Rattle.mail_core.specs.MsgIds.{MessageId, IsMsgId, OneOrMore, is_id_left_byte, is_id_right_byte, after_byte, prepend_byte, id_right_to_close, nonempty_id_right, Sides}
+use Rattle.mail_core.specs.MsgIds.{MessageId, IsMsgId, OneOrMore, is_id_left_byte, is_id_right_byte, after_leading_byte, prepend_byte, id_right_to_close, nonempty_id_right, Sides}
 use Rattle.mail_core.specs.MsgIds.{prepend_to_left, sides_of, quoted_id, id_with_quoted_left, id_of_plain_sides, plain_id, id_at}
 use Rattle.mail_core.specs.Quotes.{IsQuotedContent, after_closing_quote, unquoted}
 use Rattle.mail_core.proofs.CommentLemmas.{is_it, is_not, not_equal}
@@ -75,12 +75,12 @@ identity_or d None = d
 identity_or d (Some w) = w.0
 
 -- no msg-id has two readings
-pub one_reading : (m n : List ℕ) (i j : MessageId) (r s : List ℕ) → IsMsgId m i → IsMsgId n j → m ++ r ≡ n ++ s → i ≡ j
+pub each_msg_id_has_one_reading : (m n : List ℕ) (i j : MessageId) (r s : List ℕ) → IsMsgId m i → IsMsgId n j → m ++ r ≡ n ++ s → i ≡ j
 unfolding identity_or
-one_reading m n i j r s h k e = ap (identity_or i) (sym (id_reads m r i h) ∙ ap id_at e ∙ id_reads n s j k)
+each_msg_id_has_one_reading m n i j r s h k e = ap (identity_or i) (sym (id_reads m r i h) ∙ ap id_at e ∙ id_reads n s j k)
 
 -- what the function reads, the grammar allows
-behind_sound : (k : ℕ) (bs rest : List ℕ) → after_byte k bs ≡ Some rest → bs ≡ k ∷ rest
+behind_sound : (k : ℕ) (bs rest : List ℕ) → after_leading_byte k bs ≡ Some rest → bs ≡ k ∷ rest
 behind_sound k [] rest h = absurd (let bad : None ≡ Some rest = h in cc)
 behind_sound k (b ∷ bs) rest h = go (b == k) refl h
   where
@@ -179,15 +179,15 @@ quoted_sound bs rest id h = ends (after_closing_quote false bs) refl
     unread : List ℕ → List ℕ → Option (MessageId × List ℕ)
     unread r0 r = option_map (id_with_quoted_left bs r0) (nonempty_id_right r)
 
-    divides : (r0 : List ℕ) → after_closing_quote false bs ≡ Some r0 → (o : Option (List ℕ)) → after_byte 64 r0 ≡ o → P (id, rest)
+    divides : (r0 : List ℕ) → after_closing_quote false bs ≡ Some r0 → (o : Option (List ℕ)) → after_leading_byte 64 r0 ≡ o → P (id, rest)
     divides r0 e None f =
-        absurd (none_some (quoted_id bs) (id, rest) (ap (option_and_then (λ (r0 : List ℕ). option_and_then (unread r0) (after_byte 64 r0))) e ∙ ap (option_and_then (unread r0)) f) h)
+        absurd (none_some (quoted_id bs) (id, rest) (ap (option_and_then (λ (r0 : List ℕ). option_and_then (unread r0) (after_leading_byte 64 r0))) e ∙ ap (option_and_then (unread r0)) f) h)
     divides r0 e (Some r1) f = closes (nonempty_id_right r1) refl
       where
         closes : (o : Option (List ℕ × List ℕ)) → nonempty_id_right r1 ≡ o → P (id, rest)
         closes None g =
             absurd (none_some (quoted_id bs) (id, rest)
-            (ap (option_and_then (λ (r0 : List ℕ). option_and_then (unread r0) (after_byte 64 r0))) e ∙ ap (option_and_then (unread r0)) f ∙ ap (option_map (id_with_quoted_left bs r0)) g) h)
+            (ap (option_and_then (λ (r0 : List ℕ). option_and_then (unread r0) (after_leading_byte 64 r0))) e ∙ ap (option_and_then (unread r0)) f ∙ ap (option_map (id_with_quoted_left bs r0)) g) h)
         closes (Some w) g =
             let q = quoted_of bs r0 e in
             let k = right_at_sound r1 w g in
@@ -202,8 +202,8 @@ quoted_sound bs rest id h = ends (after_closing_quote false bs) refl
             )
 
     ends : (o : Option (List ℕ)) → after_closing_quote false bs ≡ o → P (id, rest)
-    ends None e = absurd (none_some (quoted_id bs) (id, rest) (ap (option_and_then (λ (r0 : List ℕ). option_and_then (unread r0) (after_byte 64 r0))) e) h)
-    ends (Some r0) e = divides r0 e (after_byte 64 r0) refl
+    ends None e = absurd (none_some (quoted_id bs) (id, rest) (ap (option_and_then (λ (r0 : List ℕ). option_and_then (unread r0) (after_leading_byte 64 r0))) e) h)
+    ends (Some r0) e = divides r0 e (after_leading_byte 64 r0) refl
 
 -- what the function reads, the grammar allows
 pub id_sound : (xs rest : List ℕ) (id : MessageId) → id_at xs ≡ Some (id, rest) → (m : List ℕ) × IsMsgId m id × (xs ≡ m ++ rest)

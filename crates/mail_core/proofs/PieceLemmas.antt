@@ -10,7 +10,7 @@ use Rattle.mail_core.specs.Pieces.Piece.{comment, quoted_string, msg_id, single}
 use Rattle.mail_core.specs.MsgIds.{next_piece_id_and_rest, add_identity, ids_of}
 use Rattle.mail_core.proofs.CommentLemmas.{is_it, is_not, closing_rest-at, inside_of}
 use Rattle.mail_core.proofs.QuoteLemmas.{quote_ends, quoted_of}
-use Rattle.mail_core.proofs.MsgIdLemmas.{id_reads, id_sound, one_reading}
+use Rattle.mail_core.proofs.MsgIdLemmas.{id_reads, id_sound, each_msg_id_has_one_reading}
 use Rattle.mail_core.proofs.ScanLemmas.{piece-comment, piece-open, piece-quote, piece-no_quote, piece-id, piece-no_id, ids-cons, ids-skip, ids-end}
 
 cut : (front rest : List ℕ) → drop (length (front ++ rest) - length rest) (front ++ rest) ≡ rest
@@ -162,8 +162,8 @@ divided_within (suc n) (b ∷ bs) h =
     let w = divided_within n f.1 (let g : suc (length bs) ≤ suc n = h in let k = f.4 in omega (arith, g, k)) in
     (f.0 ∷ w.0, (f.1, f.2, f.3, w.1))
 
-pub some_division : (text : List ℕ) → (ps : List Piece) × Pieces text ps
-some_division text = divided_within (length text) text (omega arith)
+pub each_text_has_a_division_or_a_preamble : (text : List ℕ) → (ps : List Piece) × Pieces text ps
+each_text_has_a_division_or_a_preamble text = divided_within (length text) text (omega arith)
 
 -- what a piece leaves is what the function leaves
 identity_of : Piece → Option MessageId
@@ -228,7 +228,7 @@ same_piece (quoted_string q) (single b) r s (v, (k, hk, eq)) hq e h = absurd (tw
 same_piece (msg_id m id) (comment d) r s hp (i, hi, ec) e h = absurd (heads_differ 60 40 _ _ (λ x. omega (arith, x)) (sym hp.3 ∙ h ∙ ec))
 same_piece (msg_id m id) (quoted_string q) r s hp (v, (k, hk, eq)) e h = absurd (heads_differ 60 34 _ _ (λ x. omega (arith, x)) (sym hp.3 ∙ h ∙ eq))
 same_piece (msg_id m id) (msg_id n jd) r s hp hq e h =
-    ap (λ (t : List ℕ). msg_id t id) h ∙ ap (msg_id n) (one_reading m n id jd r s hp hq (ap (λ (l : List ℕ). l ++ r) h ∙ ap (λ (l : List ℕ). n ++ l) e))
+    ap (λ (t : List ℕ). msg_id t id) h ∙ ap (msg_id n) (each_msg_id_has_one_reading m n id jd r s hp hq (ap (λ (l : List ℕ). l ++ r) h ∙ ap (λ (l : List ℕ). n ++ l) e))
 same_piece (msg_id m id) (single b) r s hp hq e h = absurd (two_bytes 60 b _ (last_some (hp.0 ++ 64 ∷ id.right) 62) (sym hp.3 ∙ h))
 same_piece (single b) (comment c) r s hq (i, hi, ec) e h = absurd (two_bytes 40 b _ (last_some i 41) (sym ec ∙ sym h))
 same_piece (single b) (quoted_string q) r s hq (v, (k, hk, eq)) e h = absurd (two_bytes 34 b _ (last_some k 34) (sym eq ∙ sym h))
@@ -236,17 +236,17 @@ same_piece (single b) (msg_id m id) r s hq hp e h = absurd (two_bytes 60 b _ (la
 same_piece (single b) (single c) r s hp hq e h = ap (λ (l : List ℕ). single (head_of l)) h
 
 -- each text has one division
-pub one_division : (ps qs : List Piece) (text : List ℕ) → Pieces text ps → Pieces text qs → ps ≡ qs
-one_division [] [] text h k = refl
-one_division [] (q ∷ qs) text h (s, e, hq, k) =
+pub each_text_has_at_most_one_division : (ps qs : List Piece) (text : List ℕ) → Pieces text ps → Pieces text qs → ps ≡ qs
+each_text_has_at_most_one_division [] [] text h k = refl
+each_text_has_at_most_one_division [] (q ∷ qs) text h (s, e, hq, k) =
     absurd (let w = leaves q s hq in let l : length (text_of_piece q ++ s) ≡ suc (length w.1) = ap length w.2 in let z : length (text_of_piece q ++ s) ≡ 0 = ap length (sym e ∙ h) in omega
     (arith, l, z))
-one_division (p ∷ ps) [] text (r, e, hp, h) k =
+each_text_has_at_most_one_division (p ∷ ps) [] text (r, e, hp, h) k =
     absurd (let w = leaves p r hp in let l : length (text_of_piece p ++ r) ≡ suc (length w.1) = ap length w.2 in let z : length (text_of_piece p ++ r) ≡ 0 = ap length (sym e ∙ k) in omega
     (arith, l, z))
-one_division (p ∷ ps) (q ∷ qs) text (r, e, hp, h) (s, f, hq, k) =
+each_text_has_at_most_one_division (p ∷ ps) (q ∷ qs) text (r, e, hp, h) (s, f, hq, k) =
     let whole : text_of_piece p ++ r ≡ text_of_piece q ++ s = sym e ∙ f in
     let rest : r ≡ s = same_rest p q r s hp hq whole in
     let piece : p ≡ q = same_piece p q r s hp hq rest (same_front (text_of_piece p) (text_of_piece q) r s rest whole) in
-    let later : ps ≡ qs = one_division ps qs s (let P : List ℕ → Type 0 = λ l. Pieces l ps in subst P rest h) k in
+    let later : ps ≡ qs = each_text_has_at_most_one_division ps qs s (let P : List ℕ → Type 0 = λ l. Pieces l ps in subst P rest h) k in
     ap (λ (x : Piece). x ∷ ps) piece ∙ ap (λ (l : List Piece). q ∷ l) later

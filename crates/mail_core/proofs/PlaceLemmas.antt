@@ -16,8 +16,8 @@ between_more bytes more from to low high =
 
 there_more : (bytes more : List ℕ) (place : Place) → IsPlaceWithin (length bytes) place → id_at_place (bytes ++ more) place ≡ id_at_place bytes place
 there_more bytes more place w = λ i. record {
-  left = between_more bytes more place.start place.middle w.first (omega (arith, w.second, w.last)) i;
-  right = between_more bytes more place.middle place.end w.second w.last i;
+  left = between_more bytes more place.start place.middle w.start_at_most_middle (omega (arith, w.middle_at_most_end, w.end_in_range)) i;
+  right = between_more bytes more place.middle place.end w.middle_at_most_end w.end_in_range i;
 }
 
 all_more : (bytes more : List ℕ) (places : List Place) → ArePlacesWithin (length bytes) places → ids_at_places (bytes ++ more) places ≡ ids_at_places bytes places
@@ -30,9 +30,9 @@ same_there old new places begun h = ap (λ (bytes : List ℕ). ids_at_places byt
 
 pub within_more : (old new : List ℕ) (places : List Place) → IsPrefixOfBytes old new → ArePlacesWithin (length old) places → ArePlacesWithin (length new) places
 within_more old new places begun h = λ k d lt. let w = h k d lt in record {
-  first = w.first;
-  second = w.second;
-  last = omega (arith, w.last, ap length begun.1, length-append old begun.0);
+  start_at_most_middle = w.start_at_most_middle;
+  middle_at_most_end = w.middle_at_most_end;
+  end_in_range = omega (arith, w.end_in_range, ap length begun.1, length-append old begun.0);
 }
 
 -- one place more

@@ -3,7 +3,7 @@ use Rattle.std.proofs.Common.{◌≡◌, ◌≢◌, ℕ, zero, suc, ◌+◌, ◌
 use Rattle.std.proofs.Common.{take, drop, get_or, length-drop, drop-drop, get_or-drop, option_map, ◌⊎◌, inl, inr, append_assoc, append-nil, length-take}
 use Rattle.std.proofs.Math.Seq.{take-suc}
 use Rattle.std.specs.Option.{option_and_then}
-use Rattle.mail_core.specs.MsgIds.{MessageId, is_id_left_byte, is_id_right_byte, after_byte, prepend_byte, id_right_to_close, nonempty_id_right}
+use Rattle.mail_core.specs.MsgIds.{MessageId, is_id_left_byte, is_id_right_byte, after_leading_byte, prepend_byte, id_right_to_close, nonempty_id_right}
 use Rattle.mail_core.specs.MsgIds.{Sides, prepend_to_left, sides_of, quoted_id, id_with_quoted_left, id_of_plain_sides, plain_id, id_at}
 use Rattle.mail_core.specs.Quotes.{after_closing_quote, unquoted}
 use Rattle.mail_core.proofs.CommentLemmas.{is_it, is_not, not_equal}
@@ -36,7 +36,7 @@ right-closing_rest xs = refl
 
 pub right-stops : (x : ℕ) (xs : List ℕ) → is_id_right_byte x ≡ false → x ≢ 62 → id_right_to_close (x ∷ xs) ≡ None
 unfolding id_right_to_close
-right-stops x xs h n = rw (h, not_equal x 62 n, id_right_to_close, after_byte) refl
+right-stops x xs h n = rw (h, not_equal x 62 n, id_right_to_close, after_leading_byte) refl
 
 pub right-over : id_right_to_close [] ≡ None
 unfolding id_right_to_close
@@ -210,21 +210,21 @@ divides-here text i at r rest lt h e d =
     ∙ ap (λ (l : List ℕ). Some (l, r, rest)) (append-nil (take (at - i) (drop i text)))
 
 -- @ in front
-pub after_byte-found : (text : List ℕ) (e : ℕ) → e < length text → get_or text e 0 ≡ 64 → after_byte 64 (drop e text) ≡ Some (drop (e + 1) text)
-after_byte-found text e lt h = ap (after_byte 64) (drop-at text e 64 lt h)
+pub after_leading_byte-found : (text : List ℕ) (e : ℕ) → e < length text → get_or text e 0 ≡ 64 → after_leading_byte 64 (drop e text) ≡ Some (drop (e + 1) text)
+after_leading_byte-found text e lt h = ap (after_leading_byte 64) (drop-at text e 64 lt h)
 
-pub after_byte-none : (text : List ℕ) (e : ℕ) → (e < length text → get_or text e 0 ≢ 64) → after_byte 64 (drop e text) ≡ None
-after_byte-none text e h = go (let c : (e < length text) ⊎ (length text ≤ e) = grind arith in c)
+pub after_leading_byte-none : (text : List ℕ) (e : ℕ) → (e < length text → get_or text e 0 ≢ 64) → after_leading_byte 64 (drop e text) ≡ None
+after_leading_byte-none text e h = go (let c : (e < length text) ⊎ (length text ≤ e) = grind arith in c)
   where
-    go : (e < length text) ⊎ (length text ≤ e) → after_byte 64 (drop e text) ≡ None
-    go (inl lt) = ap (after_byte 64) (drop-at text e (get_or text e 0) lt refl) ∙ rw (not_equal (get_or text e 0) 64 (h lt), after_byte) refl
-    go (inr ge) = ap (after_byte 64) (drop-past text e ge)
+    go : (e < length text) ⊎ (length text ≤ e) → after_leading_byte 64 (drop e text) ≡ None
+    go (inl lt) = ap (after_leading_byte 64) (drop-at text e (get_or text e 0) lt refl) ∙ rw (not_equal (get_or text e 0) 64 (h lt), after_leading_byte) refl
+    go (inr ge) = ap (after_leading_byte 64) (drop-past text e ge)
 
 -- the msg-id with a quoted left side
-pub quoted-step : (bs rest r : List ℕ) (w : List ℕ × List ℕ) → after_closing_quote false bs ≡ Some rest → after_byte 64 rest ≡ Some r → nonempty_id_right r ≡ Some w
+pub quoted-step : (bs rest r : List ℕ) (w : List ℕ × List ℕ) → after_closing_quote false bs ≡ Some rest → after_leading_byte 64 rest ≡ Some r → nonempty_id_right r ≡ Some w
     → quoted_id bs ≡ Some (id_with_quoted_left bs rest w)
 quoted-step bs rest r w h k m =
-    ap (option_and_then (λ (rest : List ℕ). option_and_then (λ (r : List ℕ). option_map (id_with_quoted_left bs rest) (nonempty_id_right r)) (after_byte 64 rest))) h
+    ap (option_and_then (λ (rest : List ℕ). option_and_then (λ (r : List ℕ). option_map (id_with_quoted_left bs rest) (nonempty_id_right r)) (after_leading_byte 64 rest))) h
     ∙ ap (option_and_then (λ (r : List ℕ). option_map (id_with_quoted_left bs rest) (nonempty_id_right r))) k
     ∙ ap (option_map (id_with_quoted_left bs rest)) m
 
@@ -232,23 +232,24 @@ pub quoted-found : (text : List ℕ) (s e close : ℕ) (l r : List ℕ) → s < 
     → nonempty_id_right (drop (e + 1) text) ≡ Some (r, drop close text) → l ≡ unquoted false (take (e - 1 - s) (drop s text))
     → quoted_id (drop s text) ≡ Some (record { left = l; right = r }, drop close text)
 quoted-found text s e close l r lt end h a k same =
-    quoted-step (drop s text) (drop e text) (drop (e + 1) text) (r, drop close text) h (after_byte-found text e end a) k
+    quoted-step (drop s text) (drop e text) (drop (e + 1) text) (r, drop close text) h (after_leading_byte-found text e end a) k
     ∙ ap (λ (l : List ℕ). Some (record { left = l; right = r }, drop close text))
     (ap (λ (n : ℕ). unquoted false (take n (drop s text))) (let g : length (drop s text) - (length (drop e text) + 1) ≡ e - 1 - s = simp length-drop (omega (arith, lt, end)) in g) ∙ sym same)
 
 pub quoted-open : (text : List ℕ) (s : ℕ) → after_closing_quote false (drop s text) ≡ None → quoted_id (drop s text) ≡ None
-quoted-open text s h = ap (option_and_then (λ (rest : List ℕ). option_and_then (λ (r : List ℕ). option_map (id_with_quoted_left (drop s text) rest) (nonempty_id_right r)) (after_byte 64 rest))) h
+quoted-open text s h = ap (option_and_then (λ (rest : List ℕ). option_and_then (λ (r : List ℕ). option_map (id_with_quoted_left (drop s text) rest) (nonempty_id_right r))
+    (after_leading_byte 64 rest))) h
 
 pub quoted-no_at : (text : List ℕ) (s e : ℕ) → after_closing_quote false (drop s text) ≡ Some (drop e text) → (e < length text → get_or text e 0 ≢ 64) → quoted_id (drop s text) ≡ None
 quoted-no_at text s e h a =
-    ap (option_and_then (λ (rest : List ℕ). option_and_then (λ (r : List ℕ). option_map (id_with_quoted_left (drop s text) rest) (nonempty_id_right r)) (after_byte 64 rest))) h
-    ∙ ap (option_and_then (λ (r : List ℕ). option_map (id_with_quoted_left (drop s text) (drop e text)) (nonempty_id_right r))) (after_byte-none text e a)
+    ap (option_and_then (λ (rest : List ℕ). option_and_then (λ (r : List ℕ). option_map (id_with_quoted_left (drop s text) rest) (nonempty_id_right r)) (after_leading_byte 64 rest))) h
+    ∙ ap (option_and_then (λ (r : List ℕ). option_map (id_with_quoted_left (drop s text) (drop e text)) (nonempty_id_right r))) (after_leading_byte-none text e a)
 
 pub quoted-no_right : (text : List ℕ) (s e : ℕ) → e < length text → after_closing_quote false (drop s text) ≡ Some (drop e text) → get_or text e 0 ≡ 64
     → nonempty_id_right (drop (e + 1) text) ≡ None → quoted_id (drop s text) ≡ None
 quoted-no_right text s e end h a k =
-    ap (option_and_then (λ (rest : List ℕ). option_and_then (λ (r : List ℕ). option_map (id_with_quoted_left (drop s text) rest) (nonempty_id_right r)) (after_byte 64 rest))) h
-    ∙ ap (option_and_then (λ (r : List ℕ). option_map (id_with_quoted_left (drop s text) (drop e text)) (nonempty_id_right r))) (after_byte-found text e end a)
+    ap (option_and_then (λ (rest : List ℕ). option_and_then (λ (r : List ℕ). option_map (id_with_quoted_left (drop s text) rest) (nonempty_id_right r)) (after_leading_byte 64 rest))) h
+    ∙ ap (option_and_then (λ (r : List ℕ). option_map (id_with_quoted_left (drop s text) (drop e text)) (nonempty_id_right r))) (after_leading_byte-found text e end a)
     ∙ ap (option_map (id_with_quoted_left (drop s text) (drop e text))) k
 
 -- the msg-id without quotes

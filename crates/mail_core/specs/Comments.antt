@@ -18,7 +18,7 @@ IsComment text = (inner : List ℕ) × IsCommentContent inner × (text ≡ open_
 abbrev pub BeginsWithComment : List ℕ → List ℕ → Type 0
 BeginsWithComment text rest = (c : List ℕ) × IsComment c × (text ≡ c ++ rest)
 
--- The same by a count of depth: what a byte of a comment does to it. (`comments_are_counted` proves the two equal.)
+-- The same by a count of depth: what a byte of a comment does to it. (`depth_count_finds_comments` proves the two equal.)
 pub data CommentByteKind : Type 0 where
   opening : CommentByteKind
   closing : CommentByteKind

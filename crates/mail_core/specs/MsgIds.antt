@@ -32,9 +32,9 @@ IsMsgId text id =
     × (text ≡ less_than ∷ local ++ at_sign ∷ id.right ++ greater_than ∷ [])
 
 -- what follows this byte, where the text begins with it
-abbrev pub after_byte : ℕ → List ℕ → Option (List ℕ)
-after_byte k [] = None
-after_byte k (b ∷ bs) = elim (b == k) [ true ↦ Some bs | false ↦ None ]
+abbrev pub after_leading_byte : ℕ → List ℕ → Option (List ℕ)
+after_leading_byte k [] = None
+after_leading_byte k (b ∷ bs) = elim (b == k) [ true ↦ Some bs | false ↦ None ]
 
 abbrev pub prepend_byte : ℕ → List ℕ × List ℕ → List ℕ × List ℕ
 prepend_byte b w = (b ∷ w.0, w.1)
@@ -44,7 +44,7 @@ unfoldable pub id_right_to_close : List ℕ → Option (List ℕ × List ℕ)
 id_right_to_close [] = None
 id_right_to_close (b ∷ bs) = elim (is_id_right_byte b) [
   | true ↦ option_map (prepend_byte b) (id_right_to_close bs)
-  | false ↦ option_map (λ (rest : List ℕ). ([], rest)) (after_byte greater_than (b ∷ bs))
+  | false ↦ option_map (λ (rest : List ℕ). ([], rest)) (after_leading_byte greater_than (b ∷ bs))
 ]
 
 -- a right side of a byte or more, and what follows its >
@@ -65,7 +65,7 @@ sides_of (b ∷ bs) = elim (is_id_left_byte b) [
   | false ↦ None
   | true ↦ elim (sides_of bs) [
     | Some w ↦ Some (prepend_to_left b w)
-    | None ↦ option_and_then (λ (r : List ℕ). option_map (λ (w : List ℕ × List ℕ). ([], w.0, w.1)) (nonempty_id_right r)) (after_byte at_sign (b ∷ bs))
+    | None ↦ option_and_then (λ (r : List ℕ). option_map (λ (w : List ℕ × List ℕ). ([], w.0, w.1)) (nonempty_id_right r)) (after_leading_byte at_sign (b ∷ bs))
   ]
 ]
 
@@ -76,7 +76,8 @@ id_with_quoted_left bs rest w = (record { left = unquoted false (take (length bs
 -- the identity and what follows, behind <"
 abbrev pub quoted_id : List ℕ → Option (MessageId × List ℕ)
 quoted_id bs =
-    option_and_then (λ (rest : List ℕ). option_and_then (λ (r : List ℕ). option_map (id_with_quoted_left bs rest) (nonempty_id_right r)) (after_byte at_sign rest)) (after_closing_quote false bs)
+    option_and_then (λ (rest : List ℕ). option_and_then (λ (r : List ℕ). option_map (id_with_quoted_left bs rest) (nonempty_id_right r)) (after_leading_byte at_sign rest))
+    (after_closing_quote false bs)
 
 abbrev pub id_of_plain_sides : Sides → Option (MessageId × List ℕ)
 id_of_plain_sides ([], r, rest) = None

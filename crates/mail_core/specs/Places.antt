@@ -17,9 +17,9 @@ ids_at_places bytes places = map (id_at_place bytes) places
 
 -- the place is one in so many bytes
 pub record IsPlaceWithin (count : ℕ) (place : Place) : Type 0 where
-  pub first : place.start ≤ place.middle
-  pub second : place.middle ≤ place.end
-  pub last : place.end ≤ count
+  pub start_at_most_middle : place.start ≤ place.middle
+  pub middle_at_most_end : place.middle ≤ place.end
+  pub end_in_range : place.end ≤ count
 
 abbrev pub ArePlacesWithin : ℕ → List Place → Type 0
 ArePlacesWithin count places = All (IsPlaceWithin count) places

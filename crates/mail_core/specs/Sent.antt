@@ -50,15 +50,15 @@ date_at ts = do
   Some (number, year.1)
 
 -- a second of two digits
-unfoldable pub second_at : List Token → Option (ℕ × List Token)
-second_at ts = do
+unfoldable pub leading_two_digit_second : List Token → Option (ℕ × List Token)
+leading_two_digit_second ts = do
   second ← leading_digits_token ts
   n ← parsed_two_digits second.0
   Some (n, second.1)
 
 -- the second behind a second colon, 0 where there is none
 abbrev pub second_after_colon : List Token → Option (ℕ × List Token)
-second_after_colon ts = elim (after_byte_token colon ts) [ None ↦ Some (0, ts) | Some rest ↦ second_at rest ]
+second_after_colon ts = elim (after_byte_token colon ts) [ None ↦ Some (0, ts) | Some rest ↦ leading_two_digit_second rest ]
 
 -- hour, minute and second: the seconds since 00:00:00, and what follows
 unfoldable pub time_at : List Token → Option (ℕ × List Token)

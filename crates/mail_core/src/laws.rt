@@ -7,14 +7,14 @@ ghost use Rattle.mail_core.specs.Pieces.{Piece, Pieces, ids_in};
 ghost use Rattle.mail_core.specs.MsgIds.{ids_of};
 
 /// A comment begins a text exactly where the count of depth says so, and it ends where the count says.
-pub fn comments_are_counted()
+pub fn depth_count_finds_comments()
     ensures counted { (text rest : List ℕ) → BeginsWithComment text rest → after_comment text ≡ Some rest }
     ensures comment { (text rest : List ℕ) → after_comment text ≡ Some rest → BeginsWithComment text rest }
     ensures one { (text r s : List ℕ) → BeginsWithComment text r → BeginsWithComment text s → r ≡ s }
 {}
 
 /// No msg-id has two readings.
-pub fn one_reading()
+pub fn each_msg_id_has_one_reading()
     ensures { (m n : List ℕ) (i j : MessageId) (r s : List ℕ) → IsMsgId m i → IsMsgId n j → m ++ r ≡ n ++ s → i ≡ j }
 {}
 

@@ -61,7 +61,7 @@ fn push_sides(bytes: &mut Vec<u8>, left: &[u8], right: &[u8]) -> Result<Place, M
 }
 
 /// The id that stands there.
-fn read_place<'a>(bytes: &'a [u8], place: &Place) -> MsgIdRef<'a>
+fn read_rowid<'a>(bytes: &'a [u8], place: &Place) -> MsgIdRef<'a>
     requires { IsPlaceWithin (length bytes.now) place.now }
     ensures { result ≡ id_at_place bytes.entry.now place.now }
 {
@@ -104,7 +104,7 @@ impl References {
         ensures { (other : MessageId) → result ≡ get_or self.now at other }
     {
         let place = &self.places[at];
-        read_place(self.bytes.as_slice(), place)
+        read_rowid(self.bytes.as_slice(), place)
     }
 
     /// Puts an id behind the others. `Memory` where no memory is left, or where the bytes of all sides would be 4 GB;

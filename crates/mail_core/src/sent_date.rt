@@ -1,7 +1,7 @@
 //! When a message was sent (RFC 5322 sections 3.3 and 4.3).
 ghost use Rattle.std.specs.Prelude.{◌≡◌, ◌<◌, MatchOption, IfSome, Some, None, pos, neg_ℤ, ◌≤ℤ◌, unwrap_or};
 ghost use Rattle.mail_core.specs.DateTokens.{tokens_of};
-ghost use Rattle.mail_core.specs.Sent.{year_of_digits, without_comma, without_weekday, date_at, second_at};
+ghost use Rattle.mail_core.specs.Sent.{year_of_digits, without_comma, without_weekday, date_at, leading_two_digit_second};
 ghost use Rattle.mail_core.specs.Sent.{second_after_colon, time_at, signed_zone_at, zone_at, utc_seconds_of_time, sent_date_of_body};
 
 use crate::tokens::{behind_sign, next_digits, next_letters, next_sign};
@@ -67,9 +67,9 @@ fn read_date<'a>(text: &'a [u8]) -> Option<(i32, &'a [u8])>
 }
 
 /// The second that comes first, and what follows it.
-#[tactic(auto, unfolding(crate::specs::Sent::second_at))]
+#[tactic(auto, unfolding(crate::specs::Sent::leading_two_digit_second))]
 fn read_second<'a>(text: &'a [u8]) -> Option<(u8, &'a [u8])>
-    ensures { MatchOption result (second_at (tokens_of text.entry.now) ≡ None) (λ found. second_at (tokens_of text.entry.now) ≡ Some (found.0, tokens_of found.1.now)) }
+    ensures { MatchOption result (leading_two_digit_second (tokens_of text.entry.now) ≡ None) (λ found. leading_two_digit_second (tokens_of text.entry.now) ≡ Some (found.0, tokens_of found.1.now)) }
 {
     let (second, rest) = next_digits(text)?;
     let number = read_two(second)?;

@@ -58,12 +58,12 @@ module _ (bytes : List ℕ) (at n : ℕ) (line : List ℕ) (is : line ≡ take n
   preamble_here k h = record {
     blanks = lines (take at bytes);
     line = line;
-    rest = lines (drop n (drop at bytes));
+    lines_after = lines (drop n (drop at bytes));
     are_lines = s.cut ∙ ap (λ ls. lines (take at bytes) ++ ls) (next_line bytes at n line is fits next);
     all_blank = s.all;
-    some = unblank_not line k;
-    none = none_is line h;
-    at = sym (ap length (concat-lines (take at bytes)) ∙ length-take-le at bytes s.low);
+    is_not_blank = unblank_not line k;
+    is_no_separator = none_is line h;
+    offset_is = sym (ap length (concat-lines (take at bytes)) ∙ length-take-le at bytes s.low);
   }
 
 -- a file of blank lines alone

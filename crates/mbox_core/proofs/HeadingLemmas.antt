@@ -142,7 +142,7 @@ instant_is z day s h e = ap checked_instant (less_none (day *ℤ pos 86400 +ℤ 
 -- the month of an arrival
 pub in_year_after : (e : Envelope) → IsEnvelope e → (date_of_days_since_1900 (days_since_1900 (day_of_instant e.arrival))).month - 1 < 12
 in_year_after e is =
-    let split = split_is e.arrival is.arrival in
+    let split = split_is e.arrival is.arrival_is_instant in
     let found = date_is (days_since_1900 (day_of_instant e.arrival)) split.high in
     omega (arith, found.in_year)
 
@@ -150,7 +150,7 @@ pub heading_says : (e : Envelope) → IsEnvelope e → IsSeparator (separator_li
 unfolding time_text
 heading_says e is =
     let z = e.arrival in
-    let split = split_is z is.arrival in
+    let split = split_is z is.arrival_is_instant in
     let day = day_of_instant z in
     let n = days_since_1900 day in
     let date = date_of_days_since_1900 n in
@@ -159,18 +159,18 @@ heading_says e is =
     let in_year : date.month - 1 < 12 = omega (arith, found.in_year) in
     let month : date.month - 1 + 1 ≡ date.month = omega (arith, found.some_month) in
     record {
-      after = e.sender ++ 32 ∷ ctime_text (weekday day) date s;
-      begins = refl;
+      after_from = e.sender ++ 32 ∷ ctime_text (weekday day) date s;
+      begins_with_from = refl;
       weekday = name_at (weekday day) weekday_names;
       month_name = name_at (date.month - 1) month_names;
       day_text = day_token date.day;
       time_text = clock_text s;
       year_text = as_four_digits date.year;
-      who = is.sender.0;
+      sender_tokens = is.is_sender_text.0;
       zone = [];
-      are_tokens = heading_tokens e.sender is.sender.0 day date s is.sender.1 in_year;
-      sender = is.sender.1;
-      arrival = record {
+      are_tokens = heading_tokens e.sender is.is_sender_text.0 day date s is.is_sender_text.1 in_year;
+      are_sender_tokens = is.is_sender_text.1;
+      is_arrival = record {
         weekday_is_day_name = weekday_read (weekday day) (rest_small (day +ℤ pos 3));
         month = date.month;
         is_month = month_read (date.month - 1) in_year ∙ ap (λ m. Some m) month;
@@ -183,8 +183,8 @@ heading_says e is =
         year = date.year;
         is_year = year_read date.year (omega (arith, found.last));
         day_number = day;
-        exists = found_number n day date found split.low;
-        instant = instant_is z day s is.arrival split.same;
+        date_exists = found_number n day date found split.low;
+        instant = instant_is z day s is.arrival_is_instant split.same;
       };
     }
 

@@ -119,7 +119,7 @@ unfolding time_text
 heading_ended e is =
     let day = day_of_instant e.arrival in
     ended_run (codes "From") refl (32 ∷ (e.sender ++ 32 ∷ time_text e.arrival))
-    (ended_space (e.sender ++ 32 ∷ time_text e.arrival) (text_ended e.sender (32 ∷ time_text e.arrival) is.sender
+    (ended_space (e.sender ++ 32 ∷ time_text e.arrival) (text_ended e.sender (32 ∷ time_text e.arrival) is.is_sender_text
     (ended_space (time_text e.arrival) (date_ended (weekday day) (date_of_days_since_1900 (days_since_1900 day)) (unsigned_abs (int_rem_euclid e.arrival (pos 86400)))
     (rest_small (day +ℤ pos 3)) (in_year_after e is)))))
 
@@ -187,22 +187,22 @@ blocks_written [] h = lines-nil
 blocks_written (i ∷ is) h =
     let item : IsItem i = h 0 i (omega arith) in (
       separator_line_text i.envelope ++ 10 ∷ [],
-      subst (λ (x : List ℕ). IsSeparator x i.envelope) (sym (heading_content i.envelope)) (heading_says i.envelope item.envelope),
-      item.none,
+      subst (λ (x : List ℕ). IsSeparator x i.envelope) (sym (heading_content i.envelope)) (heading_says i.envelope item.is_envelope),
+      item.no_line_separates,
       inr (
         10 ∷ [],
         lines (written is),
         lf_blank,
         ap lines (append_assoc (separator_line_text i.envelope ++ 10 ∷ []) (whole i.text ++ 10 ∷ []) (written is))
-            ∙ heading_ended i.envelope item.envelope ((whole i.text ++ 10 ∷ []) ++ written is)
+            ∙ heading_ended i.envelope item.is_envelope ((whole i.text ++ 10 ∷ []) ++ written is)
             ∙ ap (λ ls. (separator_line_text i.envelope ++ 10 ∷ []) ∷ ls) (ap lines (append_assoc (whole i.text) (10 ∷ []) (written is)) ∙ whole_then i.text (written is)),
         blocks_written is (All-tail IsItem i is h),
       ),
     )
 
 -- the division of what is written has the same envelopes, and the whole texts
-pub written_is_cut : (items : List Item) → All IsItem items → DividesIntoItems (written items) (map whole_item items)
-written_is_cut items h = ([], lines (written items), refl, tt, blocks_written items h)
+pub written_messages_are_cut_again : (items : List Item) → All IsItem items → DividesIntoItems (written items) (map whole_item items)
+written_messages_are_cut_again items h = ([], lines (written items), refl, tt, blocks_written items h)
 
 -- ---- what is cut
 
@@ -213,11 +213,11 @@ in_range z arrival false e h = absurd (cc)
 said_envelope : (said : List ℕ) (e : Envelope) → IsSeparator said e → IsEnvelope e
 unfolding instant_of_local_time
 said_envelope said e s =
-    let z : ℤ = s.arrival.day_number *ℤ pos 86400 +ℤ pos s.arrival.seconds -ℤ s.arrival.east in
-    record { sender = (s.who, s.sender); arrival = in_range z e.arrival (is_instant z) refl s.arrival.instant }
+    let z : ℤ = s.is_arrival.day_number *ℤ pos 86400 +ℤ pos s.is_arrival.seconds -ℤ s.is_arrival.east in
+    record { is_sender_text = (s.sender_tokens, s.are_sender_tokens); arrival_is_instant = in_range z e.arrival (is_instant z) refl s.is_arrival.instant }
 
 block_item : (separator_line_text : List ℕ) (i : Item) → IsSeparator (content separator_line_text) i.envelope → NoneSeparates (lines i.text) → IsItem i
-block_item separator_line_text i s n = record { envelope = said_envelope (content separator_line_text) i.envelope s; none = whole_none i.text n }
+block_item separator_line_text i s n = record { is_envelope = said_envelope (content separator_line_text) i.envelope s; no_line_separates = whole_none i.text n }
 
 blocks_items : (items : List Item) (ls : List (List ℕ)) → AreBlocks items ls → All IsItem items
 blocks_items [] ls h = All-nil IsItem
@@ -225,5 +225,5 @@ blocks_items (i ∷ is) ls (h, sep, none, inl last) = All-cons IsItem i is (bloc
 blocks_items (i ∷ is) ls (h, sep, none, inr more) = All-cons IsItem i is (block_item h i sep none) (blocks_items is more.1 more.4)
 
 -- the items of a division are such that they can be written
-pub divided_are_items : (bytes : List ℕ) (items : List Item) → DividesIntoItems bytes items → All IsItem items
-divided_are_items bytes items (blanks, rest, e, b, blocks) = blocks_items items rest blocks
+pub messages_of_a_division_are_items : (bytes : List ℕ) (items : List Item) → DividesIntoItems bytes items → All IsItem items
+messages_of_a_division_are_items bytes items (blanks, rest, e, b, blocks) = blocks_items items rest blocks

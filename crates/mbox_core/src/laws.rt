@@ -9,32 +9,32 @@ pub use mbox_items::laws::{
 };
 
 /// No bytes have two divisions.
-pub fn one_division()
+pub fn each_text_has_at_most_one_division()
     ensures { (bytes : List ℕ) (is js : List Item) → DividesIntoItems bytes is → DividesIntoItems bytes js → is ≡ js }
 {}
 
 /// Bytes have a division, or their first line that is not empty is no separator line.
-pub fn some_division()
+pub fn each_text_has_a_division_or_a_preamble()
     ensures { (bytes : List ℕ) → ((is : List Item) × DividesIntoItems bytes is) ⊎ ((offset : ℕ) × IsPreamble bytes offset) }
 {}
 
 /// Bytes whose first line that is not empty is no separator line have no division.
-pub fn never_both()
+pub fn no_text_has_a_division_and_a_preamble()
     ensures { (bytes : List ℕ) (is : List Item) (offset : ℕ) → DividesIntoItems bytes is → ¬ IsPreamble bytes offset }
 {}
 
 /// The first line that is not empty has one offset.
-pub fn one_preamble()
+pub fn each_text_has_at_most_one_preamble()
     ensures { (bytes : List ℕ) (a b : ℕ) → IsPreamble bytes a → IsPreamble bytes b → a ≡ b }
 {}
 
 /// Each message of a division is one that can be written: its sender is a written form, its arrival lies in the years
 /// 1900 to 9998, and its whole text holds no separator line that follows an empty line.
-pub fn divided_are_items()
+pub fn messages_of_a_division_are_items()
     ensures { (bytes : List ℕ) (items : List Item) → DividesIntoItems bytes items → All IsItem items }
 {}
 
 /// What is written is cut again: its division has the same envelopes, and the whole texts as its texts.
-pub fn written_is_cut()
+pub fn written_messages_are_cut_again()
     ensures { (items : List Item) → All IsItem items → DividesIntoItems (written items) (map whole_item items) }
 {}

@@ -4,7 +4,7 @@ ghost use Rattle.mbox_items.specs.Division.{whole};
 ghost use Rattle.mbox_items.specs.Written.{AppendsPrefixOfText, separator_line_text, two_token_separator_line, written_item, with_lf};
 
 use crate::heading::time_line;
-use byte_device::{Sink, WriteFault, write_bytes, write_two};
+use byte_device::{Sink, WriteFault, write_bytes, write_two_slices};
 use mbox_items::{Envelope, Item, Sender};
 
 /// The longest sender whose separator line is put together before it is written.
@@ -46,7 +46,7 @@ fn write_long<W: Sink>(out: &mut W, sender: &[u8], end: [u8; 26]) -> Result<(), 
     ensures cause { OnErr result (W.failures out.old < W.failures out.new) }
 {
     write_bytes(out, b"From ")?;
-    match write_two(out, sender, &end) {
+    match write_two_slices(out, sender, &end) {
         Ok(()) => Ok(()),
         Err(fault) => Err(WriteFault {
             written: 5 + fault.written,
@@ -81,9 +81,9 @@ fn write_at_line<W: Sink>(
     ensures quiet { OnOk result (W.failures out.new ≡ W.failures out.old) }
     ensures cause { OnErr result (W.failures out.old < W.failures out.new) }
 {
-    write_two(out, b"From ", left)?;
+    write_two_slices(out, b"From ", left)?;
     let before_at = 5 + left.len() as u64;
-    if let Err(fault) = write_two(out, b" at ", right) {
+    if let Err(fault) = write_two_slices(out, b" at ", right) {
         return Err(WriteFault {
             written: before_at.saturating_add(fault.written),
         });
@@ -156,7 +156,7 @@ pub fn write_item<W: Sink>(out: &mut W, item: &Item) -> Result<(), WriteFault>
     if let Err(fault) = write_heading(out, &item.envelope) {
         return Err(fault);
     }
-    if let Err(fault) = write_two(out, item.text, tail_of(item)) {
+    if let Err(fault) = write_two_slices(out, item.text, tail_of(item)) {
         return Err(WriteFault {
             written: heading_len(&item.envelope).saturating_add(fault.written),
         });

@@ -41,7 +41,7 @@ begins : (l : List ℕ) (e : Envelope) → separator_of (content l) ≡ Some e �
 begins l e h =
     let s = separator_is (content l) e h in
     let f = content_front l in
-    (s.after ++ f.0, f.1 ∙ ap (λ x. x ++ f.0) s.begins ∙ append_assoc (codes "From ") s.after f.0)
+    (s.after_from ++ f.0, f.1 ∙ ap (λ x. x ++ f.0) s.begins_with_from ∙ append_assoc (codes "From ") s.after_from f.0)
 
 occurs_first : (r : List ℕ) → OccursAt (mark ++ r) mark 0
 occurs_first r = record {

@@ -21,7 +21,7 @@ pub written_is : (s : Sender) (text : List ℕ) → IsSender s → text ≡ send
 written_is s text h e = rw e (sender_is s h)
 
 pub envelope_is : (s : Sender) (z : ℤ) → IsSender s → is_instant z ≡ true → IsEnvelope (record { sender = sender_text s; arrival = z })
-envelope_is s z h g = record { sender = sender_is s h; arrival = g }
+envelope_is s z h g = record { is_sender_text = sender_is s h; arrival_is_instant = g }
 
 -- ---- the first space of a text that two tokens write
 

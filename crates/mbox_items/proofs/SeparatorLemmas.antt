@@ -59,7 +59,7 @@ arrival_says b c d e zone f arrival h =
       year = y.0;
       is_year = y.1;
       day_number = i.0;
-      exists = i.1;
+      date_exists = i.1;
       instant = i.2;
     }
 
@@ -68,7 +68,7 @@ says_arrival : (b c d e : List ℕ) (zone : List (List ℕ)) (f : List ℕ) (o :
 unfolding arrival_of
 says_arrival b c d e zone f o arrival h s =
     let is : o ≡ Some s.east = h ∙ s.is_zone in
-    rw (s.weekday_is_day_name, s.is_month, s.is_day, s.is_time, is, s.is_year, s.exists, s.instant) refl
+    rw (s.weekday_is_day_name, s.is_month, s.is_day, s.is_time, is, s.is_year, s.date_exists, s.instant) refl
 
 -- ---- senders
 
@@ -188,9 +188,9 @@ separator_is said envelope h =
     let g = guard_some (bytes_eq (take 5 said) (codes "From ")) _ envelope h in
     let s = tokens_say (tokens (drop 5 said)) envelope g.1 in
     record {
-      after = drop 5 said;
-      begins = sym (take-append-drop 5 said) ∙ ap (λ x. x ++ drop 5 said) (from_is said g.0);
-      who = s.who;
+      after_from = drop 5 said;
+      begins_with_from = sym (take-append-drop 5 said) ∙ ap (λ x. x ++ drop 5 said) (from_is said g.0);
+      sender_tokens = s.who;
       weekday = s.weekday;
       month_name = s.month_name;
       day_text = s.day_text;
@@ -198,8 +198,8 @@ separator_is said envelope h =
       zone = s.zone;
       year_text = s.year_text;
       are_tokens = s.are_tokens;
-      sender = s.sender;
-      arrival = s.arrival;
+      are_sender_tokens = s.sender;
+      is_arrival = s.arrival;
     }
 
 begun : (after : List ℕ) → separator_of (codes "From " ++ after) ≡ envelope_of (tokens after)
@@ -209,16 +209,16 @@ begun after = refl
 -- what is in the relation is computed
 pub separator_all : (said : List ℕ) (envelope : Envelope) → IsSeparator said envelope → separator_of said ≡ Some envelope
 separator_all said envelope s =
-    ap separator_of s.begins ∙ begun s.after ∙ ap envelope_of s.are_tokens
-    ∙ say_tokens s.who s.weekday s.month_name s.day_text s.time_text s.zone s.year_text envelope s.sender s.arrival
+    ap separator_of s.begins_with_from ∙ begun s.after_from ∙ ap envelope_of s.are_tokens
+    ∙ say_tokens s.sender_tokens s.weekday s.month_name s.day_text s.time_text s.zone s.year_text envelope s.are_sender_tokens s.is_arrival
 
 pub instant_is : (day : ℤ) (seconds : ℕ) (east : ℤ) → checked_instant (day *ℤ pos 86400 +ℤ pos seconds -ℤ east) ≡ instant_of_local_time day seconds east
 unfolding instant_of_local_time
 instant_is day seconds east = refl
 
 -- no content says two envelopes
-pub one_envelope : (said : List ℕ) (a b : Envelope) → IsSeparator said a → IsSeparator said b → a ≡ b
-one_envelope said a b h g = some_is a b (sym (separator_all said a h) ∙ separator_all said b g)
+pub each_line_has_at_most_one_envelope : (said : List ℕ) (a b : Envelope) → IsSeparator said a → IsSeparator said b → a ≡ b
+each_line_has_at_most_one_envelope said a b h g = some_is a b (sym (separator_all said a h) ∙ separator_all said b g)
 
 -- ---- what the code finds, token by token
 

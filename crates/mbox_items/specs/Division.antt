@@ -49,12 +49,12 @@ DividesIntoItems bytes items = (blanks : List (List ℕ)) × (rest : List (List 
 pub record IsPreamble (bytes : List ℕ) (offset : ℕ) : Type 0 where
   pub blanks : List (List ℕ)
   pub line : List ℕ
-  pub rest : List (List ℕ)
-  pub are_lines : lines bytes ≡ blanks ++ line ∷ rest
+  pub lines_after : List (List ℕ)
+  pub are_lines : lines bytes ≡ blanks ++ line ∷ lines_after
   pub all_blank : AllByRecursion IsBlankLine blanks
-  pub some : ¬ IsBlankLine line
-  pub none : ¬ IsSeparatorLine line
-  pub at : offset ≡ length (concat blanks)
+  pub is_not_blank : ¬ IsBlankLine line
+  pub is_no_separator : ¬ IsSeparatorLine line
+  pub offset_is : offset ≡ length (concat blanks)
 
 -- the text is empty or ends in LF
 abbrev pub is_empty_or_ends_in_lf : List ℕ → Bool

@@ -102,24 +102,24 @@ pub record IsArrival (weekday month_name day_text time_text : List ℕ) (zone : 
   pub year : ℕ
   pub is_year : parsed_four_digit_year year_text ≡ Some year
   pub day_number : ℤ
-  pub exists : checked_day_number year month day ≡ Some day_number
+  pub date_exists : checked_day_number year month day ≡ Some day_number
   pub instant : instant_of_local_time day_number seconds east ≡ Some arrival
 
 -- A content says this envelope: `From `, and then six to nine tokens between runs of spaces, which are one or three of a
 -- sender, a weekday, a month, a day, a time, a zone or none, and a year.
 pub record IsSeparator (said : List ℕ) (envelope : Envelope) : Type 0 where
-  pub after : List ℕ
-  pub begins : said ≡ codes "From " ++ after
-  pub who : List (List ℕ)
+  pub after_from : List ℕ
+  pub begins_with_from : said ≡ codes "From " ++ after_from
+  pub sender_tokens : List (List ℕ)
   pub weekday : List ℕ
   pub month_name : List ℕ
   pub day_text : List ℕ
   pub time_text : List ℕ
   pub zone : List (List ℕ)
   pub year_text : List ℕ
-  pub are_tokens : tokens after ≡ who ++ (weekday ∷ month_name ∷ day_text ∷ time_text ∷ (zone ++ (year_text ∷ [])))
-  pub sender : AreTokensOfSender who envelope.sender
-  pub arrival : IsArrival weekday month_name day_text time_text zone year_text envelope.arrival
+  pub are_tokens : tokens after_from ≡ sender_tokens ++ (weekday ∷ month_name ∷ day_text ∷ time_text ∷ (zone ++ (year_text ∷ [])))
+  pub are_sender_tokens : AreTokensOfSender sender_tokens envelope.sender
+  pub is_arrival : IsArrival weekday month_name day_text time_text zone year_text envelope.arrival
 
 -- ---- the same, computed
 

@@ -60,10 +60,10 @@ whole_item item = record { envelope = item.envelope; text = whole item.text }
 
 -- the sender is a written form, and the arrival lies in the years 1900 to 9998
 pub record IsEnvelope (envelope : Envelope) : Type 0 where
-  pub sender : IsSenderText envelope.sender
-  pub arrival : is_instant envelope.arrival ≡ true
+  pub is_sender_text : IsSenderText envelope.sender
+  pub arrival_is_instant : is_instant envelope.arrival ≡ true
 
 -- what each message is: no line of its whole text is a separator line that follows an empty line
 pub record IsItem (item : Item) : Type 0 where
-  pub envelope : IsEnvelope item.envelope
-  pub none : NoneSeparates (lines (whole item.text))
+  pub is_envelope : IsEnvelope item.envelope
+  pub no_line_separates : NoneSeparates (lines (whole item.text))

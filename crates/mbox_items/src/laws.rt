@@ -7,23 +7,23 @@ ghost use Rattle.mbox_items.specs.Division.{Item, NoneSeparates, is_empty_or_end
 ghost use Rattle.mbox_items.specs.Written.{IsItem, whole_item};
 
 /// No content of a line says two envelopes.
-pub fn one_envelope()
+pub fn each_line_has_at_most_one_envelope()
     ensures { (said : List ℕ) (a b : Envelope) → IsSeparator said a → IsSeparator said b → a ≡ b }
 {}
 
 /// A whole text is empty or ends in LF, and so it is its own whole text.
-pub fn whole_is_whole()
+pub fn a_whole_text_is_its_own_whole_text()
     ensures whole { (text : List ℕ) → is_empty_or_ends_in_lf (whole text) ≡ true }
     ensures once { (text : List ℕ) → whole (whole text) ≡ whole text }
 {}
 
 /// A line of the whole text is a separator line that follows an empty line exactly where one of the text is.
-pub fn whole_separates_alike()
+pub fn a_whole_text_has_the_same_separators()
     ensures whole { (text : List ℕ) → NoneSeparates (lines text) → NoneSeparates (lines (whole text)) }
     ensures text { (text : List ℕ) → NoneSeparates (lines (whole text)) → NoneSeparates (lines text) }
 {}
 
 /// A message that can be written is one with its whole text in place of its text too.
-pub fn whole_items_are_items()
+pub fn whole_items_stay_items()
     ensures { (item : Item) → IsItem item → IsItem (whole_item item) }
 {}

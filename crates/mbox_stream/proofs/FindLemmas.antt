@@ -16,7 +16,7 @@ use Rattle.mbox_stream.specs.Stream.{settled_bytes}
 use Rattle.mbox_stream.specs.Window.{HoldsWholeLines, lf_and_from, EndsOpenMessage, IsSearchedUpTo, SeparatesAfterBlankLine, IsNonSeparatingLine, CutsAtFirstSeparator}
 use Rattle.mbox_stream.specs.Found.{HoldsNoWholeSeparator}
 use Rattle.mbox_stream.proofs.StreamLemmas.{settled_bytes_all}
-use Rattle.mbox_stream.proofs.WindowLemmas.{ended_whole, settled_append, settled_lf, settled_none, settled_front, whole_append, cut_off}
+use Rattle.mbox_stream.proofs.WindowLemmas.{ended_whole, settled_append, settled_lf, no_item_is_settled_before_a_preamble, settled_front, whole_append, cut_off}
 
 -- ---- where a mark stands
 
@@ -140,7 +140,7 @@ found_line bytes here line at n e is h =
 pub found_no_line : (bytes here : List ℕ) (at : ℕ) → here ≡ drop at bytes → Nowhere (Passes (is_byte 10) here) 0 (length here) → settled_bytes (drop at bytes) ≡ []
 found_no_line bytes here at e h =
     let S : List ℕ → Type 0 = λ x. settled_bytes x ≡ [] in
-    subst S e (settled_none here (λ k lt q. h k (omega arith) lt q))
+    subst S e (no_item_is_settled_before_a_preamble here (λ k lt q. h k (omega arith) lt q))
 
 -- a byte at the front that ends no line stays
 keeps : (b x : ℕ) (xs : List ℕ) → (x == b) ≡ false → (ys : List ℕ) × (without_final_byte b (x ∷ xs) ≡ x ∷ ys)
@@ -172,14 +172,14 @@ heads_by false l h = refl
 -- no mark stands from the front on
 module _ (bytes : List ℕ) (at : ℕ) (l : IsSearchedUpTo bytes at) where
   unmarked_before : (k : ℕ) → length l.front ≤ k → k < at → ¬ OccursAt bytes lf_and_from k
-  unmarked_before k low lt o = let K : List ℕ → Type 0 = λ x. OccursAt x lf_and_from k in l.unmarked [] k low lt (subst K (sym (append-nil bytes)) o)
+  unmarked_before k low lt o = let K : List ℕ → Type 0 = λ x. OccursAt x lf_and_from k in l.no_mark_before [] k low lt (subst K (sym (append-nil bytes)) o)
 
   -- one in what follows the front is one of the whole
-  of_rest : (c d : List ℕ) (k : ℕ) → l.rest ≡ c ++ d → OccursAt c lf_and_from k → OccursAt bytes lf_and_from (length l.front + k)
+  of_rest : (c d : List ℕ) (k : ℕ) → l.unsearched ≡ c ++ d → OccursAt c lf_and_from k → OccursAt bytes lf_and_from (length l.front + k)
   of_rest c d k e o =
       let K : List ℕ → Type 0 = λ x. OccursAt x lf_and_from (length l.front + k) in
       let R : List ℕ → Type 0 = λ x. OccursAt x lf_and_from k in
-      subst K (sym l.parts) (occurs_behind l.front l.rest k (subst R (sym e) (occurs_prefix c d k o)))
+      subst K (sym l.bytes_are) (occurs_behind l.front l.unsearched k (subst R (sym e) (occurs_prefix c d k o)))
 
   -- none from `at` on
   module _ (none : (k : ℕ) → at ≤ k → ¬ OccursAt bytes lf_and_from k) where
@@ -192,27 +192,27 @@ module _ (bytes : List ℕ) (at : ℕ) (l : IsSearchedUpTo bytes at) where
 
     pub none_more : (from : ℕ) → at ≤ from → from ≤ length bytes → ((k : ℕ) → at ≤ k → k < from → k + 6 ≤ length bytes) → HoldsNoWholeSeparator bytes from
     none_more from low high fits =
-        let s = settled_bytes_all l.rest in
-        let all : settled_bytes bytes ≡ l.front ++ settled_bytes l.rest = ap settled_bytes l.parts ∙ settled_append l.front l.rest l.whole in
+        let s = settled_bytes_all l.unsearched in
+        let all : settled_bytes bytes ≡ l.front ++ settled_bytes l.unsearched = ap settled_bytes l.bytes_are ∙ settled_append l.front l.unsearched l.whole_lines in
         let N : List ℕ → Type 0 = λ x. NoneSeparates (lines x) in
-        let quiet = quiet_on l.front (settled_bytes l.rest) l.whole l.none l.ends
-        (λ k o. none_at_all (length l.front + k) (omega arith) (of_rest (settled_bytes l.rest) s.0 k s.1 o)) in (
+        let quiet = quiet_on l.front (settled_bytes l.unsearched) l.whole_lines l.no_line_separates l.ends_unblank
+        (λ k o. none_at_all (length l.front + k) (omega arith) (of_rest (settled_bytes l.unsearched) s.0 k s.1 o)) in (
           record {
             front = l.front;
-            rest = l.rest;
-            parts = l.parts;
-            whole = l.whole;
-            none = l.none;
-            ends = l.ends;
-            low = omega (arith, l.low, low);
-            high = high;
-            unmarked = λ more k first lt o. cases more k first lt o (cases_lt k at);
+            unsearched = l.unsearched;
+            bytes_are = l.bytes_are;
+            whole_lines = l.whole_lines;
+            no_line_separates = l.no_line_separates;
+            ends_unblank = l.ends_unblank;
+            from_behind_front = omega (arith, l.from_behind_front, low);
+            from_in_range = high;
+            no_mark_before = λ more k first lt o. cases more k first lt o (cases_lt k at);
           },
           in_none (settled_bytes bytes) (subst N (sym all) quiet),
         )
       where
         cases : (more : List ℕ) (k : ℕ) → length l.front ≤ k → k < from → OccursAt (bytes ++ more) lf_and_from k → (k < at) ⊎ (at ≤ k) → ⊥
-        cases more k first lt o (inl below) = l.unmarked more k first below o
+        cases more k first lt o (inl below) = l.no_mark_before more k first below o
         cases more k first lt o (inr above) = none k above (occurs_within bytes more k (fits k above lt) o)
 
   -- one at `p`
@@ -224,18 +224,18 @@ module _ (bytes : List ℕ) (at : ℕ) (l : IsSearchedUpTo bytes at) where
     behind = p + 1 - length l.front
 
     abbrev pub chunk : List ℕ
-    chunk = take behind l.rest
+    chunk = take behind l.unsearched
 
     upto_is : upto ≡ l.front ++ chunk
     upto_is =
-        let n : p + 1 ≡ length l.front + behind = omega (arith, l.low, m.low) in
-        ap (λ k. take k bytes) n ∙ ap (take (length l.front + behind)) l.parts ∙ take-append-add l.front l.rest behind
+        let n : p + 1 ≡ length l.front + behind = omega (arith, l.from_behind_front, m.low) in
+        ap (λ k. take k bytes) n ∙ ap (take (length l.front + behind)) l.bytes_are ∙ take-append-add l.front l.unsearched behind
 
     none_chunk : (k : ℕ) → ¬ OccursAt chunk lf_and_from k
     none_chunk k o =
         let f : k + 6 ≤ length chunk = o.fits in
-        let below : length l.front + k < p = omega (arith, f, length-take behind l.rest, l.low, m.low) in
-        let w = of_rest chunk (drop behind l.rest) k (sym (take-append-drop behind l.rest)) o in
+        let below : length l.front + k < p = omega (arith, f, length-take behind l.unsearched, l.from_behind_front, m.low) in
+        let w = of_rest chunk (drop behind l.unsearched) k (sym (take-append-drop behind l.unsearched)) o in
         cases below w (cases_lt (length l.front + k) at)
       where
         cases : length l.front + k < p → OccursAt bytes lf_and_from (length l.front + k) → (length l.front + k < at) ⊎ (at ≤ length l.front + k) → ⊥
@@ -245,7 +245,7 @@ module _ (bytes : List ℕ) (at : ℕ) (l : IsSearchedUpTo bytes at) where
     pub none_upto : NoneSeparates (lines upto)
     none_upto =
         let N : List ℕ → Type 0 = λ x. NoneSeparates (lines x) in
-        subst N (sym upto_is) (quiet_on l.front chunk l.whole l.none l.ends none_chunk)
+        subst N (sym upto_is) (quiet_on l.front chunk l.whole_lines l.no_line_separates l.ends_unblank none_chunk)
 
     pub whole_upto : HoldsWholeLines upto
     whole_upto =
@@ -259,20 +259,20 @@ module _ (bytes : List ℕ) (at : ℕ) (l : IsSearchedUpTo bytes at) where
         let N : List ℕ → Type 0 = λ x. NoneSeparates (lines x) in (
           record {
             front = l.front;
-            rest = l.rest;
-            parts = l.parts;
-            whole = l.whole;
-            none = l.none;
-            ends = l.ends;
-            low = omega (arith, l.low, m.low);
-            high = omega (arith, m.fits);
-            unmarked = λ more k first lt o. cases more k first lt o (cases_lt k at);
+            unsearched = l.unsearched;
+            bytes_are = l.bytes_are;
+            whole_lines = l.whole_lines;
+            no_line_separates = l.no_line_separates;
+            ends_unblank = l.ends_unblank;
+            from_behind_front = omega (arith, l.from_behind_front, m.low);
+            from_in_range = omega (arith, m.fits);
+            no_mark_before = λ more k first lt o. cases more k first lt o (cases_lt k at);
           },
           in_none (settled_bytes bytes) (subst N (sym all) none_upto),
         )
       where
         cases : (more : List ℕ) (k : ℕ) → length l.front ≤ k → k < p → OccursAt (bytes ++ more) lf_and_from k → (k < at) ⊎ (at ≤ k) → ⊥
-        cases more k first lt o (inl below) = l.unmarked more k first below o
+        cases more k first lt o (inl below) = l.no_mark_before more k first below o
         cases more k first lt o (inr above) = m.before k above lt (occurs_within bytes more k (omega (arith, lt, m.fits)) o)
 
     -- the line after it is whole
@@ -295,22 +295,22 @@ module _ (bytes : List ℕ) (at : ℕ) (l : IsSearchedUpTo bytes at) where
       text_looked t =
           let N : List (List ℕ) → Type 0 = λ x. NoneSeparates x in
           let E : List (List ℕ) → Type 0 = λ x. EndsUnblank x in
-          let last_is : last_blank false (lines upto) ≡ is_blank_line t.last = ap (last_blank false) t.are_lines ∙ last_append false t.before (t.last ∷ []) in
+          let last_is : last_blank false (lines upto) ≡ is_blank_line t.last = ap (last_blank false) t.are_lines ∙ last_append false t.lines_before (t.last ∷ []) in
           let head : heads (last_blank false (lines upto)) line ≡ None =
-          ap (λ b. heads b line) last_is ∙ heads_by (is_blank_line t.last) line t.says in
+          ap (λ b. heads b line) last_is ∙ heads_by (is_blank_line t.last) line t.no_separator_after_blank in
           let quiet = quiet_append false (lines upto) (line ∷ []) (quiet_false (lines upto) none_upto) (head, tt) in
           let first : get_or line 0 0 ≡ 70 = ap (λ x. get_or x 0 0) is ∙ first_byte in
           let size : length (upto ++ line) ≡ len = ap length (sym joined) ∙ (omega (arith, length-take len bytes, within)) in
           record {
             front = upto ++ line;
-            rest = drop len bytes;
-            parts = sym (take-append-drop len bytes) ∙ ap (λ x. x ++ drop len bytes) joined;
-            whole = whole_joined;
-            none = subst N (sym lines_joined) (none_separates false (lines upto ++ line ∷ []) quiet);
-            ends = subst E (sym lines_joined) (ends_from (lines upto) line (begins_unblank line first));
-            low = omega (arith, size);
-            high = within;
-            unmarked = λ more k low lt o. absurd (let bad : len ≤ k = omega (arith, low, size) in omega (arith, bad, lt));
+            unsearched = drop len bytes;
+            bytes_are = sym (take-append-drop len bytes) ∙ ap (λ x. x ++ drop len bytes) joined;
+            whole_lines = whole_joined;
+            no_line_separates = subst N (sym lines_joined) (none_separates false (lines upto ++ line ∷ []) quiet);
+            ends_unblank = subst E (sym lines_joined) (ends_from (lines upto) line (begins_unblank line first));
+            from_behind_front = omega (arith, size);
+            from_in_range = within;
+            no_mark_before = λ more k low lt o. absurd (let bad : len ≤ k = omega (arith, low, size) in omega (arith, bad, lt));
           }
         where
           first_byte : get_or (take (n + 1) (drop (p + 1) bytes)) 0 0 ≡ 70
@@ -321,17 +321,17 @@ module _ (bytes : List ℕ) (at : ℕ) (l : IsSearchedUpTo bytes at) where
       -- it separates
       pub next_found : (text : List ℕ) (next : Envelope) → SeparatesAfterBlankLine upto line text next → CutsAtFirstSeparator bytes len text next
       next_found text next h =
-          let quiet : Quiet false (lines text ++ h.blank ∷ []) = subst (Quiet false) h.are_lines (quiet_false (lines upto) none_upto) in
+          let quiet : Quiet false (lines text ++ h.blank_line ∷ []) = subst (Quiet false) h.are_lines (quiet_false (lines upto) none_upto) in
           record {
-            some = omega (arith, adds);
-            high = within;
-            none = none_separates false (lines text) (quiet_front false (lines text) (h.blank ∷ []) quiet);
-            cut = λ e. cut e quiet;
+            len_is_positive = omega (arith, adds);
+            len_in_range = within;
+            no_line_separates = none_separates false (lines text) (quiet_front false (lines text) (h.blank_line ∷ []) quiet);
+            ends_open_message = λ e. cut e quiet;
           }
         where
-          cut : (e : Envelope) → Quiet false (lines text ++ h.blank ∷ []) → EndsOpenMessage e next (take len bytes) (one e text)
+          cut : (e : Envelope) → Quiet false (lines text ++ h.blank_line ∷ []) → EndsOpenMessage e next (take len bytes) (one e text)
           cut e quiet =
               let C : List ℕ → Type 0 = λ x. EndsOpenMessage e next x (one e text) in
               let T : List ℕ → Type 0 = λ x. EndsOpenMessage e next (upto ++ line) (one e x) in
-              let are : lines (upto ++ line) ≡ (lines text ++ h.blank ∷ []) ++ line ∷ [] = lines_joined ∙ ap (λ x. x ++ line ∷ []) h.are_lines in
-              subst C (sym joined) (subst T (concat-lines text) (cut_off e next (upto ++ line) (lines text) h.blank line whole_joined are quiet h.is_empty h.says))
+              let are : lines (upto ++ line) ≡ (lines text ++ h.blank_line ∷ []) ++ line ∷ [] = lines_joined ∙ ap (λ x. x ++ line ∷ []) h.are_lines in
+              subst C (sym joined) (subst T (concat-lines text) (cut_off e next (upto ++ line) (lines text) h.blank_line line whole_joined are quiet h.is_empty h.line_separates))

@@ -30,7 +30,7 @@ all_snoc [] l h b = (b, tt)
 all_snoc (m ∷ ls) l h b = (h.0, all_snoc ls l h.1 b)
 
 pub passed : (bytes : List ℕ) (at : ℕ) → Blanks bytes at → settled_bytes (drop at bytes) ≡ [] → SkipsBlankLinesTo bytes at
-passed bytes at b none = record { low = b.low; whole = b.whole; blank = b.blank; rest = none }
+passed bytes at b none = record { at_in_range = b.low; whole_lines = b.whole; all_blank = b.blank; nothing_settled_after = none }
 
 -- a whole line after them
 module _ (bytes : List ℕ) (at n : ℕ) (b : Blanks bytes at) (line : List ℕ) (is : line ≡ take (n + 1) (drop at bytes)) (long : n < length (drop at bytes))
@@ -53,15 +53,15 @@ module _ (bytes : List ℕ) (at n : ℕ) (b : Blanks bytes at) (line : List ℕ)
 
   pub opening : (e : Envelope) → separator_of (content line) ≡ Some e → OpensFirstMessage bytes (at + (n + 1)) e
   opening e s = record {
-    low = omega (arith, long, length-drop at bytes);
+    at_in_range = omega (arith, long, length-drop at bytes);
     blanks = take at bytes;
     line = line;
-    parts = joined;
-    whole = b.whole;
+    bytes_are = joined;
+    whole_lines = b.whole;
     whole_line = ended;
     one_line = alone;
-    blank = b.blank;
-    says = s;
+    all_blank = b.blank;
+    line_separates = s;
   }
 
   pub faulty : is_blank_line line ≡ false → separator_of (content line) ≡ None → IsSettledPreamble bytes at
@@ -75,11 +75,11 @@ module _ (bytes : List ℕ) (at n : ℕ) (b : Blanks bytes at) (line : List ℕ)
       record {
         blanks = lines (take at bytes);
         line = line;
-        rest = lines (settled_bytes rest);
+        lines_after = lines (settled_bytes rest);
         are_lines = ap lines settled ∙ ended_whole (take at bytes ++ line) whole (settled_bytes rest)
             ∙ ap (λ x. x ++ lines (settled_bytes rest)) lines_joined ∙ append_assoc (lines (take at bytes)) (line ∷ []) (lines (settled_bytes rest));
         all_blank = b.blank;
-        some = unblank_not line k;
-        none = none_is line s;
-        at = sym (ap length (concat-lines (take at bytes)) ∙ (omega (arith, length-take at bytes, b.low)));
+        is_not_blank = unblank_not line k;
+        is_no_separator = none_is line s;
+        offset_is = sym (ap length (concat-lines (take at bytes)) ∙ (omega (arith, length-take at bytes, b.low)));
       }

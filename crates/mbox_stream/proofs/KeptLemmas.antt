@@ -18,7 +18,7 @@ use Rattle.mbox_stream.specs.declared.window.Place.{Place}
 use Rattle.mbox_stream.specs.declared.window.Place.TheVariants.{Front, Message}
 use Rattle.mbox_stream.proofs.WindowLemmas.{settled_nil, settled_append, ended_whole, whole_append, window_cut, window_fed, window_end, window_settled, window_sound, settled_front, settled_same}
 use Rattle.mbox_stream.proofs.StreamLemmas.{settled_bytes_all}
-use Rattle.mbox_stream.proofs.StreamLaws.{all_blank_is, is_all_blank, file_items_divide, settled_grow, settled_none, settled_preamble}
+use Rattle.mbox_stream.proofs.StreamLaws.{all_blank_is, is_all_blank, file_items_divide, settled_items_only_grow, no_item_is_settled_before_a_preamble, a_settled_preamble_stays}
 
 -- ---- while a message is open
 
@@ -28,14 +28,14 @@ looked_start bytes =
     let E : List (List ℕ) → Type 0 = λ x. EndsUnblank x in
     record {
       front = [];
-      rest = bytes;
-      parts = refl;
-      whole = settled_nil;
-      none = subst N (sym lines-nil) tt;
-      ends = subst E (sym lines-nil) tt;
-      low = omega arith;
-      high = omega arith;
-      unmarked = λ more k low lt o. absurd (omega (arith, lt));
+      unsearched = bytes;
+      bytes_are = refl;
+      whole_lines = settled_nil;
+      no_line_separates = subst N (sym lines-nil) tt;
+      ends_unblank = subst E (sym lines-nil) tt;
+      from_behind_front = omega arith;
+      from_in_range = omega arith;
+      no_mark_before = λ more k low lt o. absurd (omega (arith, lt));
     }
 
 -- one message is cut off
@@ -48,11 +48,11 @@ window_next e next stream bytes text start len taken waiting w n =
     let D : List ℕ → Type 0 = λ x. IsOpenMessageWindow next stream x (taken ++ (waiting ++ one e text ∷ [])) in
     let I : List Item → Type 0 = λ x. IsOpenMessageWindow next stream (drop len rest) x in
     let parted = subst P (sym (take-append-drop len rest)) w in
-    let cut = window_cut e next stream (take len rest) (drop len rest) (taken ++ waiting) (one e text) parted (n.cut e) in
+    let cut = window_cut e next stream (take len rest) (drop len rest) (taken ++ waiting) (one e text) parted (n.ends_open_message e) in
     subst D (drop-drop len start bytes) (subst I (append_assoc taken waiting (one e text ∷ [])) cut)
 
 pub start_next : (bytes text : List ℕ) (start len : ℕ) (next : Envelope) → start ≤ length bytes → CutsAtFirstSeparator (drop start bytes) len text next → start + len ≤ length bytes
-start_next bytes text start len next low n = omega (arith, low, n.high, length-drop start bytes)
+start_next bytes text start len next low n = omega (arith, low, n.len_in_range, length-drop start bytes)
 
 pub begin_more : (a b : List Item) (i : Item) → IsBeginning a b → IsBeginning a (b ++ i ∷ [])
 begin_more a b i (rest, e) = (rest ++ i ∷ [], ap (λ x. x ++ i ∷ []) e ∙ append_assoc a rest (i ∷ []))
@@ -70,24 +70,24 @@ all_but (j ∷ k ∷ is) i js = ap (λ x. j ∷ x) (all_but (k ∷ is) i js)
 pub window_begin : (e : Envelope) (stream window : List ℕ) (items : List Item) → IsOpenMessageWindow e stream window items → IsBeginning items (settled_items stream)
 window_begin e stream window items w =
     let i : Item = one e (text_before_separator (settled_bytes window)) in
-    let whole : settled_bytes stream ≡ w.gone ++ settled_bytes window = ap settled_bytes w.parts ∙ settled_append w.gone window w.whole in (
+    let whole : settled_bytes stream ≡ w.bytes_before ++ settled_bytes window = ap settled_bytes w.stream_is ∙ settled_append w.bytes_before window w.whole_lines in (
       all_but_last (i ∷ items_from_separator (settled_bytes window)),
-      ap (λ x. all_but_last (file_items x)) whole ∙ ap all_but_last (w.later (settled_bytes window)) ∙ all_but items i (items_from_separator (settled_bytes window)),
+      ap (λ x. all_but_last (file_items x)) whole ∙ ap all_but_last (w.items_after_more (settled_bytes window)) ∙ all_but items i (items_from_separator (settled_bytes window)),
     )
 
 looked_fed : (bytes more : List ℕ) (from : ℕ) → IsSearchedUpTo bytes from → IsSearchedUpTo (bytes ++ more) from
 looked_fed bytes more from l = record {
   front = l.front;
-  rest = l.rest ++ more;
-  parts = ap (λ x. x ++ more) l.parts ∙ append_assoc l.front l.rest more;
-  whole = l.whole;
-  none = l.none;
-  ends = l.ends;
-  low = l.low;
-  high = omega (arith, l.high, length-append bytes more);
-  unmarked = λ next k low lt o.
+  unsearched = l.unsearched ++ more;
+  bytes_are = ap (λ x. x ++ more) l.bytes_are ∙ append_assoc l.front l.unsearched more;
+  whole_lines = l.whole_lines;
+  no_line_separates = l.no_line_separates;
+  ends_unblank = l.ends_unblank;
+  from_behind_front = l.from_behind_front;
+  from_in_range = omega (arith, l.from_in_range, length-append bytes more);
+  no_mark_before = λ next k low lt o.
       let O : List ℕ → Type 0 = λ x. OccursAt x lf_and_from k in
-      l.unmarked (more ++ next) k low lt (subst O (append_assoc bytes more next) o);
+      l.no_mark_before (more ++ next) k low lt (subst O (append_assoc bytes more next) o);
 }
 
 -- ---- the front of a file
@@ -108,14 +108,14 @@ parted stream gone window at e = e ∙ ap (λ x. gone ++ x) (sym (take-append-dr
 pub front_passed : (stream window : List ℕ) (skipped at n : ℕ) → IsBeforeFirstMessage stream window skipped [] → SkipsBlankLinesTo window at
     → n ≡ min (skipped + at) 18446744073709551615 → IsBeforeFirstMessage stream (drop at window) n []
 front_passed stream window skipped at n u p e = record {
-  gone = u.gone ++ take at window;
-  parts = parted stream u.gone window at u.parts;
-  whole = whole_append u.gone (take at window) u.whole p.whole;
-  blank = blanks_on u.gone (take at window) u.whole u.blank p.blank;
-  counted = λ fits.
-      let c = u.counted fits in
-      omega (arith, e, c, fits, ap length u.parts, length-append u.gone window, length-append u.gone (take at window), length-take at window, p.low);
-  none = refl;
+  bytes_before = u.bytes_before ++ take at window;
+  stream_is = parted stream u.bytes_before window at u.stream_is;
+  whole_lines = whole_append u.bytes_before (take at window) u.whole_lines p.whole_lines;
+  all_blank = blanks_on u.bytes_before (take at window) u.whole_lines u.all_blank p.all_blank;
+  skipped_is_length = λ fits.
+      let c = u.skipped_is_length fits in
+      omega (arith, e, c, fits, ap length u.stream_is, length-append u.bytes_before window, length-append u.bytes_before (take at window), length-take at window, p.at_in_range);
+  no_item_yet = refl;
 }
 
 -- blank lines, a separator line, and what follows
@@ -138,14 +138,14 @@ opens front line more e w b v alone s =
 pub front_opened : (stream window : List ℕ) (skipped at : ℕ) (e : Envelope) → IsBeforeFirstMessage stream window skipped [] → OpensFirstMessage window at e
     → IsOpenMessageWindow e stream (drop at window) []
 front_opened stream window skipped at e u o =
-    let front = u.gone ++ o.blanks in
-    let whole = whole_append u.gone o.blanks u.whole o.whole in
-    let same : u.gone ++ take at window ≡ front ++ o.line = ap (λ x. u.gone ++ x) o.parts ∙ sym (append_assoc u.gone o.blanks o.line) in
+    let front = u.bytes_before ++ o.blanks in
+    let whole = whole_append u.bytes_before o.blanks u.whole_lines o.whole_lines in
+    let same : u.bytes_before ++ take at window ≡ front ++ o.line = ap (λ x. u.bytes_before ++ x) o.bytes_are ∙ sym (append_assoc u.bytes_before o.blanks o.line) in
     record {
-      gone = front ++ o.line;
-      parts = parted stream u.gone window at u.parts ∙ ap (λ x. x ++ drop at window) same;
-      whole = whole_append front o.line whole o.whole_line;
-      later = λ more. opens front o.line more e whole (blanks_on u.gone o.blanks u.whole u.blank o.blank) o.whole_line o.one_line o.says;
+      bytes_before = front ++ o.line;
+      stream_is = parted stream u.bytes_before window at u.stream_is ∙ ap (λ x. x ++ drop at window) same;
+      whole_lines = whole_append front o.line whole o.whole_line;
+      items_after_more = λ more. opens front o.line more e whole (blanks_on u.bytes_before o.blanks u.whole_lines u.all_blank o.all_blank) o.whole_line o.one_line o.line_separates;
     }
 
 concat_append : (a b : List (List ℕ)) → concat (a ++ b) ≡ concat a ++ concat b
@@ -156,33 +156,33 @@ pub behind_blanks : (gone x : List ℕ) (at : ℕ) → HoldsWholeLines gone → 
 behind_blanks gone x at w b p = record {
   blanks = lines gone ++ p.blanks;
   line = p.line;
-  rest = p.rest;
-  are_lines = lines_on gone x w ∙ ap (λ ls. lines gone ++ ls) p.are_lines ∙ sym (append_assoc (lines gone) p.blanks (p.line ∷ p.rest));
+  lines_after = p.lines_after;
+  are_lines = lines_on gone x w ∙ ap (λ ls. lines gone ++ ls) p.are_lines ∙ sym (append_assoc (lines gone) p.blanks (p.line ∷ p.lines_after));
   all_blank = all_append (lines gone) p.blanks b p.all_blank;
-  some = p.some;
-  none = p.none;
-  at = ap (λ n. length gone + n) p.at ∙ ap (λ t. length t + length (concat p.blanks)) (sym (concat-lines gone))
+  is_not_blank = p.is_not_blank;
+  is_no_separator = p.is_no_separator;
+  offset_is = ap (λ n. length gone + n) p.offset_is ∙ ap (λ t. length t + length (concat p.blanks)) (sym (concat-lines gone))
       ∙ sym (length-append (concat (lines gone)) (concat p.blanks)) ∙ ap length (sym (concat_append (lines gone) p.blanks));
 }
 
 pub front_counted : (stream window : List ℕ) (skipped at n : ℕ) (items : List Item) (u : IsBeforeFirstMessage stream window skipped items) → at ≤ length window
-    → n ≡ min (skipped + at) 18446744073709551615 → IsOffsetUnlessOverflow stream n (length u.gone + at)
+    → n ≡ min (skipped + at) 18446744073709551615 → IsOffsetUnlessOverflow stream n (length u.bytes_before + at)
 front_counted stream window skipped at n items u low e fits =
-    let c = u.counted fits in omega (arith, e, c, fits, ap length u.parts, length-append u.gone window, low)
+    let c = u.skipped_is_length fits in omega (arith, e, c, fits, ap length u.stream_is, length-append u.bytes_before window, low)
 
 pub front_faulty : (stream window : List ℕ) (skipped at n : ℕ) → (u : IsBeforeFirstMessage stream window skipped []) → IsSettledPreamble window at
-    → IsSettledPreamble stream (length u.gone + at)
+    → IsSettledPreamble stream (length u.bytes_before + at)
 front_faulty stream window skipped at n u p =
-    let P : List ℕ → Type 0 = λ x. IsPreamble x (length u.gone + at) in
-    subst P (sym (ap settled_bytes u.parts ∙ settled_append u.gone window u.whole)) (behind_blanks u.gone (settled_bytes window) at u.whole u.blank p)
+    let P : List ℕ → Type 0 = λ x. IsPreamble x (length u.bytes_before + at) in
+    subst P (sym (ap settled_bytes u.stream_is ∙ settled_append u.bytes_before window u.whole_lines)) (behind_blanks u.bytes_before (settled_bytes window) at u.whole_lines u.all_blank p)
 
 -- the faulty line lies in the bytes
 pub preamble_within : (bytes : List ℕ) (at : ℕ) → IsPreamble bytes at → at ≤ length bytes
 preamble_within bytes at p =
-    let all : length bytes ≡ length (concat p.blanks) + length (concat (p.line ∷ p.rest)) =
-    ap length (sym (concat-lines bytes)) ∙ ap (λ ls. length (concat ls)) p.are_lines ∙ ap length (concat_append p.blanks (p.line ∷ p.rest))
-    ∙ length-append (concat p.blanks) (concat (p.line ∷ p.rest)) in
-    omega (arith, all, p.at)
+    let all : length bytes ≡ length (concat p.blanks) + length (concat (p.line ∷ p.lines_after)) =
+    ap length (sym (concat-lines bytes)) ∙ ap (λ ls. length (concat ls)) p.are_lines ∙ ap length (concat_append p.blanks (p.line ∷ p.lines_after))
+    ∙ length-append (concat p.blanks) (concat (p.line ∷ p.lines_after)) in
+    omega (arith, all, p.offset_is)
 
 pub settled_within : (bytes : List ℕ) (at : ℕ) → IsSettledPreamble bytes at → at ≤ length bytes
 settled_within bytes at p =
@@ -194,8 +194,8 @@ settled_within bytes at p =
 pub unopened_given : (stream window : List ℕ) (skipped : ℕ) (items : List Item) → IsBeforeFirstMessage stream window skipped items → settled_bytes window ≡ [] → items ≡ settled_items stream
 unfolding all_but_last
 unopened_given stream window skipped items u n =
-    let whole : settled_bytes stream ≡ u.gone = ap settled_bytes u.parts ∙ settled_front u.gone window u.whole n in
-    u.none ∙ sym (ap (λ x. all_but_last (file_items x)) whole ∙ ap all_but_last (blank_none u.gone u.blank))
+    let whole : settled_bytes stream ≡ u.bytes_before = ap settled_bytes u.stream_is ∙ settled_front u.bytes_before window u.whole_lines n in
+    u.no_item_yet ∙ sym (ap (λ x. all_but_last (file_items x)) whole ∙ ap all_but_last (blank_none u.bytes_before u.all_blank))
   where
     blank_none : (gone : List ℕ) → AllByRecursion IsBlankLine (lines gone) → file_items gone ≡ []
     blank_none gone b =
@@ -205,10 +205,10 @@ unopened_given stream window skipped items u n =
 pub unopened_sound : (stream window : List ℕ) (skipped : ℕ) (items : List Item) → IsBeforeFirstMessage stream window skipped items → settled_bytes window ≡ []
     → (offset : ℕ) → ¬ IsSettledPreamble stream offset
 unopened_sound stream window skipped items u n offset p =
-    let whole : settled_bytes stream ≡ u.gone = ap settled_bytes u.parts ∙ settled_front u.gone window u.whole n in
+    let whole : settled_bytes stream ≡ u.bytes_before = ap settled_bytes u.stream_is ∙ settled_front u.bytes_before window u.whole_lines n in
     let P : List ℕ → Type 0 = λ x. IsPreamble x offset in
-    let d : DividesIntoItems u.gone [] = (lines u.gone, [], sym (append-nil (lines u.gone)), u.blank, refl) in
-    not_both u.gone offset [] (subst P whole p) d
+    let d : DividesIntoItems u.bytes_before [] = (lines u.bytes_before, [], sym (append-nil (lines u.bytes_before)), u.all_blank, refl) in
+    not_both u.bytes_before offset [] (subst P whole p) d
 
 pub kept_given : (place : Place) (window stream : List ℕ) (items : List Item) → IsWindowAtPlace place window stream items → HoldsNoSettledItem place window → items ≡ settled_items stream
 kept_given (Front skipped) window stream items k s = unopened_given stream window skipped items k s
@@ -221,12 +221,12 @@ kept_sound (Message head from) window stream items k s = window_sound head.envel
 
 pub kept_fed : (place : Place) (window stream piece : List ℕ) (items : List Item) → IsWindowAtPlace place window stream items → IsWindowAtPlace place (window ++ piece) (stream ++ piece) items
 kept_fed (Front skipped) window stream piece items u = record {
-  gone = u.gone;
-  parts = ap (λ x. x ++ piece) u.parts ∙ append_assoc u.gone window piece;
-  whole = u.whole;
-  blank = u.blank;
-  counted = λ fits. u.counted (omega (arith, fits, length-append stream piece));
-  none = u.none;
+  bytes_before = u.bytes_before;
+  stream_is = ap (λ x. x ++ piece) u.stream_is ∙ append_assoc u.bytes_before window piece;
+  whole_lines = u.whole_lines;
+  all_blank = u.all_blank;
+  skipped_is_length = λ fits. u.skipped_is_length (omega (arith, fits, length-append stream piece));
+  no_item_yet = u.no_item_yet;
 }
 kept_fed (Message head from) window stream piece items k = (window_fed head.envelope stream window piece items k.0, looked_fed window piece from k.1)
 
@@ -239,7 +239,7 @@ pub kept_short : (place : Place) (window stream before piece : List ℕ) (items 
 kept_short place window stream before piece items e k s =
     let B : List Item → Type 0 = λ x. IsBeginning x (settled_items (before ++ piece)) in
     let S : List ℕ → Type 0 = λ x. IsBeginning items (settled_items x) in
-    subst S (sym e) (subst B (sym (kept_given place window before items k s)) (settled_grow before piece))
+    subst S (sym e) (subst B (sym (kept_given place window before items k s)) (settled_items_only_grow before piece))
 
 pub kept_on : (place : Place) (window longer stream before piece : List ℕ) (items : List Item) → stream ≡ before ++ piece → longer ≡ window ++ piece
     → IsWindowAtPlace place window before items → IsWindowAtPlace place longer stream items
@@ -289,30 +289,30 @@ pub front_end : (stream window : List ℕ) (skipped : ℕ) (taken waiting last :
     → DividesIntoItems window last → DividesIntoItems stream (taken ++ (waiting ++ last))
 front_end stream window skipped taken waiting last u (blanks, rest, e, b, blocks) =
     let D : List Item → Type 0 = λ x. DividesIntoItems stream x in
-    let same : last ≡ taken ++ (waiting ++ last) = ap (λ x. x ++ last) (sym u.none) ∙ append_assoc taken waiting last in
-    let are : lines stream ≡ (lines u.gone ++ blanks) ++ rest =
-    ap lines u.parts ∙ lines_on u.gone window u.whole ∙ ap (λ x. lines u.gone ++ x) e ∙ sym (append_assoc (lines u.gone) blanks rest) in
-    subst D same (lines u.gone ++ blanks, rest, are, all_append (lines u.gone) blanks u.blank b, blocks)
+    let same : last ≡ taken ++ (waiting ++ last) = ap (λ x. x ++ last) (sym u.no_item_yet) ∙ append_assoc taken waiting last in
+    let are : lines stream ≡ (lines u.bytes_before ++ blanks) ++ rest =
+    ap lines u.stream_is ∙ lines_on u.bytes_before window u.whole_lines ∙ ap (λ x. lines u.bytes_before ++ x) e ∙ sym (append_assoc (lines u.bytes_before) blanks rest) in
+    subst D same (lines u.bytes_before ++ blanks, rest, are, all_append (lines u.bytes_before) blanks u.all_blank b, blocks)
 
 pub front_end_faulty : (stream window : List ℕ) (skipped at n : ℕ) (items : List Item) → (u : IsBeforeFirstMessage stream window skipped items) → IsPreamble window at
     → n ≡ min (skipped + at) 18446744073709551615 → (offset : ℕ) × IsPreamble stream offset × IsOffsetUnlessOverflow stream n offset
 front_end_faulty stream window skipped at n items u p e =
-    let P : List ℕ → Type 0 = λ x. IsPreamble x (length u.gone + at) in (
-      length u.gone + at,
-      subst P (sym u.parts) (behind_blanks u.gone window at u.whole u.blank p),
+    let P : List ℕ → Type 0 = λ x. IsPreamble x (length u.bytes_before + at) in (
+      length u.bytes_before + at,
+      subst P (sym u.stream_is) (behind_blanks u.bytes_before window at u.whole_lines u.all_blank p),
       front_counted stream window skipped at n items u (preamble_within window at p) e,
     )
 
 pub faulty_none : (stream : List ℕ) (offset : ℕ) → IsSettledPreamble stream offset → settled_items stream ≡ []
-faulty_none stream offset p = settled_none stream [] offset (settled_preamble stream [] offset p)
+faulty_none stream offset p = no_item_is_settled_before_a_preamble stream [] offset (a_settled_preamble_stays stream [] offset p)
 
 -- of no bytes nothing is given
 pub unopened_nothing : (stream window : List ℕ) (items : List Item) → stream ≡ [] → window ≡ [] → items ≡ [] → IsBeforeFirstMessage stream window 0 items
 unopened_nothing stream window items s w i = record {
-  gone = [];
-  parts = s ∙ sym w;
-  whole = settled_nil;
-  blank = subst (λ (x : List (List ℕ)). AllByRecursion IsBlankLine x) (sym lines-nil) tt;
-  counted = λ fits. refl;
-  none = i;
+  bytes_before = [];
+  stream_is = s ∙ sym w;
+  whole_lines = settled_nil;
+  all_blank = subst (λ (x : List (List ℕ)). AllByRecursion IsBlankLine x) (sym lines-nil) tt;
+  skipped_is_length = λ fits. refl;
+  no_item_yet = i;
 }

@@ -26,8 +26,8 @@ settled_begin stream more =
     (begin_all_but_last (file_items (settled_bytes stream ++ (all.0 ++ more)))))
 
 -- what was settled stays, and more may follow
-pub settled_grow : (stream more : List ℕ) → IsBeginning (settled_items stream) (settled_items (stream ++ more))
-settled_grow stream more =
+pub settled_items_only_grow : (stream more : List ℕ) → IsBeginning (settled_items stream) (settled_items (stream ++ more))
+settled_items_only_grow stream more =
     let later = settled_bytes_begin stream more in
     subst (λ (x : List ℕ). IsBeginning (settled_items stream) (all_but_last (file_items x))) (sym later.1)
     (ended_begin (settled_bytes stream) later.0 (settled_ended stream))
@@ -37,17 +37,17 @@ ended_preamble : (a x : List ℕ) (offset : ℕ) → Ended a → IsPreamble a of
 ended_preamble a x offset h p = record {
   blanks = p.blanks;
   line = p.line;
-  rest = p.rest ++ lines x;
-  are_lines = h x ∙ ap (λ ls. ls ++ lines x) p.are_lines ∙ append_assoc p.blanks (p.line ∷ p.rest) (lines x);
+  lines_after = p.lines_after ++ lines x;
+  are_lines = h x ∙ ap (λ ls. ls ++ lines x) p.are_lines ∙ append_assoc p.blanks (p.line ∷ p.lines_after) (lines x);
   all_blank = p.all_blank;
-  some = p.some;
-  none = p.none;
-  at = p.at;
+  is_not_blank = p.is_not_blank;
+  is_no_separator = p.is_no_separator;
+  offset_is = p.offset_is;
 }
 
 -- every continuation has the fault
-pub settled_preamble : (stream more : List ℕ) (offset : ℕ) → IsSettledPreamble stream offset → IsPreamble (stream ++ more) offset
-settled_preamble stream more offset p =
+pub a_settled_preamble_stays : (stream more : List ℕ) (offset : ℕ) → IsSettledPreamble stream offset → IsPreamble (stream ++ more) offset
+a_settled_preamble_stays stream more offset p =
     let all = settled_bytes_all stream in
     let joined : stream ++ more ≡ settled_bytes stream ++ (all.0 ++ more) = ap (λ x. x ++ more) all.1 ∙ append_assoc (settled_bytes stream) all.0 more in
     subst (λ (x : List ℕ). IsPreamble x offset) (sym joined) (ended_preamble (settled_bytes stream) (all.0 ++ more) offset (settled_ended stream) p)
@@ -100,8 +100,8 @@ nil_begin [] h = refl
 nil_begin (x ∷ a) (rest, e) = absurd (cc)
 
 -- where some continuation has the fault, nothing is settled
-pub settled_none : (stream more : List ℕ) (offset : ℕ) → IsPreamble (stream ++ more) offset → settled_items stream ≡ []
-settled_none stream more offset p =
+pub no_item_is_settled_before_a_preamble : (stream more : List ℕ) (offset : ℕ) → IsPreamble (stream ++ more) offset → settled_items stream ≡ []
+no_item_is_settled_before_a_preamble stream more offset p =
     nil_begin (settled_items stream) (subst (λ (x : List Item). IsBeginning (settled_items stream) x) (file_items_preamble (stream ++ more) offset p) (settled_begin stream more))
 
 pub all_snoc : (is : List Item) (i : Item) → all_but_last (is ++ i ∷ []) ≡ is
@@ -123,6 +123,6 @@ pub no_preamble : (offset : ℕ) → ¬ IsSettledPreamble [] offset
 unfolding settled_bytes lines
 no_preamble offset p = none p.blanks p.are_lines
   where
-    none : (blanks : List (List ℕ)) → [] ≡ blanks ++ p.line ∷ p.rest → ⊥
+    none : (blanks : List (List ℕ)) → [] ≡ blanks ++ p.line ∷ p.lines_after → ⊥
     none [] e = absurd (cc)
     none (b ∷ bs) e = absurd (cc)

@@ -18,10 +18,10 @@ settled_nil = refl
 -- more bytes
 pub window_fed : (e : Envelope) (stream window bytes : List ℕ) (items : List Item) → IsOpenMessageWindow e stream window items → IsOpenMessageWindow e (stream ++ bytes) (window ++ bytes) items
 window_fed e stream window bytes items w = record {
-  gone = w.gone;
-  parts = ap (λ x. x ++ bytes) w.parts ∙ append_assoc w.gone window bytes;
-  whole = w.whole;
-  later = w.later;
+  bytes_before = w.bytes_before;
+  stream_is = ap (λ x. x ++ bytes) w.stream_is ∙ append_assoc w.bytes_before window bytes;
+  whole_lines = w.whole_lines;
+  items_after_more = w.items_after_more;
 }
 
 -- whole lines, and the settled bytes of what follows
@@ -53,10 +53,10 @@ settled_append (b ∷ bs) x e = cases (b == 10) e (settled_append bs x)
 pub window_cut : (e next : Envelope) (stream front rest : List ℕ) (items : List Item) (item : Item)
     → IsOpenMessageWindow e stream (front ++ rest) items → EndsOpenMessage e next front item → IsOpenMessageWindow next stream rest (items ++ item ∷ [])
 window_cut e next stream front rest items item w c = record {
-  gone = w.gone ++ front;
-  parts = w.parts ∙ sym (append_assoc w.gone front rest);
-  whole = settled_append w.gone front w.whole ∙ ap (λ x. w.gone ++ x) c.whole;
-  later = λ more. ap file_items (append_assoc w.gone front more) ∙ w.later (front ++ more) ∙ ap (λ x. items ++ x) (c.items more)
+  bytes_before = w.bytes_before ++ front;
+  stream_is = w.stream_is ∙ sym (append_assoc w.bytes_before front rest);
+  whole_lines = settled_append w.bytes_before front w.whole_lines ∙ ap (λ x. w.bytes_before ++ x) c.whole_lines;
+  items_after_more = λ more. ap file_items (append_assoc w.bytes_before front more) ∙ w.items_after_more (front ++ more) ∙ ap (λ x. items ++ x) (c.items more)
       ∙ sym (append_assoc items (item ∷ []) (items_after_separator (Some next) more));
 }
 
@@ -65,19 +65,19 @@ pub window_settled : (e : Envelope) (stream window : List ℕ) (items : List Ite
     → items_from_separator (settled_bytes window) ≡ [] → items ≡ settled_items stream
 window_settled e stream window items w n =
     let i : Item = one e (text_before_separator (settled_bytes window)) in
-    let whole : settled_bytes stream ≡ w.gone ++ settled_bytes window = ap settled_bytes w.parts ∙ settled_append w.gone window w.whole in
+    let whole : settled_bytes stream ≡ w.bytes_before ++ settled_bytes window = ap settled_bytes w.stream_is ∙ settled_append w.bytes_before window w.whole_lines in
     let last : items_after_separator (Some e) (settled_bytes window) ≡ i ∷ [] = ap (λ x. i ∷ x) n in
-    sym (ap (λ x. all_but_last (file_items x)) whole ∙ ap all_but_last (w.later (settled_bytes window) ∙ ap (λ x. items ++ x) last) ∙ all_snoc items i)
+    sym (ap (λ x. all_but_last (file_items x)) whole ∙ ap all_but_last (w.items_after_more (settled_bytes window) ∙ ap (λ x. items ++ x) last) ∙ all_snoc items i)
 
 -- at the end they are the items given and those of the window
 pub window_end : (e : Envelope) (stream window : List ℕ) (items : List Item) → IsOpenMessageWindow e stream window items → file_items stream ≡ items ++ items_after_separator (Some e) window
-window_end e stream window items w = ap file_items w.parts ∙ w.later window
+window_end e stream window items w = ap file_items w.stream_is ∙ w.items_after_more window
 
 -- lines that begin no message, then a blank line and a separator line
 pub cut_off : (e next : Envelope) (front : List ℕ) (ts : List (List ℕ)) (b h : List ℕ) → settled_bytes front ≡ front
     → lines front ≡ (ts ++ b ∷ []) ++ h ∷ [] → Quiet false (ts ++ b ∷ []) → is_blank_line b ≡ true → separator_of (content h) ≡ Some next
     → EndsOpenMessage e next front (one e (concat ts))
-cut_off e next front ts b h whole are q k s = record { whole = whole; items = items }
+cut_off e next front ts b h whole are q k s = record { whole_lines = whole; items = items }
   where
     ended : Ended front
     ended = subst (λ (x : List ℕ). Ended x) whole (settled_ended front)
@@ -101,9 +101,9 @@ none_some (x ∷ is) i js e = absurd (cc)
 -- Where a message is open, no line in front is faulty.
 pub window_sound : (e : Envelope) (stream window : List ℕ) (items : List Item) → IsOpenMessageWindow e stream window items → (offset : ℕ) → ¬ IsSettledPreamble stream offset
 window_sound e stream window items w offset p =
-    let whole : settled_bytes stream ≡ w.gone ++ settled_bytes window = ap settled_bytes w.parts ∙ settled_append w.gone window w.whole in
+    let whole : settled_bytes stream ≡ w.bytes_before ++ settled_bytes window = ap settled_bytes w.stream_is ∙ settled_append w.bytes_before window w.whole_lines in
     none_some items (one e (text_before_separator (settled_bytes window))) (items_from_separator (settled_bytes window))
-    (sym (file_items_preamble (settled_bytes stream) offset p) ∙ ap file_items whole ∙ w.later (settled_bytes window))
+    (sym (file_items_preamble (settled_bytes stream) offset p) ∙ ap file_items whole ∙ w.items_after_more (settled_bytes window))
 
 -- ---- which bytes are whole lines
 
@@ -126,10 +126,10 @@ settled_lf (b ∷ a) = cases (b == 10) (settled_lf a)
     cases false e = ap (byte_before_nonempty b) e ∙ some_before b a
 
 -- bytes without LF
-pub settled_none : (xs : List ℕ) → ((k : ℕ) → k < length xs → (get_or xs k 0 == 10) ≡ true → ⊥) → settled_bytes xs ≡ []
+pub no_item_is_settled_before_a_preamble : (xs : List ℕ) → ((k : ℕ) → k < length xs → (get_or xs k 0 == 10) ≡ true → ⊥) → settled_bytes xs ≡ []
 unfolding settled_bytes
-settled_none [] h = refl
-settled_none (x ∷ xs) h = cases (x == 10) refl (settled_none xs (λ k lt e. h (suc k) (omega (arith, lt)) e))
+no_item_is_settled_before_a_preamble [] h = refl
+no_item_is_settled_before_a_preamble (x ∷ xs) h = cases (x == 10) refl (no_item_is_settled_before_a_preamble xs (λ k lt e. h (suc k) (omega (arith, lt)) e))
   where
     cases : (t : Bool) → (x == 10) ≡ t → settled_bytes xs ≡ [] → (if t then x ∷ settled_bytes xs else byte_before_nonempty x (settled_bytes xs)) ≡ []
     cases true e g = absurd (h 0 (omega arith) e)

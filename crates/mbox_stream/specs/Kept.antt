@@ -31,10 +31,10 @@ AppendsPiece place window piece stream items =
 
 -- From a place of the window on a message is open, and no more is settled.
 pub record OpensMessageAt (now : Envelope) (stream window : List ℕ) (start from : ℕ) (items : List Item) : Type 0 where
-  pub low : start ≤ length window
+  pub start_in_range : start ≤ length window
   pub kept : IsOpenMessageWindow now stream (drop start window) items
-  pub looked : IsSearchedUpTo (drop start window) from
-  pub settled : items_from_separator (settled_bytes (drop start window)) ≡ []
+  pub is_searched : IsSearchedUpTo (drop start window) from
+  pub no_item_settled : items_from_separator (settled_bytes (drop start window)) ≡ []
 
 -- Why no more is taken in: the faulty line is settled, or there was no memory, and some settled items may lack.
 abbrev pub IsStopReason : Stop → List ℕ → List Item → Type 0

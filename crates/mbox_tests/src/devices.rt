@@ -1,7 +1,7 @@
 //! Devices that fail after each number of bytes, pass few at once, and are interrupted.
 use mail_core::Memory;
 use mbox_core::device::{
-    Counted, ReadError, Sink, Source, Tap, WriteFault, read_all, write_bytes, write_two,
+    Counted, ReadError, Sink, Source, Tap, WriteFault, read_all, write_bytes, write_two_slices,
 };
 use std::alloc::Global;
 use std::io::{self, ErrorKind, Read, Write};
@@ -84,7 +84,7 @@ fn a_sink_that_fails_after_each_number_of_bytes(rt: HostRuntime) -> Result<(), F
 /// Whether a sink that passes so many bytes takes just these of two pieces.
 fn takes_two(alloc: Global, passes: usize) -> Result<bool, Memory> {
     let mut tap = Tap::new(alloc, b"", passes)?;
-    let answer = write_two(&mut tap, b"From ", b"anna\n");
+    let answer = write_two_slices(&mut tap, b"From ", b"anna\n");
     Ok(is_stop(answer, passes, 10) && tap.bytes() == &b"From anna\n"[..passes.min(10)])
 }
 

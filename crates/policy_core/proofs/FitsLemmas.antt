@@ -178,7 +178,7 @@ decided-front [] after r f none fit = rw (fits-from_Fits r f fit) refl
 decided-front (q ∷ before) after r f none fit = rw (misfit q f none.0 _ refl) (decided-front before after r f none.1 fit)
 
 pub decided : (rules : List Rule) (r : Rule) (f : Facts) → IsDecidedBy rules f r → verdict_of rules f ≡ ruling_of_rule r
-decided rules r f h = rw h.stand (decided-front h.before h.after r f h.none h.fit)
+decided rules r f h = rw h.rules_are (decided-front h.rules_before h.rules_after r f h.none_fits_before h.fits_facts)
 
 pub undecided : (rules : List Rule) (f : Facts) → AllByRecursion (λ q. ¬ RuleFits q f) rules → verdict_of rules f ≡ denied (codes "default")
 undecided [] f none = refl

@@ -48,8 +48,8 @@ RuleFits r f = AllByRecursion (λ condition. ConditionHolds condition f) r.condi
 
 -- A rule decides: it fits, and no rule before it does.
 pub record IsDecidedBy (rules : List Rule) (f : Facts) (r : Rule) : Type 0 where
-  pub before : List Rule
-  pub after : List Rule
-  pub stand : rules ≡ before ++ r ∷ after
-  pub none : AllByRecursion (λ q. ¬ RuleFits q f) before
-  pub fit : RuleFits r f
+  pub rules_before : List Rule
+  pub rules_after : List Rule
+  pub rules_are : rules ≡ rules_before ++ r ∷ rules_after
+  pub none_fits_before : AllByRecursion (λ q. ¬ RuleFits q f) rules_before
+  pub fits_facts : RuleFits r f

@@ -30,14 +30,14 @@ module _ {C R O F E : Type 0} (tells : Knows C) (reads : Reads R) (writes : Take
   -- What `run` says of these arguments, at the status that it answers.
   pub record EndsSiftRun (words : List (List ℕ)) (out_new : O) (status : ℕ) : Type 0 where
     -- at 0 the sift was carried out, whole, and no refusal was told
-    pub done : (asked : SiftValues) → ParseAsOrder words (Sift asked) → status ≡ 0
+    pub when_0 : (asked : SiftValues) → ParseAsOrder words (Sift asked) → status ≡ 0
         → SiftEndsByPolicy tells reads writes passes clock_old clock_new in_old in_new out_old out_new gives files asked (Ok tt) × (err_new ≡ err_old)
     -- at 1 it was refused for a reason that holds, and one line tells it
-    pub refused : (asked : SiftValues) → ParseAsOrder words (Sift asked) → status ≡ 1
+    pub when_1 : (asked : SiftValues) → ParseAsOrder words (Sift asked) → status ≡ 1
         → (fault : CommandError) × IsSiftError tells reads writes passes clock_old clock_new in_old in_new out_old out_new gives files asked fault
         × WritesErrorLine (command_error_text fault) (error_stream_state notes err_old) (error_stream_state notes err_new)
     -- at 2 the arguments are a usage error
-    pub bad : status ≡ 2 → (IsUsageError words × ((takes archive_app words ≡ false) ⊎ (order_of_args words ≡ None))) ⊎ ParseAsOtherOrder words
+    pub when_2 : status ≡ 2 → (IsUsageError words × ((takes archive_app words ≡ false) ⊎ (order_of_args words ≡ None))) ⊎ ParseAsOtherOrder words
     -- a sift ends with 0 or 1; another command with 2; what is no command by why it is none
     pub stopped : ((asked : SiftValues) × ParseAsOrder words (Sift asked) × (status ≤ 1))
         ⊎ (ParseAsOtherOrder words × (status ≡ 2) × (clock_new ≡ clock_old) × (in_new ≡ in_old) × (out_new ≡ out_old))

@@ -15,9 +15,9 @@ use Rattle.mbox_stream.specs.declared.cutter.CutterPhase.{CutterPhase}
 use Rattle.mbox_stream.specs.declared.cutter.CutterPhase.TheVariants.{Open, Finished}
 use Rattle.mbox_core.specs.declared.faults.MboxFault.{MboxFault}
 use Rattle.mbox_core.specs.declared.faults.MboxFault.TheVariants.{Preamble, Read, Memory, Failed}
-use Rattle.mbox_core.proofs.DivisionLaws.{some_division}
+use Rattle.mbox_core.proofs.DivisionLaws.{each_text_has_a_division_or_a_preamble}
 use Rattle.sift_run.specs.declared.sifting.SiftFault.TheVariants.{Mbox}
-use Rattle.mbox_stream.proofs.StreamLaws.{settled_grow, settled_none, settled_preamble, settled_divide}
+use Rattle.mbox_stream.proofs.StreamLaws.{settled_items_only_grow, no_item_is_settled_before_a_preamble, a_settled_preamble_stays, settled_divide}
 use Rattle.sift_run.specs.Sifting.{SiftConditions, message_passes, filtered_text, FiltersSettledMessages, FiltersSomeSettledMessages}
 use Rattle.sift_run.specs.Sifting.{StopsAtPreamble, FiltersUntilInputError, FiltersSoFar, FiltersTranscriptPartly, FiltersTranscript, MatchesReadFailures}
 
@@ -130,19 +130,19 @@ taken_is c w = ap (λ x. c.taken ++ x) w ∙ append-nil c.taken
 module _ (rules : List Rule) (asked : SiftConditions) (in_old in_new out_old out_new : List ℕ) (c : CutterState) (before : ℕ)
     (s : FiltersSoFar rules asked in_old in_new out_old out_new c before) where
   settled_taken : c.taken ≡ settled_items c.stream
-  settled_taken = sym (taken_is c s.none_waits) ∙ (given_open c s.given s.goes_on).0
+  settled_taken = sym (taken_is c s.none_waits) ∙ (given_open c s.is_consistent s.phase_is_open).0
 
   -- a read more
   module _ (told piece stream : List ℕ) (e : told ≡ in_new ++ piece) (f : stream ≡ c.stream ++ piece) where
     joined : told ≡ in_old ++ stream
-    joined = e ∙ ap (λ x. x ++ piece) s.read ∙ append_assoc in_old c.stream piece ∙ ap (λ x. in_old ++ x) (sym f)
+    joined = e ∙ ap (λ x. x ++ piece) s.input_is_stream ∙ append_assoc in_old c.stream piece ∙ ap (λ x. in_old ++ x) (sym f)
 
     -- it failed
     unread_read : stream ≡ c.stream → FiltersSettledMessages rules asked in_old told out_old out_new
     unread_read same = (
       stream,
       joined,
-      s.out ∙ ap (λ x. out_old ++ filtered_text rules asked x) (settled_taken ∙ ap settled_items (sym same)),
+      s.output_so_far ∙ ap (λ x. out_old ++ filtered_text rules asked x) (settled_taken ∙ ap settled_items (sym same)),
     )
 
     -- there was no memory for what it gave
@@ -150,17 +150,17 @@ module _ (rules : List Rule) (asked : SiftConditions) (in_old in_new out_old out
     unread_memory =
         let B : List Item → Type 0 = λ x. IsBeginning x (settled_items (c.stream ++ piece)) in
         let S : List ℕ → Type 0 = λ x. IsBeginning c.taken (settled_items x) in
-        (stream, c.taken, joined, subst S (sym f) (subst B (sym settled_taken) (settled_grow c.stream piece)), s.out)
+        (stream, c.taken, joined, subst S (sym f) (subst B (sym settled_taken) (settled_items_only_grow c.stream piece)), s.output_so_far)
 
     -- the first line is faulty
     unread_preamble : (n offset : ℕ) → IsPreamble stream offset → IsOffsetUnlessOverflow stream n offset → StopsAtPreamble n in_old told out_old out_new
     unread_preamble n offset p counted =
         let P : List ℕ → Type 0 = λ x. IsPreamble x offset in
-        let none : c.taken ≡ [] = settled_taken ∙ settled_none c.stream piece offset (subst P f p) in
-        (stream, offset, joined, p, counted, s.out ∙ ap (λ x. out_old ++ filtered_text rules asked x) none ∙ append-nil out_old)
+        let none : c.taken ≡ [] = settled_taken ∙ no_item_is_settled_before_a_preamble c.stream piece offset (subst P f p) in
+        (stream, offset, joined, p, counted, s.output_so_far ∙ ap (λ x. out_old ++ filtered_text rules asked x) none ∙ append-nil out_old)
 
     settled_whole : (offset : ℕ) → IsSettledPreamble stream offset → IsPreamble stream offset
-    settled_whole offset p = let P : List ℕ → Type 0 = λ x. IsPreamble x offset in subst P (append-nil stream) (settled_preamble stream [] offset p)
+    settled_whole offset p = let P : List ℕ → Type 0 = λ x. IsPreamble x offset in subst P (append-nil stream) (a_settled_preamble_stays stream [] offset p)
 
     pub unread_fault : (fault : MboxFault) → IsReadFault stream fault → (fault ≡ Failed → ⊥) → (fault ≡ Read → stream ≡ c.stream)
         → FiltersUntilInputError rules asked in_old told out_old out_new (Mbox fault)
@@ -184,13 +184,13 @@ module _ (rules : List Rule) (asked : SiftConditions) (in_old in_new out_old out
         let all : filtered_text rules asked d.taken ≡ filtered_text rules asked c.taken ++ filtered_text rules asked waiting = ap (filtered_text rules asked) dt ∙ sifted-append rules asked
         c.taken waiting in
         record {
-          read = joined ∙ ap (λ x. in_old ++ x) (sym ds);
-          out = o ∙ ap (λ x. x ++ filtered_text rules asked waiting) s.out ∙ append_assoc out_old (filtered_text rules asked c.taken) (filtered_text rules asked waiting) ∙ ap
+          input_is_stream = joined ∙ ap (λ x. in_old ++ x) (sym ds);
+          output_so_far = o ∙ ap (λ x. x ++ filtered_text rules asked waiting) s.output_so_far ∙ append_assoc out_old (filtered_text rules asked c.taken) (filtered_text rules asked waiting) ∙ ap
               (λ x. out_old ++ x) (sym all);
-          counted = omega (arith, m, k, s.counted, ap length all, length-append (filtered_text rules asked c.taken) (filtered_text rules asked waiting));
+          count_is_length = omega (arith, m, k, s.count_is_length, ap length all, length-append (filtered_text rules asked c.taken) (filtered_text rules asked waiting));
           none_waits = dw;
-          goes_on = dst;
-          given = dg;
+          phase_is_open = dst;
+          is_consistent = dg;
         }
 
     -- the output fails, as messages of a division go out
@@ -203,18 +203,18 @@ module _ (rules : List Rule) (asked : SiftConditions) (in_old in_new out_old out
         ap (filtered_text rules asked) are ∙ sifted-append rules asked (c.taken ++ waiting) rest ∙ ap (λ x. x ++ filtered_text rules asked rest) (sifted-append rules asked c.taken waiting)
         ∙ append_assoc (filtered_text rules asked c.taken) (filtered_text rules asked waiting) (filtered_text rules asked rest) in
         let sent : Sent out_old out_new (filtered_text rules asked items) left before =
-        record { part = filtered_text rules asked c.taken; out = s.out; whole = whole; counted = s.counted } in (
+        record { part = filtered_text rules asked c.taken; out = s.output_so_far; whole = whole; counted = s.count_is_length } in (
           stream,
           filtered_text rules asked items,
           joined,
-          record { items = items; divided = d; output_is_filtered = refl },
+          record { items = items; divides_into_items = d; output_is_filtered = refl },
           sent_part out_old out_new (filtered_text rules asked items) left (filtered_text rules asked waiting) (filtered_text rules asked rest) out_now before k written sent refl cut m,
         )
 
     pub part_open : (d : CutterState) (out_now : List ℕ) (k written : ℕ) → d.stream ≡ stream → d.taken ≡ c.taken → d.phase ≡ Open → IsCutterConsistent d → d.waiting ≢ []
         → (length out_now < 2 ^ 64 → AppendsPrefixOfText out_new out_now (filtered_text rules asked d.waiting) k) → written ≡ min (before + k) 18446744073709551615
         → FiltersTranscriptPartly rules asked in_old told out_old out_now written
-    part_open d out_now k written ds dt dst dg some cut m = cases (some_division stream)
+    part_open d out_now k written ds dt dst dg some cut m = cases (each_text_has_a_division_or_a_preamble stream)
       where
         given_is : c.taken ++ d.waiting ≡ settled_items stream
         given_is = ap (λ x. x ++ d.waiting) (sym dt) ∙ (given_open d dg dst).0 ∙ ap settled_items ds
@@ -226,7 +226,7 @@ module _ (rules : List Rule) (asked : SiftConditions) (in_old in_new out_old out
             part_of d.waiting b.0 is out_now k written div (b.1 ∙ ap (λ x. x ++ b.0) (sym given_is)) cut m
         cases (inr (offset, p)) =
             let P : List ℕ → Type 0 = λ x. IsPreamble x offset in
-            absurd (some (nil_back c.taken d.waiting (given_is ∙ settled_none stream [] offset (subst P (sym (append-nil stream)) p))))
+            absurd (some (nil_back c.taken d.waiting (given_is ∙ no_item_is_settled_before_a_preamble stream [] offset (subst P (sym (append-nil stream)) p))))
 
     pub part_end : (d : CutterState) (out_now : List ℕ) (k written : ℕ) → d.stream ≡ stream → d.taken ≡ c.taken → d.phase ≡ Finished → IsCutterConsistent d
         → (length out_now < 2 ^ 64 → AppendsPrefixOfText out_new out_now (filtered_text rules asked d.waiting) k) → written ≡ min (before + k) 18446744073709551615
@@ -244,9 +244,9 @@ module _ (rules : List Rule) (asked : SiftConditions) (in_old in_new out_old out
           stream,
           filtered_text rules asked (taken_and_waiting_items d),
           joined,
-          o ∙ ap (λ x. x ++ filtered_text rules asked d.waiting) s.out ∙ append_assoc out_old (filtered_text rules asked c.taken) (filtered_text rules asked d.waiting) ∙ ap
+          o ∙ ap (λ x. x ++ filtered_text rules asked d.waiting) s.output_so_far ∙ append_assoc out_old (filtered_text rules asked c.taken) (filtered_text rules asked d.waiting) ∙ ap
               (λ x. out_old ++ x) (sym all),
-          record { items = taken_and_waiting_items d; divided = subst D ds (given_end d dg dst); output_is_filtered = refl },
+          record { items = taken_and_waiting_items d; divides_into_items = subst D ds (given_end d dg dst); output_is_filtered = refl },
         )
 
 -- M2 alone is told of a read that failed
@@ -272,10 +272,10 @@ of_read_end stream Failed first now why same = same
 pub so_far_start : (rules : List Rule) (asked : SiftConditions) (in_old out_old : List ℕ) (c : CutterState) → c ≡ record { stream = []; taken = []; waiting = []; phase = Open }
     → IsCutterConsistent c → FiltersSoFar rules asked in_old in_old out_old out_old c 0
 so_far_start rules asked in_old out_old c e g = record {
-  read = sym (ap (λ x. in_old ++ x) (ap (λ (x : CutterState). x.stream) e) ∙ append-nil in_old);
-  out = sym (ap (λ x. out_old ++ filtered_text rules asked x) (ap (λ (x : CutterState). x.taken) e) ∙ append-nil out_old);
-  counted = ap (λ x. min (length (filtered_text rules asked x)) 18446744073709551615) (sym (ap (λ (x : CutterState). x.taken) e));
+  input_is_stream = sym (ap (λ x. in_old ++ x) (ap (λ (x : CutterState). x.stream) e) ∙ append-nil in_old);
+  output_so_far = sym (ap (λ x. out_old ++ filtered_text rules asked x) (ap (λ (x : CutterState). x.taken) e) ∙ append-nil out_old);
+  count_is_length = ap (λ x. min (length (filtered_text rules asked x)) 18446744073709551615) (sym (ap (λ (x : CutterState). x.taken) e));
   none_waits = ap (λ (x : CutterState). x.waiting) e;
-  goes_on = ap (λ (x : CutterState). x.phase) e;
-  given = g;
+  phase_is_open = ap (λ (x : CutterState). x.phase) e;
+  is_consistent = g;
 }

@@ -88,10 +88,10 @@ module _ {C : Type 0} (tells : Tells C) (order : SiftValues) (old new : C) (in_o
     pub day : ℤ
     pub is_day : IsReadingDayOfSift (Some day)
     pub filters_transcript : FiltersTranscript rules (sift_conditions order day) in_old.read in_new.read out_old.written out_new.written
-    pub ended : in_new.ends ≡ in_old.ends + 1
+    pub input_ended_once : in_new.ends ≡ in_old.ends + 1
     pub no_read_failed : in_new.failures ≡ in_old.failures
     pub no_write_failed : out_new.failures ≡ out_old.failures
-    pub passed : out_new.passed ≡ out_new.written
+    pub all_is_passed : out_new.passed ≡ out_new.written
 
   -- the output failed, and took a beginning of the messages that pass
   pub record SiftFailsToWrite (rules : List Rule) : Type 0 where
@@ -100,13 +100,13 @@ module _ {C : Type 0} (tells : Tells C) (order : SiftValues) (old new : C) (in_o
     pub count : ℕ
     pub filters_transcript : FiltersTranscriptPartly rules (sift_conditions order day) in_old.read in_new.read out_old.written out_new.written count
     pub no_read_failed : in_new.failures ≡ in_old.failures
-    pub failed : out_old.failures < out_new.failures
+    pub output_failed : out_old.failures < out_new.failures
 
   -- the clock told a day where it was asked, and the fault of the input is as a sift tells it
   pub record SiftFailsToRead (rules : List Rule) (fault : MboxFault) : Type 0 where
     pub day : ℤ
     pub is_day : IsReadingDayOfSift (Some day)
-    pub unread : FiltersUntilInputError rules (sift_conditions order day) in_old.read in_new.read out_old.written out_new.written (sift.Mbox fault)
+    pub filters_until_error : FiltersUntilInputError rules (sift_conditions order day) in_old.read in_new.read out_old.written out_new.written (sift.Mbox fault)
     pub matches_read_failures : MatchesReadFailures (sift.Mbox fault) in_old.failures in_new.failures
     pub no_write_attempted : out_new.failures ≡ out_old.failures
 

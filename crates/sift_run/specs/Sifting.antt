@@ -56,7 +56,7 @@ filtered_text rules asked items = written (filter (message_passes rules asked) i
 -- `out` is the written text of those messages of an mbox that pass
 pub record FiltersMbox (rules : List Rule) (asked : SiftConditions) (mbox out : List ℕ) : Type 0 where
   pub items : List Item
-  pub divided : DividesIntoItems mbox items
+  pub divides_into_items : DividesIntoItems mbox items
   pub output_is_filtered : out ≡ filtered_text rules asked items
 
 -- Of two devices, what each told before and after: the input gave an mbox, and the output got those of its messages that pass.
@@ -73,7 +73,7 @@ FiltersTranscriptPartly rules asked in_old in_new out_old out_new count =
 -- The input was read to its end as an mbox, and the messages that pass were written, whole; no read and no write failed.
 pub record FiltersWholeInput (rules : List Rule) (asked : SiftConditions) (in_old in_new : InputStreamState) (out_old out_new : ErrorStreamState) : Type 0 where
   pub filters_transcript : FiltersTranscript rules asked in_old.read in_new.read out_old.written out_new.written
-  pub ended : in_new.ends ≡ in_old.ends + 1
+  pub input_ended_once : in_new.ends ≡ in_old.ends + 1
   pub no_read_failed : in_new.failures ≡ in_old.failures
   pub no_write_failed : out_new.failures ≡ out_old.failures
 
@@ -117,7 +117,7 @@ MatchesWriteFailures rules asked in_old in_new out_old out_new (Write written) =
 
 -- why a sift was not carried out, and what was read and written by then
 pub record FilteringFails (rules : List Rule) (asked : SiftConditions) (in_old in_new : InputStreamState) (out_old out_new : ErrorStreamState) (fault : SiftFault) : Type 0 where
-  pub unread : FiltersUntilInputError rules asked in_old.read in_new.read out_old.written out_new.written fault
+  pub filters_until_error : FiltersUntilInputError rules asked in_old.read in_new.read out_old.written out_new.written fault
   pub matches_read_failures : MatchesReadFailures fault in_old.failures in_new.failures
   pub matches_write_failures : MatchesWriteFailures rules asked in_old in_new out_old out_new fault
 
@@ -135,9 +135,9 @@ MatchesCutterState cutter fault = Unit {0}
 -- So far the input gave a stream, of which the cutter may take more, and the output got what passes of the messages that
 -- were taken, in so many bytes; none waits.
 pub record FiltersSoFar (rules : List Rule) (asked : SiftConditions) (in_old in_new out_old out_new : List ℕ) (cutter : CutterState) (count : ℕ) : Type 0 where
-  pub read : in_new ≡ in_old ++ cutter.stream
-  pub out : out_new ≡ out_old ++ filtered_text rules asked cutter.taken
-  pub counted : count ≡ min (length (filtered_text rules asked cutter.taken)) (2 ^ 64 - 1)
+  pub input_is_stream : in_new ≡ in_old ++ cutter.stream
+  pub output_so_far : out_new ≡ out_old ++ filtered_text rules asked cutter.taken
+  pub count_is_length : count ≡ min (length (filtered_text rules asked cutter.taken)) (2 ^ 64 - 1)
   pub none_waits : cutter.waiting ≡ []
-  pub goes_on : cutter.phase ≡ Open
-  pub given : IsCutterConsistent cutter
+  pub phase_is_open : cutter.phase ≡ Open
+  pub is_consistent : IsCutterConsistent cutter

@@ -1,7 +1,7 @@
 //! Many messages at once, and a walk over a list by the messages' numbers.
 use archive_store::limits::add_limited;
 use archive_store::{AddError, AddReport, Added, Store, StoreFault};
-use archive_tables::rows::read_place;
+use archive_tables::rows::read_rowid;
 use archive_tables::texts::messages;
 use civil_time::Instant;
 use mbox_core::{Envelope, Item, Sender};
@@ -165,7 +165,7 @@ fn a_walk_over_a_list(rt: HostRuntime) -> Result<(), Fail> {
     let places = messages::places(&mut conn, "soc")?;
     assert_eq!(&rt; places.len(), 2);
     for (place, text) in places.iter().zip(texts) {
-        let number = read_place(place)?;
+        let number = read_rowid(place)?;
         let found = messages::message_at(&mut conn, number)?.ok_or("a message")?;
         assert_eq!(&rt; found.text.as_slice(), text);
     }

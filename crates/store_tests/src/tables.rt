@@ -81,15 +81,15 @@ fn tell<S: Alter>(rt: &impl Abort, conn: &mut Connection<S>, case: Case) -> Resu
 /// Begins a transaction, and makes the tables in it.
 fn begin_tables<S: Alter>(conn: &mut Connection<S>) -> Result<(), Error> {
     schema::begin(conn)?;
-    schema::create_version(conn)?;
-    schema::create_list(conn)?;
-    schema::create_person(conn)?;
-    schema::create_grant(conn)?;
-    schema::create_message(conn)?;
+    schema::create_version_table(conn)?;
+    schema::create_list_table(conn)?;
+    schema::create_person_table(conn)?;
+    schema::create_grant_table(conn)?;
+    schema::create_message_table(conn)?;
     schema::create_month_index(conn)?;
     schema::create_author_index(conn)?;
-    schema::create_option(conn)?;
-    schema::create_address(conn)?;
+    schema::create_option_table(conn)?;
+    schema::create_address_table(conn)?;
     schema::add_version(conn)?;
     Ok(())
 }
@@ -260,14 +260,14 @@ fn messages_come_in_the_order_of_the_mailbox<S: Alter>(
     assert_eq!(rt; messages::count_messages(conn, "soc")?, 2);
     let places = messages::places(conn, "soc")?;
     assert_eq!(rt; places.len(), 2);
-    let first = messages::message_at(conn, read_place(&places[0])?)?.ok_or("no message")?;
+    let first = messages::message_at(conn, read_rowid(&places[0])?)?.ok_or("no message")?;
     assert_eq!(rt; first.key.as_str(), KEY);
     assert_eq!(rt; first.sender.as_slice(), b"anna@example.org".as_slice());
     assert_eq!(rt; first.arrival, 1046772000);
     assert_eq!(rt; first.text.as_slice(), b"hello\n".as_slice());
     assert_eq!(rt; first.withdrawn, 0);
     assert_eq!(rt; first.embargo, None);
-    let second = messages::message_at(conn, read_place(&places[1])?)?.ok_or("no message")?;
+    let second = messages::message_at(conn, read_rowid(&places[1])?)?.ok_or("no message")?;
     assert_eq!(rt; second.key.as_str(), OTHER);
     Ok(())
 }
@@ -304,14 +304,14 @@ fn numbers_come_by_what_is_filed<S: Alter>(
         (MARCH + 1, [9].as_slice()),
         (MARCH - 1, [].as_slice()),
     ] {
-        are_numbers(rt, &messages::month_places(conn, "soc", month)?, wanted)?;
+        are_numbers(rt, &messages::month_rowids(conn, "soc", month)?, wanted)?;
     }
     for (author, wanted) in [
         (b"a".as_slice(), [7, 9, 1].as_slice()),
         (b"b".as_slice(), [3, 5].as_slice()),
         (b"".as_slice(), [].as_slice()),
     ] {
-        are_numbers(rt, &messages::author_places(conn, "soc", author)?, wanted)?;
+        are_numbers(rt, &messages::author_rowids(conn, "soc", author)?, wanted)?;
     }
     Ok(())
 }
@@ -319,7 +319,7 @@ fn numbers_come_by_what_is_filed<S: Alter>(
 fn are_numbers(rt: &impl Abort, rows: &[Row], wanted: &[i64]) -> Result<(), Fail> {
     assert_eq!(rt; rows.len(), wanted.len());
     for (row, want) in rows.iter().zip(wanted.iter()) {
-        assert_eq!(rt; read_place(row)?, *want);
+        assert_eq!(rt; read_rowid(row)?, *want);
     }
     Ok(())
 }

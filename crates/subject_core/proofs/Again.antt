@@ -103,11 +103,11 @@ single_lower (b ∷ t) a = (
 
 -- removals leave white space single
 single_goes : (t u : List ℕ) (m : Bool) → RemovesOnePiece t m u → AreSingle t → AreSingle u
-single_goes t u m (trailer l) a = let P : List ℕ → Type 0 = AreSingle in single_before u l.trailer (subst P l.is a)
-single_goes t u m (leader never l) a = let P : List ℕ → Type 0 = AreSingle in single_behind l.leader u (subst P l.is a)
-single_goes t u m (blob never none l) a = let P : List ℕ → Type 0 = AreSingle in single_behind l.blob u (subst P l.is a)
+single_goes t u m (trailer l) a = let P : List ℕ → Type 0 = AreSingle in single_before u l.trailer (subst P l.text_is a)
+single_goes t u m (leader never l) a = let P : List ℕ → Type 0 = AreSingle in single_behind l.leader u (subst P l.text_is a)
+single_goes t u m (blob never none l) a = let P : List ℕ → Type 0 = AreSingle in single_behind l.blob u (subst P l.text_is a)
 single_goes t u m (pair never none not l) a =
-    let P : List ℕ → Type 0 = AreSingle in single_behind l.opening u (single_before (l.opening ++ u) (codes "]") (subst P l.is a))
+    let P : List ℕ → Type 0 = AreSingle in single_behind l.opening u (single_before (l.opening ++ u) (codes "]") (subst P l.text_is a))
 
 single_reached : (t u : List ℕ) (m : Bool) → RemovesPieces t m u → AreSingle t → AreSingle u
 single_reached t u m here a = a

@@ -78,7 +78,7 @@ blob_sound t u h =
     let s = spaces_sound y.0 in
     let rest : y.0 ≡ s.0 ++ u = s.2 ∙ ap (λ (l : List ℕ). s.0 ++ l) y.2 in (
       91 ∷ i.0 ++ 93 ∷ s.0,
-      record { inside = i.0; spaces = s.0; are_blob_chars = i.1; are_spaces = s.1; is = refl },
+      record { inside = i.0; spaces = s.0; are_blob_chars = i.1; are_spaces = s.1; text_is = refl },
       w.2
           ∙ ap (λ (l : List ℕ). l ++ x.0) (that_byte w.0 91 (omega arith) w.1)
           ∙ ap (λ (l : List ℕ). 91 ∷ l) (i.2 ∙ ap (λ (l : List ℕ). i.0 ++ 93 ∷ l) rest ∙ sym (append_assoc i.0 (93 ∷ s.0) u)),
@@ -87,7 +87,7 @@ blob_sound t u h =
 
 pub blob_complete : (blob t : List ℕ) → IsBlob blob → after_blob (blob ++ t) ≡ Some (after_spaces t)
 blob_complete blob t h =
-    ap (λ (l : List ℕ). after_blob (l ++ t)) h.is
+    ap (λ (l : List ℕ). after_blob (l ++ t)) h.text_is
     ∙ then_some (λ (bs : List ℕ). option_map after_spaces (after_closing_bracket bs)) (after_literal (codes "[") (91 ∷ (h.inside ++ 93 ∷ h.spaces) ++ t)) ((h.inside ++ 93 ∷ h.spaces) ++ t)
     (opened ((h.inside ++ 93 ∷ h.spaces) ++ t))
     ∙ ap (λ (l : List ℕ). option_map after_spaces (after_closing_bracket l)) (append_assoc h.inside (93 ∷ h.spaces) t)

@@ -85,7 +85,7 @@ solid u h = is_none (after_literal (codes " ") u) (λ (x : List ℕ) (e : after_
 shorter_by_blob : (t u blob : List ℕ) → IsBlob blob → t ≡ blob ++ u → length u < length t
 shorter_by_blob t u blob b e =
     let n : length t ≡ length blob + length u = ap length e ∙ length-append blob u in
-    let k : length blob ≡ suc (length (b.inside ++ 93 ∷ b.spaces)) = ap length b.is in
+    let k : length blob ≡ suc (length (b.inside ++ 93 ∷ b.spaces)) = ap length b.text_is in
     omega (arith, n, k)
 
 -- a blob goes before the mark that a leader has behind it

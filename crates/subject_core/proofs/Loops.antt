@@ -28,7 +28,7 @@ end_same t rest m w h e = h ∙ ap (with_earlier_reply m) (rest-next rest w (nex
 pub end_within : (t rest : List ℕ) (w : StrippedSubject) → (trailer : List ℕ) × (t ≡ rest ++ trailer) → without_trailer rest ≡ Some w → (trailer : List ℕ) × (t ≡ w.text ++ trailer)
 end_within t rest w h e =
     let l = trailer_sound rest w e in
-    (l.trailer ++ h.0, h.1 ∙ ap (λ (x : List ℕ). x ++ h.0) l.is ∙ append_assoc w.text l.trailer h.0)
+    (l.trailer ++ h.0, h.1 ∙ ap (λ (x : List ℕ). x ++ h.0) l.text_is ∙ append_assoc w.text l.trailer h.0)
 
 -- one more at the front
 pub front_less : (rest : List ℕ) (w : StrippedSubject) → without_trailer rest ≡ None → without_front_piece rest ≡ Some w → length w.text < length rest
@@ -52,7 +52,7 @@ front_within t rest w h n e =
 pub turn_same : (t rest ended begun : List ℕ) (m p q : Bool) → after_all_removals t ≡ with_earlier_reply m (after_all_removals rest) → StripsTrailers rest ended p → StripsFrontPieces ended begun q
     → after_all_removals t ≡ with_earlier_reply (m || (p || q)) (after_all_removals begun)
 turn_same t rest ended begun m p q h e f =
-    h ∙ ap (with_earlier_reply m) (e.same ∙ ap (with_earlier_reply p) f.same ∙ marked-more p q (after_all_removals begun)) ∙ marked-more m (p || q) (after_all_removals begun)
+    h ∙ ap (with_earlier_reply m) (e.same_removals ∙ ap (with_earlier_reply p) f.same_removals ∙ marked-more p q (after_all_removals begun)) ∙ marked-more m (p || q) (after_all_removals begun)
 
 pub turn_done : (t begun : List ℕ) (m : Bool) → after_all_removals t ≡ with_earlier_reply m (after_all_removals begun) → without_trailer begun ≡ None → without_front_piece begun ≡ None
     → without_fwd_brackets begun ≡ None → after_all_removals t ≡ stripped_subject m begun
@@ -74,7 +74,7 @@ turn_pair t begun inner m h n f p = h ∙ ap (with_earlier_reply m) (rest-next b
 pub inside_pair : (begun inner : List ℕ) → without_fwd_brackets begun ≡ Some (stripped_subject true inner) → (opening : List ℕ) × (length opening ≡ 5) × (begun ≡ opening ++ (inner ++ codes "]"))
 inside_pair begun inner h =
     let p = (pair_sound begun (stripped_subject true inner) h).1 in
-    (p.opening, literal_length (codes "[fwd:") p.opening p.is_opening, p.is ∙ append_assoc p.opening inner (codes "]"))
+    (p.opening, literal_length (codes "[fwd:") p.opening p.is_opening, p.text_is ∙ append_assoc p.opening inner (codes "]"))
 
 pub pair_less : (begun inner : List ℕ) → without_fwd_brackets begun ≡ Some (stripped_subject true inner) → length inner < length begun
 pair_less begun inner h =
@@ -84,15 +84,15 @@ pair_less begun inner h =
 
 pub turn_less : (rest ended begun : List ℕ) (p q : Bool) → StripsTrailers rest ended p → StripsFrontPieces ended begun q → length begun ≤ length rest
 turn_less rest ended begun p q e f =
-    let n : length rest ≡ length ended + length e.trailer = ap length e.is ∙ length-append ended e.trailer in
-    let m : length ended ≡ length f.leader + length begun = ap length f.is ∙ length-append f.leader begun in
+    let n : length rest ≡ length ended + length e.trailer = ap length e.text_is ∙ length-append ended e.trailer in
+    let m : length ended ≡ length f.leader + length begun = ap length f.text_is ∙ length-append f.leader begun in
     omega (arith, n, m)
 
 pub turn_part : (t rest ended begun : List ℕ) (from : ℕ) (p q : Bool) → IsPart t from rest → StripsTrailers rest ended p → StripsFrontPieces ended begun q
     → IsPart t (from + (length ended - length begun)) begun
 turn_part t rest ended begun from p q h e f =
-    let m : length ended ≡ length f.leader + length begun = ap length f.is ∙ length-append f.leader begun in
-    without_start t ended f.leader begun from (from + (length ended - length begun)) (without_end t rest ended e.trailer from h e.is) f.is (omega (arith, m))
+    let m : length ended ≡ length f.leader + length begun = ap length f.text_is ∙ length-append f.leader begun in
+    without_start t ended f.leader begun from (from + (length ended - length begun)) (without_end t rest ended e.trailer from h e.text_is) f.text_is (omega (arith, m))
 
 pub pair_part : (t begun inner : List ℕ) (from : ℕ) → IsPart t from begun → without_fwd_brackets begun ≡ Some (stripped_subject true inner) → IsPart t (from + 5) inner
 pair_part t begun inner from h e =

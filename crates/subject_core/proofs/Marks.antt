@@ -41,7 +41,7 @@ colon_sound t u h = go (some_or (after_literal (codes ":") (after_spaces t)) (op
 
 -- a blob begins with its bracket
 pub blob_opens : (blob t : List ℕ) → IsBlob blob → (rest : List ℕ) × (blob ++ t ≡ 91 ∷ rest)
-blob_opens blob t h = ((h.inside ++ 93 ∷ h.spaces) ++ t, ap (λ (l : List ℕ). l ++ t) h.is)
+blob_opens blob t h = ((h.inside ++ 93 ∷ h.spaces) ++ t, ap (λ (l : List ℕ). l ++ t) h.text_is)
 
 pub no_spaces : (t rest : List ℕ) (b : ℕ) → t ≡ b ∷ rest → b ≢ 32 → after_spaces t ≡ t
 no_spaces t rest b e n = ap after_spaces e ∙ spaces-done b rest n ∙ sym e
@@ -75,7 +75,7 @@ tail_refwd k t u word h =
     let w = after_sound k t x.0 x.1 in
     let c = colon_sound x.0 u x.2 in (
       ((w.0 ++ c.spaces) ++ c.blob) ++ 58 ∷ [],
-      record { word = w.0; spaces = c.spaces; blob = c.blob; is_word = word w.0 w.1; are_spaces = c.are_spaces; is_blob = c.is_blob; is = refl },
+      record { word = w.0; spaces = c.spaces; blob = c.blob; is_word = word w.0 w.1; are_spaces = c.are_spaces; is_blob = c.is_blob; text_is = refl },
       w.2 ∙ ap (λ (l : List ℕ). w.0 ++ l) c.is ∙ sym (simp append_assoc),
     )
 
@@ -154,7 +154,7 @@ refwd_complete r u h = ap after_refwd whole ∙ go h.is_word
     is_tail = record { spaces = h.spaces; blob = h.blob; are_spaces = h.are_spaces; is_blob = h.is_blob; is = refl }
 
     whole : r ++ u ≡ h.word ++ (h.spaces ++ (h.blob ++ 58 ∷ u))
-    whole = ap (λ (l : List ℕ). l ++ u) h.is ∙ simp append_assoc
+    whole = ap (λ (l : List ℕ). l ++ u) h.text_is ∙ simp append_assoc
 
     go : IsReplyWord h.word → after_refwd (h.word ++ (h.spaces ++ (h.blob ++ 58 ∷ u))) ≡ Some u
     go (inl re) =
@@ -212,7 +212,7 @@ refwd_first r u h = go h.is_word
         let f = first_byte h.word ks k w in (
           f.0,
           f.1 ++ (h.spaces ++ (h.blob ++ 58 ∷ u)),
-          ap (λ (m : List ℕ). m ++ u) h.is ∙ simp append_assoc (ap (λ (m : List ℕ). m ++ (h.spaces ++ (h.blob ++ 58 ∷ u))) f.2),
+          ap (λ (m : List ℕ). m ++ u) h.text_is ∙ simp append_assoc (ap (λ (m : List ℕ). m ++ (h.spaces ++ (h.blob ++ 58 ∷ u))) f.2),
           let P : ℕ → Type 0 = λ x. 97 ≤ x in subst P (sym f.3) l,
         )
 
@@ -235,7 +235,7 @@ leader_complete m l u (refwd r) e n s = leader-stop n (l ++ u) u (refwd_complete
 leader_complete m l u (behind {blob = b} {text = t} x y) e n s = go n s (leader_complete true t u y refl)
   where
     long : length (b ++ t) ≡ suc (length (x.inside ++ 93 ∷ x.spaces)) + length t
-    long = length-append b t ∙ ap (λ (l : List ℕ). length l + length t) x.is
+    long = length-append b t ∙ ap (λ (l : List ℕ). length l + length t) x.text_is
 
     go : (n : ℕ) → length (b ++ t) ≤ n → ((n : ℕ) → length t ≤ n → after_leader n (t ++ u) ≡ Some u) → after_leader n ((b ++ t) ++ u) ≡ Some u
     go zero s ih = absurd (omega (arith, long, s))

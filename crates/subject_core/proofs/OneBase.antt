@@ -64,16 +64,16 @@ one_rest t u m (further {next = v} {reply = p} {later = q} g r) d = next_same t 
 
 pub base_found : (subject : List ℕ) → IsBaseSubject subject (base_subject_of subject) (is_reply subject)
 base_found subject = record {
-  rest = (after_all_removals (with_single_spaces subject)).text;
-  reached = reaches (length (with_single_spaces subject)) (with_single_spaces subject);
-  done = is_done (after_all_removals (with_single_spaces subject)).text (stops (length (with_single_spaces subject)) (with_single_spaces subject) (omega arith));
-  is = refl;
+  remaining_text = (after_all_removals (with_single_spaces subject)).text;
+  removes_pieces = reaches (length (with_single_spaces subject)) (with_single_spaces subject);
+  nothing_to_remove = is_done (after_all_removals (with_single_spaces subject)).text (stops (length (with_single_spaces subject)) (with_single_spaces subject) (omega arith));
+  base_is_lowercase = refl;
 }
 
 pub one_base : (subject base : List ℕ) (reply : Bool) → IsBaseSubject subject base reply → (base ≡ base_subject_of subject) × (reply ≡ is_reply subject)
 one_base subject base reply b =
-    let e = one_rest (with_single_spaces subject) b.rest reply b.reached b.done in
-    (b.is ∙ ap (λ (l : StrippedSubject). ascii_lowercase l.text) (sym e), ap (λ (l : StrippedSubject). l.reply) (sym e))
+    let e = one_rest (with_single_spaces subject) b.remaining_text reply b.removes_pieces b.nothing_to_remove in
+    (b.base_is_lowercase ∙ ap (λ (l : StrippedSubject). ascii_lowercase l.text) (sym e), ap (λ (l : StrippedSubject). l.reply) (sym e))
 
 pub trailer_stays : (front rest : List ℕ) → HasTrailer rest → HasTrailer (front ++ rest)
 trailer_stays front rest (m, u, l) = (
@@ -82,7 +82,7 @@ trailer_stays front rest (m, u, l) = (
   record {
     trailer = l.trailer;
     is_trailer = l.is_trailer;
-    is = ap (λ (x : List ℕ). front ++ x) l.is ∙ sym (append_assoc front u l.trailer);
+    text_is = ap (λ (x : List ℕ). front ++ x) l.text_is ∙ sym (append_assoc front u l.trailer);
   },
 )
 

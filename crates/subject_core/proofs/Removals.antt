@@ -36,7 +36,7 @@ trailer_sound t w h = go (some_or (option_map (stripped_subject false) (before_l
         let x = some_map (stripped_subject m) (before_literal k t) w e in
         let v = before_sound k t x.0 x.1 in
         let P : StrippedSubject → Type 0 = λ l. LosesTrailer t l.reply l.text in
-        subst P x.2 (record { trailer = v.0; is_trailer = make v.0 v.1; is = v.2 })
+        subst P x.2 (record { trailer = v.0; is_trailer = make v.0 v.1; text_is = v.2 })
 
     a_space : (v : List ℕ) → EqualsIgnoringCase (codes " ") v → IsTrailer false v
     a_space v l = let P : List ℕ → Type 0 = IsTrailer false in subst P (sym (that_byte v 32 (omega arith) l)) trailing_space
@@ -62,7 +62,7 @@ five_bytes (a ∷ b ∷ c ∷ d ∷ e ∷ f ∷ g) h = absurd (cc)
 
 pub trailer_complete : (t u : List ℕ) (m : Bool) → LosesTrailer t m u → without_trailer t ≡ Some (stripped_subject m u)
 unfolding without_trailer
-trailer_complete t u m h = go m h.trailer h.is_trailer h.is
+trailer_complete t u m h = go m h.trailer h.is_trailer h.text_is
   where
     go : (m : Bool) (v : List ℕ) → IsTrailer m v → t ≡ u ++ v → without_trailer t ≡ Some (stripped_subject m u)
     go m v trailing_space e =
@@ -90,16 +90,16 @@ leaders_sound t w h = go (some_or (option_map (stripped_subject false) (after_li
     go (inl e) =
         let x = some_map (stripped_subject false) (after_literal (codes " ") t) w e in
         let P : StrippedSubject → Type 0 = λ l. LosesLeader t l.reply l.text in
-        subst P x.2 (record { leader = 32 ∷ []; is_leader = leading_space; is = space_at t x.0 x.1 })
+        subst P x.2 (record { leader = 32 ∷ []; is_leader = leading_space; text_is = space_at t x.0 x.1 })
     go (inr e) =
         let x = some_map (stripped_subject true) (after_leader (length t) t) w e.1 in
         let l = leader_sound (length t) t x.0 x.1 in
         let P : StrippedSubject → Type 0 = λ l. LosesLeader t l.reply l.text in
-        subst P x.2 (record { leader = l.0; is_leader = l.1; is = l.2 })
+        subst P x.2 (record { leader = l.0; is_leader = l.1; text_is = l.2 })
 
 pub leaders_complete : (t u : List ℕ) (m : Bool) → LosesLeader t m u → without_leader t ≡ Some (stripped_subject m u)
 unfolding without_leader
-leaders_complete t u m h = go m h.leader h.is_leader h.is
+leaders_complete t u m h = go m h.leader h.is_leader h.text_is
   where
     marked_one : (l : List ℕ) → IsLeader true l → t ≡ l ++ u → without_leader t ≡ Some (stripped_subject true u)
     marked_one l x e =
@@ -133,7 +133,7 @@ blobs_sound t w h =
     let a = if_any_is y.0 x.0 y.2 in
     let b = blob_sound t y.0 y.1 in
     let P : StrippedSubject → Type 0 = λ l. (l.reply ≡ false) × LosesBlob t l.text in
-    subst P x.2 (refl, record { blob = b.0; is_blob = b.1; any = a.1; is = b.2 ∙ ap (λ (l : List ℕ). b.0 ++ l) a.0 })
+    subst P x.2 (refl, record { blob = b.0; is_blob = b.1; leaves_some = a.1; text_is = b.2 ∙ ap (λ (l : List ℕ). b.0 ++ l) a.0 })
 
 -- spaces alone end in a space
 spaces_end : (s : List ℕ) → AreSpaces s → s ≢ [] → (r : List ℕ) × (s ≡ r ++ 32 ∷ [])
@@ -147,13 +147,13 @@ pub blobs_complete : (t u : List ℕ) → without_trailer t ≡ None → LosesBl
 unfolding without_blob
 blobs_complete t u none h =
     map_some (stripped_subject false) (option_and_then if_not_empty (after_blob t)) (after_spaces u)
-    (then_some if_not_empty (after_blob t) (after_spaces u) (ap after_blob h.is ∙ blob_complete h.blob u h.is_blob)
+    (then_some if_not_empty (after_blob t) (after_spaces u) (ap after_blob h.text_is ∙ blob_complete h.blob u h.is_blob)
     ∙ if_any_some (after_spaces u) (λ (n : after_spaces u ≡ []).
     let s = spaces_sound u in
     let all : u ≡ s.0 = s.2 ∙ ap (λ (l : List ℕ). s.0 ++ l) n ∙ append-nil s.0 in
-    let r = spaces_end s.0 s.1 (λ (k : s.0 ≡ []). h.any (all ∙ k)) in
-    let e : t ≡ (h.blob ++ r.0) ++ 32 ∷ [] = h.is ∙ ap (λ (l : List ℕ). h.blob ++ l) (all ∙ r.1) ∙ sym (append_assoc h.blob r.0 (32 ∷ [])) in
-    let l : LosesTrailer t false (h.blob ++ r.0) = record { trailer = 32 ∷ []; is_trailer = trailing_space; is = e } in
+    let r = spaces_end s.0 s.1 (λ (k : s.0 ≡ []). h.leaves_some (all ∙ k)) in
+    let e : t ≡ (h.blob ++ r.0) ++ 32 ∷ [] = h.text_is ∙ ap (λ (l : List ℕ). h.blob ++ l) (all ∙ r.1) ∙ sym (append_assoc h.blob r.0 (32 ∷ [])) in
+    let l : LosesTrailer t false (h.blob ++ r.0) = record { trailer = 32 ∷ []; is_trailer = trailing_space; text_is = e } in
     let k : None ≡ Some (stripped_subject false (h.blob ++ r.0)) = sym none ∙ trailer_complete t (h.blob ++ r.0) false l in
     cc))
 
@@ -171,7 +171,7 @@ pair_sound t w h =
       record {
         opening = o.0;
         is_opening = o.1;
-        is = o.2 ∙ ap (λ (l : List ℕ). o.0 ++ l) (c.2 ∙ ap (λ (l : List ℕ). x.0 ++ l) (that_byte c.0 93 (omega arith) c.1)) ∙ sym (append_assoc o.0 x.0 (93 ∷ []));
+        text_is = o.2 ∙ ap (λ (l : List ℕ). o.0 ++ l) (c.2 ∙ ap (λ (l : List ℕ). x.0 ++ l) (that_byte c.0 93 (omega arith) c.1)) ∙ sym (append_assoc o.0 x.0 (93 ∷ []));
       },
     )
 
@@ -180,5 +180,5 @@ unfolding without_fwd_brackets
 pair_complete t u h =
     map_some (stripped_subject true) (option_and_then (before_literal (codes "]")) (after_literal (codes "[fwd:") t)) u
     (then_some (before_literal (codes "]")) (after_literal (codes "[fwd:") t) (u ++ 93 ∷ [])
-    (ap (after_literal (codes "[fwd:")) (h.is ∙ append_assoc h.opening u (93 ∷ [])) ∙ after_complete (codes "[fwd:") h.opening (u ++ 93 ∷ []) h.is_opening)
+    (ap (after_literal (codes "[fwd:")) (h.text_is ∙ append_assoc h.opening u (93 ∷ [])) ∙ after_complete (codes "[fwd:") h.opening (u ++ 93 ∷ []) h.is_opening)
     ∙ before_complete (codes "]") u (93 ∷ []) refl)

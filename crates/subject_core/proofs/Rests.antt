@@ -35,20 +35,20 @@ leader_some true l h =
 
 pub goes_shorter : (t u : List ℕ) (m : Bool) → RemovesOnePiece t m u → length u < length t
 goes_shorter t u m (trailer l) =
-    let n : length t ≡ length u + length l.trailer = ap length l.is ∙ length-append u l.trailer in
+    let n : length t ≡ length u + length l.trailer = ap length l.text_is ∙ length-append u l.trailer in
     let k = trailer_some m l.trailer l.is_trailer in
     omega (arith, n, k)
 goes_shorter t u m (leader never l) =
-    let n : length t ≡ length l.leader + length u = ap length l.is ∙ length-append l.leader u in
+    let n : length t ≡ length l.leader + length u = ap length l.text_is ∙ length-append l.leader u in
     let k = leader_some m l.leader l.is_leader in
     omega (arith, n, k)
 goes_shorter t u m (blob never none l) =
     let o = blob_opens l.blob u l.is_blob in
-    let n : length t ≡ length l.blob + length u = ap length l.is ∙ length-append l.blob u in
-    let k : length l.blob ≡ suc (length (l.is_blob.inside ++ 93 ∷ l.is_blob.spaces)) = ap length l.is_blob.is in
+    let n : length t ≡ length l.blob + length u = ap length l.text_is ∙ length-append l.blob u in
+    let k : length l.blob ≡ suc (length (l.is_blob.inside ++ 93 ∷ l.is_blob.spaces)) = ap length l.is_blob.text_is in
     omega (arith, n, k)
 goes_shorter t u m (pair never none not l) =
-    let n : length t ≡ length l.opening + length u + 1 = ap length l.is ∙ length-append (l.opening ++ u) (codes "]") ∙ ap (λ (x : ℕ). x + 1) (length-append l.opening u) in
+    let n : length t ≡ length l.opening + length u + 1 = ap length l.text_is ∙ length-append (l.opening ++ u) (codes "]") ∙ ap (λ (x : ℕ). x + 1) (length-append l.opening u) in
     omega (arith, n)
 
 -- where a function finds nothing, nothing is there
@@ -80,7 +80,7 @@ no_trailer_behind f u h = is_none (without_trailer u) (λ (w : StrippedSubject) 
       record {
         trailer = l.trailer;
         is_trailer = l.is_trailer;
-        is = ap (λ (x : List ℕ). f ++ x) l.is ∙ sym (append_assoc f w.text l.trailer);
+        text_is = ap (λ (x : List ℕ). f ++ x) l.text_is ∙ sym (append_assoc f w.text l.trailer);
       },
     ))
 
@@ -157,7 +157,7 @@ next_complete t u m (blob never none l) =
       are_spaces = s.1;
       is = s.2;
       next = next-blob t (stripped_subject false (after_spaces u)) n (leader_none t none) (blobs_complete t u n l);
-      end = inr (no_trailer_behind l.blob u (ap without_trailer (sym l.is) ∙ n));
+      end = inr (no_trailer_behind l.blob u (ap without_trailer (sym l.text_is) ∙ n));
     }
 next_complete t u m (pair never none not l) =
     record {

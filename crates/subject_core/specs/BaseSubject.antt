@@ -11,26 +11,26 @@ use Rattle.subject_core.specs.Removal.{StrippedSubject, stripped_subject, withou
 pub record LosesTrailer (text : List ℕ) (reply : Bool) (rest : List ℕ) : Type 0 where
   pub trailer : List ℕ
   pub is_trailer : IsTrailer reply trailer
-  pub is : text ≡ rest ++ trailer
+  pub text_is : text ≡ rest ++ trailer
 
 -- step (3): a subj-leader at the front
 pub record LosesLeader (text : List ℕ) (reply : Bool) (rest : List ℕ) : Type 0 where
   pub leader : List ℕ
   pub is_leader : IsLeader reply leader
-  pub is : text ≡ leader ++ rest
+  pub text_is : text ≡ leader ++ rest
 
 -- step (4): a subj-blob at the front, which leaves a text that is not empty
 pub record LosesBlob (text rest : List ℕ) : Type 0 where
   pub blob : List ℕ
   pub is_blob : IsBlob blob
-  pub any : rest ≢ []
-  pub is : text ≡ blob ++ rest
+  pub leaves_some : rest ≢ []
+  pub text_is : text ≡ blob ++ rest
 
 -- step (6): subj-fwd-hdr at the front and subj-fwd-trl at the end
 pub record LosesFwdBrackets (text rest : List ℕ) : Type 0 where
   pub opening : List ℕ
   pub is_opening : EqualsIgnoringCase (codes "[fwd:") opening
-  pub is : text ≡ opening ++ rest ++ codes "]"
+  pub text_is : text ≡ opening ++ rest ++ codes "]"
 
 -- step (2) still applies: the text ends in a subj-trailer, `(fwd)` in any case or a space (RFC 5256, section 5)
 abbrev pub HasTrailer : List ℕ → Type 0
@@ -62,10 +62,10 @@ HasNothingToRemove text = (reply : Bool) (rest : List ℕ) → ¬ RemovesOnePiec
 
 -- the base of a subject and its mark of a reply: what is left once nothing more can be removed, in lower case
 pub record IsBaseSubject (subject base : List ℕ) (reply : Bool) : Type 0 where
-  pub rest : List ℕ
-  pub reached : RemovesPieces (with_single_spaces subject) reply rest
-  pub done : HasNothingToRemove rest
-  pub is : base ≡ ascii_lowercase rest
+  pub remaining_text : List ℕ
+  pub removes_pieces : RemovesPieces (with_single_spaces subject) reply remaining_text
+  pub nothing_to_remove : HasNothingToRemove remaining_text
+  pub base_is_lowercase : base ≡ ascii_lowercase remaining_text
 
 -- The same as functions that compute.
 

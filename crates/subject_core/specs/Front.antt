@@ -11,15 +11,15 @@ without_front_piece text =
 
 -- the removals at the end are done, and what they leave has the same rest
 pub record StripsTrailers (text rest : List ℕ) (reply : Bool) : Type 0 where
-  pub same : after_all_removals text ≡ with_earlier_reply reply (after_all_removals rest)
+  pub same_removals : after_all_removals text ≡ with_earlier_reply reply (after_all_removals rest)
   pub trailer : List ℕ
-  pub is : text ≡ rest ++ trailer
-  pub none : without_trailer rest ≡ None
+  pub text_is : text ≡ rest ++ trailer
+  pub no_trailer_left : without_trailer rest ≡ None
 
 -- the removals at the front are done, and what they leave has the same rest
 pub record StripsFrontPieces (text rest : List ℕ) (reply : Bool) : Type 0 where
-  pub same : after_all_removals text ≡ with_earlier_reply reply (after_all_removals rest)
+  pub same_removals : after_all_removals text ≡ with_earlier_reply reply (after_all_removals rest)
   pub leader : List ℕ
-  pub is : text ≡ leader ++ rest
+  pub text_is : text ≡ leader ++ rest
   pub no_trailer : without_trailer rest ≡ None
-  pub none : without_front_piece rest ≡ None
+  pub no_front_piece_left : without_front_piece rest ≡ None

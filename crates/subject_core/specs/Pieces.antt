@@ -26,7 +26,7 @@ pub record IsBlob (text : List ℕ) : Type 0 where
   pub spaces : List ℕ
   pub are_blob_chars : AreBlobChars inside
   pub are_spaces : AreSpaces spaces
-  pub is : text ≡ 91 ∷ inside ++ 93 ∷ spaces
+  pub text_is : text ≡ 91 ∷ inside ++ 93 ∷ spaces
 
 -- "re" / ("fw" ["d"])
 abbrev pub IsReplyWord : List ℕ → Type 0
@@ -40,7 +40,7 @@ pub record IsRefwd (text : List ℕ) : Type 0 where
   pub is_word : IsReplyWord word
   pub are_spaces : AreSpaces spaces
   pub is_blob : (blob ≡ []) ⊎ IsBlob blob
-  pub is : text ≡ word ++ spaces ++ blob ++ 58 ∷ []
+  pub text_is : text ≡ word ++ spaces ++ blob ++ 58 ∷ []
 
 -- subj-leader = (*subj-blob subj-refwd) / WSP
 -- Beside it whether it holds a subj-refwd, so marks a reply.

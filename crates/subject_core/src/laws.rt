@@ -11,7 +11,7 @@ pub fn removals_end_at_one_base()
 {}
 
 /// A removal at the front uncovers no trailer, so that trailers may go first throughout.
-pub fn fronts_uncover_no_trailer()
+pub fn removing_a_front_uncovers_no_trailer()
     ensures { (front rest : List ℕ) → HasTrailer rest → HasTrailer (front ++ rest) }
 {}
 
@@ -23,7 +23,7 @@ pub fn a_base_is_its_own_base()
 {}
 
 /// The case of ASCII letters makes no difference.
-pub fn case_makes_no_difference()
+pub fn ascii_case_makes_no_difference()
     ensures base { (subject : List ℕ) → base_subject_of (ascii_lowercase subject) ≡ base_subject_of subject }
     ensures reply { (subject : List ℕ) → is_reply (ascii_lowercase subject) ≡ is_reply subject }
 {}

@@ -96,21 +96,21 @@ or-false false = refl
 -- no subject yet
 pub leaders_none : (entries : List Entry) (get : List ℕ → Option ℕ) → ((base : List ℕ) → get base ≡ None) → AreSubjectLeaders entries [] [] get
 leaders_none entries get none = record {
-  bases = refl;
-  empty = none [];
-  found = λ base. ap is_none (none base);
-  same = λ base place e. absurd (let bad : None ≡ Some place = sym (none base) ∙ e in cc);
-  led = tt;
+  bases_are_distinct = refl;
+  none_for_empty_base = none [];
+  found_iff_present = λ base. ap is_none (none base);
+  leader_has_base = λ base place e. absurd (let bad : None ≡ Some place = sym (none base) ∙ e in cc);
+  are_leaders = tt;
 }
 
 pub leaders_empty : (entries : List Entry) (subjects : List (List ℕ)) (base : List ℕ) (leaders : List ℕ) (get : List ℕ → Option ℕ) → length base ≡ 0
     → AreSubjectLeaders entries subjects leaders get → AreSubjectLeaders entries (subjects ++ base ∷ []) leaders get
 leaders_empty entries subjects [] leaders get is all = record {
-  bases = all.bases ∙ sym (distinct_empty subjects);
-  empty = all.empty;
-  found = all.found;
-  same = all.same;
-  led = all.led;
+  bases_are_distinct = all.bases_are_distinct ∙ sym (distinct_empty subjects);
+  none_for_empty_base = all.none_for_empty_base;
+  found_iff_present = all.found_iff_present;
+  leader_has_base = all.leader_has_base;
+  are_leaders = all.are_leaders;
 }
 leaders_empty entries subjects (b ∷ bs) leaders get is all = absurd (let bad : suc (length bs) ≡ 0 = is in omega (arith, bad))
 
@@ -132,22 +132,23 @@ leaders-new : (entries : List Entry) (subjects : List (List ℕ)) (place : ℕ) 
     → AreSubjectLeaders entries subjects leaders get → AreSubjectLeaders entries (subjects ++ base_subject_at entries place ∷ []) (leaders ++ place ∷ [])
     (with_lead get (base_subject_at entries place) place)
 leaders-new entries subjects place leaders get some none all = record {
-  bases = map-append (base_subject_at entries) leaders (place ∷ []) ∙ ap (λ (bs : List (List ℕ)). bs ++ base_subject_at entries place ∷ []) all.bases
+  bases_are_distinct = map-append (base_subject_at entries) leaders (place ∷ []) ∙ ap (λ (bs : List (List ℕ)). bs ++ base_subject_at entries place ∷ []) all.bases_are_distinct
       ∙ sym (distinct-last subjects (base_subject_at entries place) some ∙ ap (λ (t : Bool). distinct_subjects subjects ++ cond t [] (base_subject_at entries place ∷ [])) absent);
-  empty = by_empty (bytes_eq (base_subject_at entries place) []) refl;
-  found = λ o. by_found o (bytes_eq (base_subject_at entries place) o) refl
+  none_for_empty_base = by_empty (bytes_eq (base_subject_at entries place) []) refl;
+  found_iff_present = λ o. by_found o (bytes_eq (base_subject_at entries place) o) refl
       ∙ sym (ap not (ap (list_any (bytes_eq o)) (map-append (base_subject_at entries) leaders (place ∷ [])) ∙ list_any-append (bytes_eq o) (map (base_subject_at entries) leaders)
       (base_subject_at entries place ∷ [])));
-  same = λ o p. by_same o p (bytes_eq (base_subject_at entries place) o) refl;
-  led = led-more entries get place leaders none all.led;
+  leader_has_base = λ o p. by_same o p (bytes_eq (base_subject_at entries place) o) refl;
+  are_leaders = led-more entries get place leaders none all.are_leaders;
 }
   where
     absent : list_any (bytes_eq (base_subject_at entries place)) (distinct_subjects subjects) ≡ false
-    absent = ap (list_any (bytes_eq (base_subject_at entries place))) (sym all.bases) ∙ not-not true (list_any (bytes_eq (base_subject_at entries place)) (map (base_subject_at entries) leaders))
-        (sym (ap is_none none) ∙ all.found (base_subject_at entries place))
+    absent = ap (list_any (bytes_eq (base_subject_at entries place))) (sym all.bases_are_distinct) ∙ not-not true
+        (list_any (bytes_eq (base_subject_at entries place)) (map (base_subject_at entries) leaders))
+        (sym (ap is_none none) ∙ all.found_iff_present (base_subject_at entries place))
 
     by_empty : (t : Bool) → bytes_eq (base_subject_at entries place) [] ≡ t → cond t (Some place) (get []) ≡ None
-    by_empty false e = all.empty
+    by_empty false e = all.none_for_empty_base
     by_empty true e = absurd (some (ap length (bytes-same (base_subject_at entries place) [] e)))
 
     or-true : (t : Bool) → (t || (true || false)) ≡ true
@@ -157,10 +158,10 @@ leaders-new entries subjects place leaders get some none all = record {
     by_found : (o : List ℕ) (t : Bool) → bytes_eq (base_subject_at entries place) o ≡ t
         → is_none (cond t (Some place) (get o)) ≡ not (list_any (bytes_eq o) (map (base_subject_at entries) leaders) || (bytes_eq o (base_subject_at entries place) || false))
     by_found o true e = rw (bytes-sym o (base_subject_at entries place), e, or-true (list_any (bytes_eq o) (map (base_subject_at entries) leaders))) refl
-    by_found o false e = rw (bytes-sym o (base_subject_at entries place), e, or-false (list_any (bytes_eq o) (map (base_subject_at entries) leaders))) (all.found o)
+    by_found o false e = rw (bytes-sym o (base_subject_at entries place), e, or-false (list_any (bytes_eq o) (map (base_subject_at entries) leaders))) (all.found_iff_present o)
 
     by_same : (o : List ℕ) (p : ℕ) (t : Bool) → bytes_eq (base_subject_at entries place) o ≡ t → cond t (Some place) (get o) ≡ Some p → base_subject_at entries p ≡ o
-    by_same o p false e f = all.same o p f
+    by_same o p false e f = all.leader_has_base o p f
     by_same o p true e f = let x : place ≡ p = cc in ap (base_subject_at entries) (sym x) ∙ bytes-same (base_subject_at entries place) o e
 
 -- one subject more
@@ -184,14 +185,15 @@ leaders_more entries subjects base place leaders leaders' get get' added own som
     by_option (Some p) e =
         let tables : get ≡ get' = λ i o. sym (now o ∙ ap (λ (t : Bool). cond (t && bytes_eq base o) (Some place) (get o)) (ap is_none e)) i in
         let lists : leaders ≡ leaders' = sym (grown ∙ ap (λ (t : Bool). cond t (leaders ++ place ∷ []) leaders) (was ∙ ap is_none e)) in
-        let held : list_any (bytes_eq base) (distinct_subjects subjects) ≡ true = ap (list_any (bytes_eq base)) (sym all.bases)
-        ∙ not-not false (list_any (bytes_eq base) (map (base_subject_at entries) leaders)) (sym (ap is_none e) ∙ all.found base) in
+        let held : list_any (bytes_eq base) (distinct_subjects subjects) ≡ true = ap (list_any (bytes_eq base)) (sym all.bases_are_distinct)
+        ∙ not-not false (list_any (bytes_eq base) (map (base_subject_at entries) leaders)) (sym (ap is_none e) ∙ all.found_iff_present base) in
         let same : AreSubjectLeaders entries (subjects ++ base ∷ []) leaders get = record {
-          bases = all.bases ∙ sym (distinct-last subjects base some ∙ ap (λ (t : Bool). distinct_subjects subjects ++ cond t [] (base ∷ [])) held ∙ append-nil (distinct_subjects subjects));
-          empty = all.empty;
-          found = all.found;
-          same = all.same;
-          led = all.led;
+          bases_are_distinct = all.bases_are_distinct ∙ sym (distinct-last subjects base some ∙ ap (λ (t : Bool). distinct_subjects subjects ++ cond t [] (base ∷ [])) held ∙ append-nil
+              (distinct_subjects subjects));
+          none_for_empty_base = all.none_for_empty_base;
+          found_iff_present = all.found_iff_present;
+          leader_has_base = all.leader_has_base;
+          are_leaders = all.are_leaders;
         } in
         subst (λ (x : (List ℕ → Option ℕ) × List ℕ). AreSubjectLeaders entries (subjects ++ base ∷ []) x.1 x.0) (λ i. (tables i, lists i)) same
 
@@ -281,7 +283,7 @@ group-listed : (entries : List Entry) (trees : List Tree) (get : List ℕ → Op
     → leads ≡ map (λ (tree : Tree). leader_of_message entries get (tree_key_place entries tree)) trees → TabulatesFunction (children (containers_of_parents leads 0)) lists
     → trees_at_numbers trees (get_or lists p []) ≡ trees_with_subject entries trees (base_subject_at entries p)
 group-listed entries trees get leads lists p empty same led is below =
-    ap (trees_at_numbers trees) (below.each p ∙ ap (λ (os : List (Option ℕ)). children (containers_of_parents os 0) p) is)
+    ap (trees_at_numbers trees) (below.entry_is_value p ∙ ap (λ (os : List (Option ℕ)). children (containers_of_parents os 0) p) is)
     ∙ ap (λ (k : ℕ). trees_at_numbers trees (filter (λ child. option_map_or (λ up. up == p) ((containers_of_parents (map lead trees) 0).parent child) false) (numbers_below k))) (length-map trees lead)
     ∙ picked-below trees lead p (length trees) (omega arith)
     ∙ ap (filter (λ tree. option_map_or (λ up. up == p) (lead tree) false)) (take_all (length trees) trees (omega arith))
@@ -367,9 +369,9 @@ pub all_listed : {X : Type 0} (f : MergedThreads → List X) (entries : List Ent
 all_listed f entries trees first second third leaders places get leads given lists read got e all h is g below k m n was =
     was
     ∙ (λ i. flat_map (λ leader. f (merged_group entries (trees_at_numbers (k i) (get_or (n i) leader [])))) (m i))
-    ∙ groups_listed (λ ts. f (merged_group entries ts)) entries trees get leads lists leaders all.empty all.same all.led
+    ∙ groups_listed (λ ts. f (merged_group entries ts)) entries trees get leads lists leaders all.none_for_empty_base all.leader_has_base all.are_leaders
     (is ∙ ap (map (λ (tree : Tree). leader_of_message entries get (tree_key_place entries tree))) h)
     (subst (λ (os : List (Option ℕ)). TabulatesFunction (children (containers_of_parents os 0)) lists) g below)
     ∙ gathered-listed f entries trees leaders
     ∙ ap (λ (bs : List (List ℕ)). flat_map f (map (merged_group entries) (map (trees_with_subject entries trees) bs)))
-    (all.bases ∙ ap (λ (ts : List Tree). distinct_subjects (map (thread_subject entries) ts)) e)
+    (all.bases_are_distinct ∙ ap (λ (ts : List Tree). distinct_subjects (map (thread_subject entries) ts)) e)

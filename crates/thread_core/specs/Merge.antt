@@ -79,8 +79,8 @@ abbrev pub non_replies : List Entry → List ℕ → List ℕ
 non_replies entries places = filter (λ place. not (has_reply_subject entries place)) places
 
 -- What step 5.C makes of one group, by its messages and the children of its dummies, in order, and whether it has a dummy.
-abbrev pub merged_group_messages : List Entry → Bool → List ℕ → MergedThreads
-merged_group_messages entries dummy messages =
+abbrev pub threads_of_merged_group : List Entry → Bool → List ℕ → MergedThreads
+threads_of_merged_group entries dummy messages =
     record {
       trees = trees_of_group dummy messages (non_replies entries messages);
       links = links_under_first (non_replies entries messages)
@@ -89,7 +89,7 @@ merged_group_messages entries dummy messages =
 
 -- what becomes of a group
 abbrev pub merged_group : List Entry → List Tree → MergedThreads
-merged_group entries group = merged_group_messages entries (list_any is_dummy_tree group) (flat_map messages_of_tree group)
+merged_group entries group = threads_of_merged_group entries (list_any is_dummy_tree group) (flat_map messages_of_tree group)
 
 -- a subject before others and no more among them, unless it is empty
 abbrev pub with_subject : List ℕ → List (List ℕ) → List (List ℕ)

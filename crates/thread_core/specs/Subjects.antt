@@ -13,11 +13,11 @@ TableHasLeaders entries get (place ∷ places) = (get (base_subject_at entries p
 
 -- A message for each of some subjects that is not empty, in the order of the subjects, and a table of these messages.
 pub record AreSubjectLeaders (entries : List Entry) (subjects : List (List ℕ)) (leaders : List ℕ) (get : List ℕ → Option ℕ) : Type 0 where
-  pub bases : map (base_subject_at entries) leaders ≡ distinct_subjects subjects
-  pub empty : get [] ≡ None
-  pub found : (base : List ℕ) → is_none (get base) ≡ not (list_any (bytes_eq base) (map (base_subject_at entries) leaders))
-  pub same : (base : List ℕ) (place : ℕ) → get base ≡ Some place → base_subject_at entries place ≡ base
-  pub led : TableHasLeaders entries get leaders
+  pub bases_are_distinct : map (base_subject_at entries) leaders ≡ distinct_subjects subjects
+  pub none_for_empty_base : get [] ≡ None
+  pub found_iff_present : (base : List ℕ) → is_none (get base) ≡ not (list_any (bytes_eq base) (map (base_subject_at entries) leaders))
+  pub leader_has_base : (base : List ℕ) (place : ℕ) → get base ≡ Some place → base_subject_at entries place ≡ base
+  pub are_leaders : TableHasLeaders entries get leaders
 
 -- what the table has for the subject of a message
 abbrev pub leader_of_message : List Entry → (List ℕ → Option ℕ) → ℕ → Option ℕ

@@ -4,7 +4,7 @@ ghost use Rattle.std.specs.Prelude.{◌≡◌, ◌==◌, ◌∷◌, ◌++◌, []
 ghost use Rattle.thread_core.specs.declared.tree.Tree.{Tree};
 ghost use Rattle.std.specs.List.{after_first, before_first, list_any};
 ghost use Rattle.thread_core.specs.Merge.{base_subject_at, distinct_subjects, trees_with_subject, is_dummy_tree, has_reply_subject};
-ghost use Rattle.thread_core.specs.Merge.{links_under_first, merged_group_messages, merged_trees, messages_of_tree};
+ghost use Rattle.thread_core.specs.Merge.{links_under_first, threads_of_merged_group, merged_trees, messages_of_tree};
 ghost use Rattle.thread_core.specs.Merge.{non_replies, thread_subject, merged_children_of_group, trees_of_group, with_subject};
 ghost use Rattle.thread_core.specs.Merge.{trees_without_subject};
 ghost use Rattle.thread_core.specs.Parts.{merged_group_of_message};
@@ -56,9 +56,9 @@ impl Merged {
         group: SubjectGroup,
     ) -> Result<(), Memory>
         ensures trees { OnOk result (self.new.trees.items
-            ≡ self.old.trees.items ++ (merged_group_messages entries.now group.dummy group.messages.items).trees) }
+            ≡ self.old.trees.items ++ (threads_of_merged_group entries.now group.dummy group.messages.items).trees) }
         ensures links { OnOk result (self.new.links.items
-            ≡ self.old.links.items ++ (merged_group_messages entries.now group.dummy group.messages.items).links) }
+            ≡ self.old.links.items ++ (threads_of_merged_group entries.now group.dummy group.messages.items).links) }
     {
         let plain = find_plain(alloc, entries, &group.messages)?;
         push_links(&mut self.links, &group, &plain)?;

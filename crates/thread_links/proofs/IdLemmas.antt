@@ -233,7 +233,7 @@ noted_more entries refs r added count next get get' noted was now counts =
     by_cases (number-cases entries refs r)
   where
     found : is_none (get r) ≡ is_none (number_among_references entries refs r)
-    found = ap is_none (noted.each r)
+    found = ap is_none (noted.number_is r)
 
     by_cases : ((number_among_references entries refs r ≡ None) × (place_of_container (owner entries r) ≡ None) × (list_any (same_id r) (dummy_ids_of_references entries refs) ≡ false))
         ⊎ ((is_none (number_among_references entries refs r) ≡ false) × (dummy_ids_of_references entries (refs ++ r ∷ []) ≡ dummy_ids_of_references entries refs))
@@ -244,18 +244,18 @@ noted_more entries refs r added count next get get' noted was now counts =
         let one : length (dummy_ids_of_references entries (refs ++ r ∷ [])) ≡ length (dummy_ids_of_references entries refs) + 1 = ap length more ∙ length-append
         (dummy_ids_of_references entries refs) (r ∷ []) in
         let up : next ≡ count + 1 = counts ∙ ap (λ (t : Bool). cond t (count + 1) count) (was ∙ none) in
-        let at = noted.as_many in
+        let at = noted.count_is_total in
         record {
-          as_many = omega (arith, one, up, at);
-          each = λ o. now o ∙ ap (λ (t : Bool). cond (t && same_id r o) (Some count) (get o)) none
-              ∙ (λ i. cond (same_id r o) (Some (noted.as_many i)) (noted.each o i)) ∙ number-new entries refs r o new.1 new.2;
+          count_is_total = omega (arith, one, up, at);
+          number_is = λ o. now o ∙ ap (λ (t : Bool). cond (t && same_id r o) (Some count) (get o)) none
+              ∙ (λ i. cond (same_id r o) (Some (noted.count_is_total i)) (noted.number_is o i)) ∙ number-new entries refs r o new.1 new.2;
         }
     by_cases (inr old) =
         let some : is_none (get r) ≡ false = found ∙ old.0 in
         let same : next ≡ count = counts ∙ ap (λ (t : Bool). cond t (count + 1) count) (was ∙ some) in
         record {
-          as_many = same ∙ noted.as_many ∙ ap (λ (xs : List MessageId). length entries + length xs) (sym old.1);
-          each = λ o. now o ∙ ap (λ (t : Bool). cond (t && same_id r o) (Some count) (get o)) some ∙ noted.each o
+          count_is_total = same ∙ noted.count_is_total ∙ ap (λ (xs : List MessageId). length entries + length xs) (sym old.1);
+          number_is = λ o. now o ∙ ap (λ (t : Bool). cond (t && same_id r o) (Some count) (get o)) some ∙ noted.number_is o
               ∙ ap (λ (xs : List MessageId). option_map_or (λ p. Some p) (place_of_container (owner entries o)) (cond (list_any (same_id o) xs) (Some (length entries + index_of xs o)) None))
               (sym old.1);
         }
@@ -290,12 +290,12 @@ number_is entries id h = by_owner (owner_is 0 entries id)
 pub number_found : (entries : List Entry) (id : MessageId) (count n : ℕ) (get : MessageId → Option ℕ) → NumbersContainers entries (referenced_ids entries) count get
     → container_number_of_id entries id < container_count entries
     → get id ≡ Some n → n ≡ container_number_of_id entries id
-number_found entries id count n get noted h e = let same : Some n ≡ Some (container_number_of_id entries id) = sym e ∙ noted.each id ∙ number_is entries id h in cc
+number_found entries id count n get noted h e = let same : Some n ≡ Some (container_number_of_id entries id) = sym e ∙ noted.number_is id ∙ number_is entries id h in cc
 
 pub number_missed : (entries : List Entry) (id : MessageId) (count : ℕ) (get : MessageId → Option ℕ) → NumbersContainers entries (referenced_ids entries) count get
     → container_number_of_id entries id < container_count entries
     → get id ≡ None → 0 ≡ container_number_of_id entries id
-number_missed entries id count get noted h e = absurd (let bad : None ≡ Some (container_number_of_id entries id) = sym e ∙ noted.each id ∙ number_is entries id h in cc)
+number_missed entries id count get noted h e = absurd (let bad : None ≡ Some (container_number_of_id entries id) = sym e ∙ noted.number_is id ∙ number_is entries id h in cc)
 
 pub ids_noted : (entries : List Entry) (refs ids : List MessageId) (i : ℕ) (d : MessageId) (count : ℕ) (get : MessageId → Option ℕ) → i < length ids → NumbersContainers entries
     ((refs ++ take i ids) ++ get_or ids i d ∷ []) count get

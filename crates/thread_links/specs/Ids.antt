@@ -24,5 +24,5 @@ number_among_references entries refs id =
 
 -- A count, and a number for each id: those of the containers of so many references.
 pub record NumbersContainers (entries : List Entry) (refs : List MessageId) (count : ℕ) (number : MessageId → Option ℕ) : Type 0 where
-  pub as_many : count ≡ length entries + length (dummy_ids_of_references entries refs)
-  pub each : (id : MessageId) → number id ≡ number_among_references entries refs id
+  pub count_is_total : count ≡ length entries + length (dummy_ids_of_references entries refs)
+  pub number_is : (id : MessageId) → number id ≡ number_among_references entries refs id

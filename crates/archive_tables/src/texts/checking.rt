@@ -2,15 +2,15 @@
 
 ghost use Rattle.std.specs.Prelude.{◌≡◌, map, slice_get, option_map};
 ghost use Rattle.archive_tables.specs.Rows.{rowid_result_row};
-ghost use Rattle.archive_tables.specs.Listed.{all_places, filed_at, indexed_result_row};
+ghost use Rattle.archive_tables.specs.Listed.{all_rowids, filed_at, indexed_result_row};
 ghost use Rattle.archive_tables.specs.Calls.{AnswersFromRows};
 
 use sqlite::{Alter, Connection, Error, Row, params};
 
-/// The numbers of all messages, by the names of their lists and then in mailbox order. `read_place` reads a row.
-pub fn all_places<S: Alter>(conn: &mut Connection<S>) -> Result<Vec<Row>, Error>
+/// The numbers of all messages, by the names of their lists and then in mailbox order. `read_rowid` reads a row.
+pub fn all_rowids<S: Alter>(conn: &mut Connection<S>) -> Result<Vec<Row>, Error>
     ensures { AnswersFromRows S.Store conn.old conn.new result
-        (λ trees rows. rows.items ≡ map rowid_result_row (all_places trees)) ⊥ }
+        (λ trees rows. rows.items ≡ map rowid_result_row (all_rowids trees)) ⊥ }
 {
     conn.query_all("SELECT pos FROM message ORDER BY list, pos", &[])
 }

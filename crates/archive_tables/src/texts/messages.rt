@@ -8,7 +8,7 @@ ghost use Rattle.sqlite.specs.Held.{state};
 ghost use Rattle.sqlite.specs.State.{HasCleanDisk};
 ghost use Rattle.archive_tables.specs.Tables.{IsArchiveAtRest, has_rowid_at_least};
 ghost use Rattle.archive_tables.specs.Rows.{unmarked_message, message_from_result_row, decoded_marks, decoded_dated_marks};
-ghost use Rattle.archive_tables.specs.Rows.{message_rowids_in, month_places, author_places, message_at, rowid_result_row};
+ghost use Rattle.archive_tables.specs.Rows.{message_rowids_in, month_rowids, author_rowids, message_at, rowid_result_row};
 ghost use Rattle.archive_tables.specs.Statements.{insert_message_statement, set_withdrawn_statement, set_embargo_statement, clear_embargo_statement};
 ghost use Rattle.archive_tables.specs.Calls.{AnswersFromDatabase, AnswersOrFailsByFault, AnswersFromRows, WritesByStatement};
 
@@ -82,21 +82,22 @@ pub fn marks<S: Alter>(
     conn: &mut Connection<S>,
     list: &str,
     key: &str,
-) -> Result<Option<MarksRow>, Error>
+) -> Result<Option<DatedMarksRow>, Error>
     ensures { AnswersFromDatabase S.Store conn.old conn.new result
-        (λ a found. found ≡ option_map decoded_marks (find (is_message_at_key list.now key.now) a.messages)) ⊥ }
+        (λ a found. found ≡ option_map decoded_dated_marks
+        (find (is_message_at_key list.now key.now) a.messages)) ⊥ }
 {
     let rows = conn.query_all(
         "SELECT withdrawn, embargo FROM message WHERE list = ?1 AND key = ?2 ORDER BY pos",
         params![list, key],
     )?;
     match rows.first() {
-        Some(row) => Ok(Some(read_marks(row)?)),
+        Some(row) => Ok(Some(read_dated_marks(row)?)),
         None => Ok(None),
     }
 }
 
-/// The numbers of the list's messages, in mailbox order. `read_place` reads a row.
+/// The numbers of the list's messages, in mailbox order. `read_rowid` reads a row.
 pub fn places<S: Alter>(conn: &mut Connection<S>, list: &str) -> Result<Vec<Row>, Error>
     ensures { AnswersFromRows S.Store conn.old conn.new result
         (λ trees rows. rows.items ≡ map rowid_result_row (message_rowids_in trees list.now)) ⊥ }
@@ -108,14 +109,14 @@ pub fn places<S: Alter>(conn: &mut Connection<S>, list: &str) -> Result<Vec<Row>
 }
 
 /// The numbers of the messages of the list that are filed under the month, by the sent date that is filed and then in mailbox
-/// order. `read_place` reads a row.
-pub fn month_places<S: Alter>(
+/// order. `read_rowid` reads a row.
+pub fn month_rowids<S: Alter>(
     conn: &mut Connection<S>,
     list: &str,
     month: i64,
 ) -> Result<Vec<Row>, Error>
     ensures { AnswersFromRows S.Store conn.old conn.new result
-        (λ trees rows. rows.items ≡ map rowid_result_row (month_places trees list.now month)) ⊥ }
+        (λ trees rows. rows.items ≡ map rowid_result_row (month_rowids trees list.now month)) ⊥ }
 {
     conn.query_all(
         "SELECT pos FROM message WHERE list = ?1 AND month = ?2 ORDER BY sent, pos",
@@ -124,13 +125,13 @@ pub fn month_places<S: Alter>(
 }
 
 /// The same of those that are filed under the author key.
-pub fn author_places<S: Alter>(
+pub fn author_rowids<S: Alter>(
     conn: &mut Connection<S>,
     list: &str,
     key: &[u8],
 ) -> Result<Vec<Row>, Error>
     ensures { AnswersFromRows S.Store conn.old conn.new result
-        (λ trees rows. rows.items ≡ map rowid_result_row (author_places trees list.now key.now)) ⊥ }
+        (λ trees rows. rows.items ≡ map rowid_result_row (author_rowids trees list.now key.now)) ⊥ }
 {
     conn.query_all(
         "SELECT pos FROM message WHERE list = ?1 AND author = ?2 ORDER BY sent, pos",

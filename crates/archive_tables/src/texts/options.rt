@@ -12,7 +12,7 @@ ghost use Rattle.archive_tables.specs.Making.{IsMigratingTables, MigratesSchema,
 ghost use Rattle.archive_tables.specs.Statements.{insert_option_statement, update_option_statement, backfill_options_statement};
 ghost use Rattle.archive_tables.specs.Calls.{AnswersFromDatabase, WritesByStatement};
 
-use crate::rows::read_merge;
+use crate::rows::read_merges_by_subject;
 use sqlite::{Alter, Connection, Error, params};
 
 /// Says after the others whether the threads of a list are gathered by subject.
@@ -59,7 +59,7 @@ pub fn find_option<S: Alter>(conn: &mut Connection<S>, list: &str) -> Result<Opt
         params![list],
     )?;
     match rows.first() {
-        Some(row) => Ok(Some(read_merge(row)?)),
+        Some(row) => Ok(Some(read_merges_by_subject(row)?)),
         None => Ok(None),
     }
 }

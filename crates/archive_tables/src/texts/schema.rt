@@ -7,7 +7,7 @@ ghost use Rattle.sqlite.specs.Held.{state};
 ghost use Rattle.archive_tables.specs.Statements.{create_version_statement, create_list_statement, create_person_statement};
 ghost use Rattle.archive_tables.specs.Statements.{create_grant_statement, create_message_statement, create_month_index_statement};
 ghost use Rattle.archive_tables.specs.Statements.{create_author_index_statement, create_option_statement, create_address_statement, insert_version_statement, update_version_statement};
-ghost use Rattle.archive_tables.specs.Schema.{empty_schema, schema_with_version, schema_with_lists, schema_with_persons, schema_with_grants};
+ghost use Rattle.archive_tables.specs.Schema.{empty_schema, schema_with_version_table, schema_with_lists, schema_with_persons, schema_with_grants};
 ghost use Rattle.archive_tables.specs.Schema.{schema_with_messages, schema_with_month_index, schema_1, schema_2, archive_schema, schema_of_version};
 ghost use Rattle.archive_tables.specs.Tables.{IsOpenArchive, IsOpenArchiveInFormat, IsArchiveAtRest, IsKnownVersion};
 ghost use Rattle.archive_tables.specs.Tables.{HasSchemaOfFormat, format_of_version, newest_version, archive_of_version, archive_of};
@@ -47,8 +47,8 @@ pub fn begin<S: Alter>(conn: &mut Connection<S>) -> Result<usize, Error>
 }
 
 /// Makes the table `version`.
-pub fn create_version<S: Alter>(conn: &mut Connection<S>) -> Result<usize, Error>
-    ensures made { CreatesTables S.Store conn.old conn.new result empty_schema schema_with_version }
+pub fn create_version_table<S: Alter>(conn: &mut Connection<S>) -> Result<usize, Error>
+    ensures made { CreatesTables S.Store conn.old conn.new result empty_schema schema_with_version_table }
     ensures quiet { CrashAddsNothingInTransaction S.Store conn.old conn.new empty_schema }
     ensures ends { EndsStep S.Store conn.old conn.new result empty_schema create_version_statement }
 {
@@ -56,10 +56,10 @@ pub fn create_version<S: Alter>(conn: &mut Connection<S>) -> Result<usize, Error
 }
 
 /// Makes the table `list`.
-pub fn create_list<S: Alter>(conn: &mut Connection<S>) -> Result<usize, Error>
-    ensures made { CreatesTables S.Store conn.old conn.new result schema_with_version schema_with_lists }
-    ensures quiet { CrashAddsNothingInTransaction S.Store conn.old conn.new schema_with_version }
-    ensures ends { EndsStep S.Store conn.old conn.new result schema_with_version create_list_statement }
+pub fn create_list_table<S: Alter>(conn: &mut Connection<S>) -> Result<usize, Error>
+    ensures made { CreatesTables S.Store conn.old conn.new result schema_with_version_table schema_with_lists }
+    ensures quiet { CrashAddsNothingInTransaction S.Store conn.old conn.new schema_with_version_table }
+    ensures ends { EndsStep S.Store conn.old conn.new result schema_with_version_table create_list_statement }
 {
     conn.execute(
         "CREATE TABLE list (name TEXT NOT NULL PRIMARY KEY) STRICT",
@@ -68,7 +68,7 @@ pub fn create_list<S: Alter>(conn: &mut Connection<S>) -> Result<usize, Error>
 }
 
 /// Makes the table `person`.
-pub fn create_person<S: Alter>(conn: &mut Connection<S>) -> Result<usize, Error>
+pub fn create_person_table<S: Alter>(conn: &mut Connection<S>) -> Result<usize, Error>
     ensures made { CreatesTables S.Store conn.old conn.new result schema_with_lists schema_with_persons }
     ensures quiet { CrashAddsNothingInTransaction S.Store conn.old conn.new schema_with_lists }
     ensures ends { EndsStep S.Store conn.old conn.new result schema_with_lists create_person_statement }
@@ -80,7 +80,7 @@ pub fn create_person<S: Alter>(conn: &mut Connection<S>) -> Result<usize, Error>
 }
 
 /// Makes the table `grant_row`.
-pub fn create_grant<S: Alter>(conn: &mut Connection<S>) -> Result<usize, Error>
+pub fn create_grant_table<S: Alter>(conn: &mut Connection<S>) -> Result<usize, Error>
     ensures made { CreatesTables S.Store conn.old conn.new result schema_with_persons schema_with_grants }
     ensures quiet { CrashAddsNothingInTransaction S.Store conn.old conn.new schema_with_persons }
     ensures ends { EndsStep S.Store conn.old conn.new result schema_with_persons create_grant_statement }
@@ -92,7 +92,7 @@ pub fn create_grant<S: Alter>(conn: &mut Connection<S>) -> Result<usize, Error>
 }
 
 /// Makes the table `message`, and with it the one in which AUTOINCREMENT counts.
-pub fn create_message<S: Alter>(conn: &mut Connection<S>) -> Result<usize, Error>
+pub fn create_message_table<S: Alter>(conn: &mut Connection<S>) -> Result<usize, Error>
     ensures made { CreatesTables S.Store conn.old conn.new result schema_with_grants schema_with_messages }
     ensures quiet { CrashAddsNothingInTransaction S.Store conn.old conn.new schema_with_grants }
     ensures ends { EndsStep S.Store conn.old conn.new result schema_with_grants create_message_statement }
@@ -128,7 +128,7 @@ pub fn create_author_index<S: Alter>(conn: &mut Connection<S>) -> Result<usize, 
 }
 
 /// Makes the table `list_option`: the first of version 2.
-pub fn create_option<S: Alter>(conn: &mut Connection<S>) -> Result<usize, Error>
+pub fn create_option_table<S: Alter>(conn: &mut Connection<S>) -> Result<usize, Error>
     ensures made { CreatesTables S.Store conn.old conn.new result schema_1 schema_2 }
     ensures moved { HasCleanDisk (state S.Store conn.new)
         → (before : _) (said : _) (archive : Archive)
@@ -146,7 +146,7 @@ pub fn create_option<S: Alter>(conn: &mut Connection<S>) -> Result<usize, Error>
 }
 
 /// Makes the table `address`: the first of version 3.
-pub fn create_address<S: Alter>(conn: &mut Connection<S>) -> Result<usize, Error>
+pub fn create_address_table<S: Alter>(conn: &mut Connection<S>) -> Result<usize, Error>
     ensures made { CreatesTables S.Store conn.old conn.new result schema_2 archive_schema }
     ensures moved { HasCleanDisk (state S.Store conn.new)
         → (before : _) (said : _) (archive : Archive)

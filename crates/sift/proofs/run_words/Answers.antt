@@ -13,7 +13,7 @@ returns g c =
     inl (
       ran.output,
       subst R (ap (map (λ w. w.now)) c.as_slice.ensures.value ∙ c.in-Ok.ensures)
-          (record { done = it.done; refused = it.refused; bad = it.bad; stopped = it.stopped }),
+          (record { when_0 = it.done; when_1 = it.refused; when_2 = it.bad; stopped = it.stopped }),
       flushed (output_stream_state g.O.Sink g.O.BufferedSink ran.output) (output_stream_state g.O.Sink g.O.BufferedSink c.flush.new.self) c.flush.result c.flush.ensures.told c.flush.ensures.sent
           c.flush.ensures.quiet c.flush.ensures.cause,
     )

@@ -23,10 +23,10 @@ pub returns-in-Err-open_files-clause-cause : goal.returns-in-Err-open_files-clau
 returns-in-Err-open_files-clause-cause g c =
     let (log, db) = c.in-Ok-open_pair.ensures.fresh in
     inr (inr (inr (record {
-      named = c.in-Ok-open_pair.ensures.opened;
+      opens_name = c.in-Ok-open_pair.ensures.opened;
       files = c.in-Ok-open_pair.files;
-      held = ap₂ image (ap₂ (seen g.S.Start.log g.S.Start.db) log.0 log.1) (ap₂ (seen g.S.Start.log g.S.Start.db) db.0 db.1);
-      left = c.in-Err-open_files._left;
+      image_is = ap₂ image (ap₂ (seen g.S.Start.log g.S.Start.db) log.0 log.1) (ap₂ (seen g.S.Start.log g.S.Start.db) db.0 db.1);
+      leftover = c.in-Err-open_files._left;
       error = c.in-Err-open_files.error;
       cause = c.in-Err-open_files.ensures.cause;
       told = c.database_fault.ensures.value;

@@ -7,9 +7,9 @@ returns-in-Err-clause-cause g c = inl c.in-Err.ensures.cause
 pub returns-in-Ok-adopt-clause-opened : goal.returns-in-Ok-adopt-clause-opened
 returns-in-Ok-adopt-clause-opened g c = record {
   connection = c.in-Ok.connection;
-  found = c.in-Ok.ensures.found;
-  opened = c.in-Ok.ensures.opened;
-  adopted = c.in-Ok-adopt.ensures.adopted;
+  finds_image = c.in-Ok.ensures.found;
+  is_opened = c.in-Ok.ensures.opened;
+  is_adopted = c.in-Ok-adopt.ensures.adopted;
 }
 
 pub returns-in-Err-adopt-clause-cause : goal.returns-in-Err-adopt-clause-cause

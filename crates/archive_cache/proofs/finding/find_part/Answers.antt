@@ -36,7 +36,7 @@ returns-in-Ok-put_part-clause-finds g c =
     let put = c.in-Ok-put_part.ensures.kept stands.0 stands.1 in
     finds_put g.S.Store ask reader part c.args.store.now c.find_whole.new.store kept mid c.put_part.new.self outline
     (made_of_whole g.S.Store ask reader part c.args.store.now c.find_whole.new.store kept mid c.in-Ok.place c.in-Ok.ensures.finds other stands.0 stands.1)
-    c.in-Ok.ensures.finds.held (ap (λ (k : CacheState). k.most) c.in-Ok-put_part.ensures.rest ∙ c.in-Ok.ensures.finds.most)
+    c.in-Ok.ensures.finds.finds_index (ap (λ (k : CacheState). k.most) c.in-Ok-put_part.ensures.rest ∙ c.in-Ok.ensures.finds.capacity_is_same)
     (ap (λ (k : CacheState). k.withheld) c.in-Ok-put_part.ensures.rest) c.in-Ok-put_part.ensures.bounded put.0 put.1 c.in-Ok-put_part.place put.2.0
     (subst (λ l. c.put_part.new.self.views ≡ insert put.0 c.in-Ok-put_part.place (record { list = l; reader = reader; part = part; outline = outline })) list put.2.1)
 
@@ -53,7 +53,7 @@ returns-in-Err-put_part-clause-finds g c =
     let put = c.in-Err-put_part.ensures.kept stands.0 stands.1 in
     finds_no_room g.S.Store ask reader part c.args.store.now c.find_whole.new.store kept mid c.put_part.new.self outline
     (made_of_whole g.S.Store ask reader part c.args.store.now c.find_whole.new.store kept mid c.in-Ok.place c.in-Ok.ensures.finds other stands.0 stands.1)
-    c.in-Ok.ensures.finds.held (ap (λ (k : CacheState). k.most) c.in-Err-put_part.ensures.rest ∙ c.in-Ok.ensures.finds.most)
+    c.in-Ok.ensures.finds.finds_index (ap (λ (k : CacheState). k.most) c.in-Err-put_part.ensures.rest ∙ c.in-Ok.ensures.finds.capacity_is_same)
     (ap (λ (k : CacheState). k.withheld) c.in-Err-put_part.ensures.rest) c.in-Err-put_part.ensures.bounded put.0 put.1 Memory refl put.2
 
 pub returns-in-Ok-put_part-clause-there : goal.returns-in-Ok-put_part-clause-there

@@ -21,7 +21,7 @@ returns-in-Ok-clause-keeps g c =
 pub returns-in-Ok-clause-ends : goal.returns-in-Ok-clause-ends
 returns-in-Ok-clause-ends g c =
     ends_then g.S.Store c.args.ask.now c.in-Ok.reader (model_part c.args.part.now) c.args.store.now c.resolve_reader.new.store c.find_part.new.store c.in-Ok.ensures.found
-    c.args.kept.now c.find_part.new.kept c.find_part.result c.find_part.ensures.finds c.in-Ok.ensures.ends.counted.0 c.in-Ok.ensures.ends.was_open c.find_part.ensures.ends
+    c.args.kept.now c.find_part.new.kept c.find_part.result c.find_part.ensures.finds c.in-Ok.ensures.ends.refusals_counted.0 c.in-Ok.ensures.ends.was_open c.find_part.ensures.ends
 
 pub returns-in-Err-clause-ends : goal.returns-in-Err-clause-ends
 returns-in-Err-clause-ends g c =

@@ -8,7 +8,7 @@ use Rattle.archive_cache.proofs.keyed.key_order.Goals as goal
 
 pub returns : goal.returns
 returns c = record {
-  whole = λ place below. Contains-permutation _ _ place c.sort_unstable_by.ensures.permutation (c.in_ok-order.ensures place below);
-  rising = c.sort_unstable_by.ensures.sorted (λ one other. is_lt (place_cmp c.args.lines.now one other)) (places_rank c.args.lines.now)
+  contains_each_line = λ place below. Contains-permutation _ _ place c.sort_unstable_by.ensures.permutation (c.in_ok-order.ensures place below);
+  is_sorted = c.sort_unstable_by.ensures.sorted (λ one other. is_lt (place_cmp c.args.lines.now one other)) (places_rank c.args.lines.now)
       (always_returns_same _ _ _ (λ a r f k. search rules));
 }

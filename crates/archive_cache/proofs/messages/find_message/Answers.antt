@@ -18,11 +18,11 @@ returns-in-Some-clause-asked g c =
 
 pub returns-clause-asked : goal.returns-clause-asked
 returns-clause-asked g c =
-    read_then g.S.Store c.args.ask.now c.in-Ok.reader c.args.key.now c.args.store.now c.resolve_reader.new.store c.read_message.new.store c.in-Ok.ensures.found
-    c.args.kept.now c.read_message.new.kept spec_asked c.read_message.result c.read_message.ensures.asked
+    read_then g.S.Store c.args.ask.now c.in-Ok.reader c.args.key.now c.args.store.now c.resolve_reader.new.store c.judge_message.new.store c.in-Ok.ensures.found
+    c.args.kept.now c.judge_message.new.kept spec_asked c.judge_message.result c.judge_message.ensures.asked
 
 pub returns-clause-ends : goal.returns-clause-ends
 returns-clause-ends g c =
-    read_ends g.S.Store c.args.ask.now c.in-Ok.reader c.args.key.now c.args.store.now c.resolve_reader.new.store c.read_message.new.store c.in-Ok.ensures.found
-    c.args.kept.now c.read_message.new.kept spec_asked c.read_message.result c.read_message.ensures.asked c.in-Ok.ensures.ends.counted.0 c.in-Ok.ensures.ends.was_open
-    c.read_message.ensures.ends
+    read_ends g.S.Store c.args.ask.now c.in-Ok.reader c.args.key.now c.args.store.now c.resolve_reader.new.store c.judge_message.new.store c.in-Ok.ensures.found
+    c.args.kept.now c.judge_message.new.kept spec_asked c.judge_message.result c.judge_message.ensures.asked c.in-Ok.ensures.ends.refusals_counted.0 c.in-Ok.ensures.ends.was_open
+    c.judge_message.ensures.ends

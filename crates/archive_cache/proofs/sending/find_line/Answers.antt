@@ -15,8 +15,8 @@ returns-in_default g c =
     let fault = c.in-Err.fault in
     let ends = c.in-Err.ensures.ends in record {
       found = λ returned held. subst (λ f. RemembersAfterFault g.S.Store new (archive_in g.S.Store old) f) (sym c.from.ensures)
-          (looked_failed g.S.Store old new list key ends.lasts fault c.in-Err.ensures.answer returned held);
-      fault = subst IsMemoryOrDatabaseFault (sym c.from.ensures) (unlisted fault c.in_default.not-NoList ends.kind);
+          (looked_failed g.S.Store old new list key ends.remains_open fault c.in-Err.ensures.answer returned held);
+      fault = subst IsMemoryOrDatabaseFault (sym c.from.ensures) (unlisted fault c.in_default.not-NoList ends.refusal_is_possible);
       ends = subst (λ f. EndsMboxOfLines g.S.Store old new list {A = Option Message} (λ x. x) (Err f)) (sym c.from.ensures)
-          (look_ends g.S.Store old new list key ends.lasts fault ends.counted ends.caused);
+          (look_ends g.S.Store old new list key ends.remains_open fault ends.refusals_counted ends.fault_has_cause);
     }

@@ -9,7 +9,7 @@ returns-in-Ok-clause-carried g c =
     let stands = c.in-Some.ensures c.read_key-key.ensures in
     let old = c.args.store.now in
     let new = c.carry.new.self in
-    carries_found g.S.Store old new (store_command_of c.args.words.now) stands.0 c.in-Ok.ensures.ends.lasts c.in-Ok.found c.answer_to.result c.answer_to.ensures
+    carries_found g.S.Store old new (store_command_of c.args.words.now) stands.0 c.in-Ok.ensures.ends_write.remains_open c.in-Ok.found c.answer_to.result c.answer_to.ensures
     (subst (λ told. StoreCarries g.S.Store old new told (Ok c.in-Ok.found)) stands.1 c.in-Ok.ensures)
 
 pub returns-in-Err-clause-carried : goal.returns-in-Err-clause-carried
@@ -17,5 +17,5 @@ returns-in-Err-clause-carried g c =
     let stands = c.in-Some.ensures c.read_key-key.ensures in
     let old = c.args.store.now in
     let new = c.carry.new.self in
-    carries_fault g.S.Store old new (store_command_of c.args.words.now) stands.0 c.in-Err.ensures.ends.lasts c.in-Err.fault
+    carries_fault g.S.Store old new (store_command_of c.args.words.now) stands.0 c.in-Err.ensures.ends_write.remains_open c.in-Err.fault
     (subst (λ told. StoreCarries g.S.Store old new told (Err c.in-Err.fault)) stands.1 c.in-Err.ensures)

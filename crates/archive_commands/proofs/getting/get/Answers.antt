@@ -50,15 +50,15 @@ returns-in_default-clause-got g c =
     gets_no_key g.S.Store store store c.args.ask.now c.args.key.now store is
 
 pub returns-in-Ok-Served-clause-ends : goal.returns-in-Ok-Served-clause-ends
-returns-in-Ok-Served-clause-ends g c = record { caused = tt; counted = (c.in-Ok-Served.ensures.ends.counted.0, tt) }
+returns-in-Ok-Served-clause-ends g c = record { fault_has_cause = tt; refusals_counted = (c.in-Ok-Served.ensures.ends.refusals_counted.0, tt) }
 
 pub returns-in-Ok-Denied-clause-ends : goal.returns-in-Ok-Denied-clause-ends
 returns-in-Ok-Denied-clause-ends g c =
-    record { caused = λ bad. absurd bad; counted = (c.in-Ok-Denied.ensures.ends.counted.0, (λ bad. absurd bad)) }
+    record { fault_has_cause = λ bad. absurd bad; refusals_counted = (c.in-Ok-Denied.ensures.ends.refusals_counted.0, (λ bad. absurd bad)) }
 
 pub returns-in-Ok-Absent-clause-ends : goal.returns-in-Ok-Absent-clause-ends
 returns-in-Ok-Absent-clause-ends g c =
-    record { caused = λ bad. absurd bad; counted = (c.in-Ok-Absent.ensures.ends.counted.0, (λ bad. absurd bad)) }
+    record { fault_has_cause = λ bad. absurd bad; refusals_counted = (c.in-Ok-Absent.ensures.ends.refusals_counted.0, (λ bad. absurd bad)) }
 
 pub returns-in-Err-clause-ends : goal.returns-in-Err-clause-ends
 returns-in-Err-clause-ends g c =
@@ -66,6 +66,6 @@ returns-in-Err-clause-ends g c =
     let new = c.message.new.store in
     let ask = c.args.ask.now in
     record {
-      caused = λ broken. subst (λ k. HasGetErrorCause g.S.Store old new ask k) c.in-Some.ensures.some (c.in-Err.ensures.ends.caused broken);
-      counted = c.in-Err.ensures.ends.counted;
+      fault_has_cause = λ broken. subst (λ k. HasGetErrorCause g.S.Store old new ask k) c.in-Some.ensures.some (c.in-Err.ensures.ends.fault_has_cause broken);
+      refusals_counted = c.in-Err.ensures.ends.refusals_counted;
     }

@@ -16,7 +16,7 @@ some_item : (o : Option Item) (e : Envelope) (it : Item) → e ≡ it.envelope �
 some_item None e it is same none sender arrival = tt
 some_item (Some item) e it is same none sender arrival = (
   ap₂ (λ (v : Envelope) (t : List ℕ). record { envelope = v; text = t }) (same.0 ∙ is) same.1,
-  record { envelope = record { sender = sender; arrival = arrival }; none = subst (λ t. NoneSeparates (lines (whole t))) same.1 none },
+  record { is_envelope = record { is_sender_text = sender; arrival_is_instant = arrival }; no_line_separates = subst (λ t. NoneSeparates (lines (whole t))) same.1 none },
 )
 
 instant_is : (s a : ℤ) → Some a ≡ checked_instant s → (a ≡ s) × (is_instant s ≡ true)

@@ -16,29 +16,29 @@ use Rattle.archive_database.proofs.lists.write_list.Goals as goal
 
 pub returns-clause-written : goal.returns-clause-written
 returns-clause-written g c = λ clean db held.
-    let clean_2 = c.in_ok-commit.ensures.ends.lasts.returned clean in
-    let clean_1 = c.in_ok-add_option.ensures.ends.lasts.returned clean_2 in
-    let listed = c.in_ok-add_list.ensures.over clean_1 (Some db) held tt in
-    let said = c.in_ok-add_option.ensures.over clean_2 (Some db) listed.0 tt in
+    let clean_2 = c.in_ok-commit.ensures.ends.remains_open.disk_was_clean clean in
+    let clean_1 = c.in_ok-add_option.ensures.ends_call.remains_open.disk_was_clean clean_2 in
+    let listed = c.in_ok-add_list.ensures.answer_holds clean_1 (Some db) held tt in
+    let said = c.in_ok-add_option.ensures.answer_holds clean_2 (Some db) listed.0 tt in
     let kept = c.in_ok-commit.ensures.held clean db said.0 in
     (kept.0, archive_stays kept.1 ∙ said.1 ∙ ap (λ (a : Archive). record a { options = a.options ++ default_list_option c.args.name.now ∷ [] }) listed.1)
 
 pub returns-in_err-add_list-clause-written : goal.returns-in_err-add_list-clause-written
 returns-in_err-add_list-clause-written g c = λ clean db held.
     on_fault _ _ c.from_residual.result c.from_residual.ensures.1
-    (held_or_back db (state g.S.Store c.args.conn.now) (state g.S.Store c.add_list.new.conn) (c.in_err-add_list.ensures.over clean (Some db) held))
+    (held_or_back db (state g.S.Store c.args.conn.now) (state g.S.Store c.add_list.new.conn) (c.in_err-add_list.ensures.answer_holds clean (Some db) held))
 
 pub returns-in_err-add_option-clause-written : goal.returns-in_err-add_option-clause-written
 returns-in_err-add_option-clause-written g c = λ clean db held.
-    let listed = c.in_ok-add_list.ensures.over (c.in_err-add_option.ensures.ends.lasts.returned clean) (Some db) held tt in
+    let listed = c.in_ok-add_list.ensures.answer_holds (c.in_err-add_option.ensures.ends_call.remains_open.disk_was_clean clean) (Some db) held tt in
     on_fault _ _ c.from_residual-in_err-add_option.result c.from_residual-in_err-add_option.ensures.1
-    (held_or_back db (state g.S.Store c.add_list.new.conn) (state g.S.Store c.add_option.new.conn) (c.in_err-add_option.ensures.over clean (Some db) listed.0))
+    (held_or_back db (state g.S.Store c.add_list.new.conn) (state g.S.Store c.add_option.new.conn) (c.in_err-add_option.ensures.answer_holds clean (Some db) listed.0))
 
 pub returns-in_err-commit-clause-written : goal.returns-in_err-commit-clause-written
 returns-in_err-commit-clause-written g c = λ clean db held.
-    let clean_2 = c.in_err-commit.ensures.ends.lasts.returned clean in
-    let listed = c.in_ok-add_list.ensures.over (c.in_ok-add_option.ensures.ends.lasts.returned clean_2) (Some db) held tt in
-    let said = c.in_ok-add_option.ensures.over clean_2 (Some db) listed.0 tt in
+    let clean_2 = c.in_err-commit.ensures.ends.remains_open.disk_was_clean clean in
+    let listed = c.in_ok-add_list.ensures.answer_holds (c.in_ok-add_option.ensures.ends_call.remains_open.disk_was_clean clean_2) (Some db) held tt in
+    let said = c.in_ok-add_option.ensures.answer_holds clean_2 (Some db) listed.0 tt in
     on_fault _ _ c.from_residual-in_err-commit.result c.from_residual-in_err-commit.ensures.1
     (held_or_back db (state g.S.Store c.add_option.new.conn) (state g.S.Store c.commit.new.conn) (c.in_err-commit.ensures.held clean db said.0))
 
@@ -50,7 +50,7 @@ returns-in_err-add_list-clause-caused g c = λ clean db held free.
     let new = state g.S.Store c.add_list.new.conn in
     let error = c.in_err-add_list.field-0.0 in
     carried c.from_residual.result error (λ e. IsMemoryOrDiskError old new e ⊎ IsListRefused c.args.name.now old.now) c.from_residual.ensures.1
-    (elim (c.in_err-add_list.ensures.caused clean (Some db) held free) [ inl why ↦ inl why | inr refused ↦ inr (inl refused) ])
+    (elim (c.in_err-add_list.ensures.fault_has_cause clean (Some db) held free) [ inl why ↦ inl why | inr refused ↦ inr (inl refused) ])
 
 pub returns-in_err-add_option-clause-caused : goal.returns-in_err-add_option-clause-caused
 returns-in_err-add_option-clause-caused g c = λ clean db held free.
@@ -58,11 +58,11 @@ returns-in_err-add_option-clause-caused g c = λ clean db held free.
     let mid = state g.S.Store c.add_list.new.conn in
     let new = state g.S.Store c.add_option.new.conn in
     let error = c.in_err-add_option.field-0.0 in
-    let clean_1 = c.in_err-add_option.ensures.ends.lasts.returned clean in
-    let first = c.in_ok-add_list.ensures.ends.lasts in
-    let listed = c.in_ok-add_list.ensures.over clean_1 (Some db) held tt in
-    let made = c.in_ok-add_list.ensures.made clean_1 (Some db) held free in
-    let why = c.in_err-add_option.ensures.caused clean (Some db) listed.0 (first.limit ∙ free) in
+    let clean_1 = c.in_err-add_option.ensures.ends_call.remains_open.disk_was_clean clean in
+    let first = c.in_ok-add_list.ensures.ends_call.remains_open in
+    let listed = c.in_ok-add_list.ensures.answer_holds clean_1 (Some db) held tt in
+    let made = c.in_ok-add_list.ensures.executes_statement clean_1 (Some db) held free in
+    let why = c.in_err-add_option.ensures.fault_has_cause clean (Some db) listed.0 (first.step_limit_is_same ∙ free) in
     carried c.from_residual-in_err-add_option.result error (λ e. IsMemoryOrDiskError old new e ⊎ IsListRefused c.args.name.now old.now) c.from_residual-in_err-add_option.ensures.1
     (elim why [ inl cause ↦ inl (caused_since old mid new error first cause) | inr refused ↦ inr (inr (mid.now, made, refused)) ])
 
@@ -72,12 +72,12 @@ returns-in_err-commit-clause-caused g c = λ clean db held free.
     let mid = state g.S.Store c.add_option.new.conn in
     let new = state g.S.Store c.commit.new.conn in
     let error = c.in_err-commit.field-0.0 in
-    let clean_2 = c.in_err-commit.ensures.ends.lasts.returned clean in
-    let listed = c.in_ok-add_list.ensures.over (c.in_ok-add_option.ensures.ends.lasts.returned clean_2) (Some db) held tt in
-    let said = c.in_ok-add_option.ensures.over clean_2 (Some db) listed.0 tt in
-    let first = lasts_then _ _ _ c.add_list.ensures.ends.lasts c.add_option.ensures.ends.lasts in
+    let clean_2 = c.in_err-commit.ensures.ends.remains_open.disk_was_clean clean in
+    let listed = c.in_ok-add_list.ensures.answer_holds (c.in_ok-add_option.ensures.ends_call.remains_open.disk_was_clean clean_2) (Some db) held tt in
+    let said = c.in_ok-add_option.ensures.answer_holds clean_2 (Some db) listed.0 tt in
+    let first = lasts_then _ _ _ c.add_list.ensures.ends_call.remains_open c.add_option.ensures.ends_call.remains_open in
     carried c.from_residual-in_err-commit.result error (λ e. IsMemoryOrDiskError old new e ⊎ IsListRefused c.args.name.now old.now) c.from_residual-in_err-commit.ensures.1
-    (inl (caused_since old mid new error first (c.in_err-commit.ensures.ends.caused clean said.0.is_open said.0.autocommit)))
+    (inl (caused_since old mid new error first (c.in_err-commit.ensures.ends.fault_has_cause clean said.0.is_open said.0.autocommit)))
 
 -- ---- what a stop of the machine leaves
 
@@ -87,16 +87,16 @@ returns-in_err-add_list-clause-crash g c = λ db held clean x may.
 
 pub returns-in_err-add_option-clause-crash : goal.returns-in_err-add_option-clause-crash
 returns-in_err-add_option-clause-crash g c = λ db held clean x may.
-    let clean_1 = c.in_err-add_option.ensures.ends.lasts.returned clean in
-    let listed = c.in_ok-add_list.ensures.over clean_1 (Some db) held tt in
+    let clean_1 = c.in_err-add_option.ensures.ends_call.remains_open.disk_was_clean clean in
+    let listed = c.in_ok-add_list.ensures.answer_holds clean_1 (Some db) held tt in
     inl (never_new db _ (c.add_list.ensures.crash (Some db) held tt clean_1 x (never_new db _ (c.add_option.ensures.crash (Some db) listed.0 tt clean x may))))
 
 pub returns-in_err-commit-clause-crash : goal.returns-in_err-commit-clause-crash
 returns-in_err-commit-clause-crash g c = λ db held clean x may.
-    let clean_2 = c.commit.ensures.ends.lasts.returned clean in
-    let clean_1 = c.add_option.ensures.ends.lasts.returned clean_2 in
-    let listed = c.in_ok-add_list.ensures.over clean_1 (Some db) held tt in
-    let said = c.in_ok-add_option.ensures.over clean_2 (Some db) listed.0 tt in
+    let clean_2 = c.commit.ensures.ends.remains_open.disk_was_clean clean in
+    let clean_1 = c.add_option.ensures.ends_call.remains_open.disk_was_clean clean_2 in
+    let listed = c.in_ok-add_list.ensures.answer_holds clean_1 (Some db) held tt in
+    let said = c.in_ok-add_option.ensures.answer_holds clean_2 (Some db) listed.0 tt in
     let is = said.1 ∙ ap (λ (a : Archive). record a { options = a.options ++ default_list_option c.args.name.now ∷ [] }) listed.1 in
     elim (adds_as g.S.Store c.add_option.new.conn c.commit.new.conn _ (archive_with_list (archive_of (state g.S.Store c.args.conn.now)) c.args.name.now) is
     (commit_over g.S.Store c.add_option.new.conn c.commit.new.conn db said.0 c.commit.ensures.ends.crash) clean x may) [
@@ -106,10 +106,10 @@ returns-in_err-commit-clause-crash g c = λ db held clean x may.
 
 pub returns-clause-crash : goal.returns-clause-crash
 returns-clause-crash g c = λ db held clean x may.
-    let clean_2 = c.commit.ensures.ends.lasts.returned clean in
-    let clean_1 = c.add_option.ensures.ends.lasts.returned clean_2 in
-    let listed = c.in_ok-add_list.ensures.over clean_1 (Some db) held tt in
-    let said = c.in_ok-add_option.ensures.over clean_2 (Some db) listed.0 tt in
+    let clean_2 = c.commit.ensures.ends.remains_open.disk_was_clean clean in
+    let clean_1 = c.add_option.ensures.ends_call.remains_open.disk_was_clean clean_2 in
+    let listed = c.in_ok-add_list.ensures.answer_holds clean_1 (Some db) held tt in
+    let said = c.in_ok-add_option.ensures.answer_holds clean_2 (Some db) listed.0 tt in
     let is = said.1 ∙ ap (λ (a : Archive). record a { options = a.options ++ default_list_option c.args.name.now ∷ [] }) listed.1 in
     elim (adds_as g.S.Store c.add_option.new.conn c.commit.new.conn _ (archive_with_list (archive_of (state g.S.Store c.args.conn.now)) c.args.name.now) is
     (commit_over g.S.Store c.add_option.new.conn c.commit.new.conn db said.0 c.commit.ensures.ends.crash) clean x may) [

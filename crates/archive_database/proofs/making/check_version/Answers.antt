@@ -31,18 +31,18 @@ returns-in_err-rows-clause-ends g c =
     let old = state g.S.Store c.args.conn.now in
     let new = state g.S.Store c.versions.new.conn in
     record {
-      lasts = c.versions.ensures.asks.ends.lasts;
+      remains_open = c.versions.ensures.asks.ends_call.remains_open;
       was_open = λ clean. search rules;
-      caused = λ clean it free. blames old old new new c.from_residual.result c.in_err-rows.field-0.0 _ (¬ HasVersionRow (pos c.args.number) old.now.trees)
+      fault_has_cause = λ clean it free. blames old old new new c.from_residual.result c.in_err-rows.field-0.0 _ (¬ HasVersionRow (pos c.args.number) old.now.trees)
           c.from_residual.ensures.1 (lasts_same old) (lasts_same new)
           (λ no. absurd no) (inl (c.in_err-rows.ensures.caused clean c.args.number it.0 it.1 free));
     }
 
 pub returns-in_default-clause-ends : goal.returns-in_default-clause-ends
 returns-in_default-clause-ends g c = record {
-  lasts = c.versions.ensures.asks.ends.lasts;
+  remains_open = c.versions.ensures.asks.ends_call.remains_open;
   was_open = λ clean. tt;
-  caused = λ clean it free why. inr (λ of.
+  fault_has_cause = λ clean it free why. inr (λ of.
       let shown = version_shown (pos c.args.number) (state g.S.Store c.args.conn.now).now.trees c.in_ok-rows.rows.items of (c.in_ok-rows.ensures.numbers clean c.args.number it.0 it.1) in
       let one : length c.as_slice.result.now ≡ 1 = ap length (c.as_slice.ensures.value ∙ shown) in
       grind (arith, common_steps));
@@ -53,9 +53,9 @@ returns-in_err-found-clause-ends g c =
     let old = state g.S.Store c.args.conn.now in
     let new = state g.S.Store c.versions.new.conn in
     record {
-      lasts = c.versions.ensures.asks.ends.lasts;
+      remains_open = c.versions.ensures.asks.ends_call.remains_open;
       was_open = λ clean. search rules;
-      caused = λ clean it free. unread old new c.from_residual-in_err-found.result c.in_err-found.field-0.0 (¬ HasVersionRow (pos c.args.number) old.now.trees)
+      fault_has_cause = λ clean it free. unread old new c.from_residual-in_err-found.result c.in_err-found.field-0.0 (¬ HasVersionRow (pos c.args.number) old.now.trees)
           c.from_residual-in_err-found.ensures.1 (λ other of.
           let shown = version_shown (pos c.args.number) old.now.trees c.in_ok-rows.rows.items of (c.in_ok-rows.ensures.numbers clean c.args.number it.0 it.1) in
           let row : c.row-item.result ≡ Int (pos c.args.number) ∷ [] = c.row-item.is ∙ ap (λ l. get_or l 0 c.row-item.result) (c.as_slice.ensures.value ∙ shown) in
@@ -64,9 +64,9 @@ returns-in_err-found-clause-ends g c =
 
 pub returns-then-found-wanted-clause-ends : goal.returns-then-found-wanted-clause-ends
 returns-then-found-wanted-clause-ends g c = record {
-  lasts = c.versions.ensures.asks.ends.lasts;
+  remains_open = c.versions.ensures.asks.ends_call.remains_open;
   was_open = λ clean. tt;
-  caused = λ clean it free why. inr (λ of.
+  fault_has_cause = λ clean it free why. inr (λ of.
       let shown = version_shown (pos c.args.number) (state g.S.Store c.args.conn.now).now.trees c.in_ok-rows.rows.items of (c.in_ok-rows.ensures.numbers clean c.args.number it.0 it.1) in
       let row : c.row-item.result ≡ Int (pos c.args.number) ∷ [] = c.row-item.is ∙ ap (λ l. get_or l 0 c.row-item.result) (c.as_slice.ensures.value ∙ shown) in
       let read : Int (pos c.args.number) ≡ Int c.in_ok-found.found = sym (ap (λ r. column r 0) row) ∙ c.in_ok-found.ensures.ok.1 in
@@ -75,4 +75,4 @@ returns-then-found-wanted-clause-ends g c = record {
 }
 
 pub returns-clause-ends : goal.returns-clause-ends
-returns-clause-ends g c = record { lasts = c.versions.ensures.asks.ends.lasts; was_open = λ clean. search rules; caused = λ clean it free. tt }
+returns-clause-ends g c = record { remains_open = c.versions.ensures.asks.ends_call.remains_open; was_open = λ clean. search rules; fault_has_cause = λ clean it free. tt }

@@ -12,43 +12,44 @@ use Rattle.archive_database.proofs.making.fill.Goals as goal
 
 pub returns-clause-kept : goal.returns-clause-kept
 returns-clause-kept g c = λ clean before making.
-    let clean_3 = c.in_ok-commit.ensures.ends.lasts.returned clean in
-    let clean_2 = c.in_ok-make_later.ensures.ends.lasts.returned clean_3 in
-    let clean_1 = c.in_ok-make_indexes.ensures.ends.lasts.returned clean_2 in
-    let clean_0 = c.in_ok-make_second.ensures.ends.lasts.returned clean_1 in
+    let clean_3 = c.in_ok-commit.ensures.ends.remains_open.disk_was_clean clean in
+    let clean_2 = c.in_ok-make_later.ensures.ends.remains_open.disk_was_clean clean_3 in
+    let clean_1 = c.in_ok-make_indexes.ensures.ends.remains_open.disk_was_clean clean_2 in
+    let clean_0 = c.in_ok-make_second.ensures.ends.remains_open.disk_was_clean clean_1 in
     let first = c.in_ok-make_second.ensures.made clean_1 before (c.in_ok-make_first.ensures.made clean_0 before making) in
     c.in_ok-commit.ensures.kept clean before empty_archive (c.in_ok-make_later.ensures.made clean_3 before (c.in_ok-make_indexes.ensures.made clean_2 before first))
 
 pub returns-in_err-make_second-clause-stopped : goal.returns-in_err-make_second-clause-stopped
 returns-in_err-make_second-clause-stopped g c = λ clean before making.
-    let made = c.in_ok-make_first.ensures.made (c.in_err-make_second.ensures.ends.lasts.returned clean) before making in
+    let made = c.in_ok-make_first.ensures.made (c.in_err-make_second.ensures.ends.remains_open.disk_was_clean clean) before making in
     on_err c.from_residual-in_err-make_second.result _ (c.in_err-make_second.ensures.stopped clean before made)
 
 pub returns-in_err-make_indexes-clause-stopped : goal.returns-in_err-make_indexes-clause-stopped
 returns-in_err-make_indexes-clause-stopped g c = λ clean before making.
-    let clean_1 = c.in_err-make_indexes.ensures.ends.lasts.returned clean in
-    let clean_0 = c.in_ok-make_second.ensures.ends.lasts.returned clean_1 in
+    let clean_1 = c.in_err-make_indexes.ensures.ends.remains_open.disk_was_clean clean in
+    let clean_0 = c.in_ok-make_second.ensures.ends.remains_open.disk_was_clean clean_1 in
     let made = c.in_ok-make_second.ensures.made clean_1 before (c.in_ok-make_first.ensures.made clean_0 before making) in
     on_err c.from_residual-in_err-make_indexes.result _ (c.in_err-make_indexes.ensures.stopped clean before made)
 
 pub returns-in_err-make_later-clause-stopped : goal.returns-in_err-make_later-clause-stopped
 returns-in_err-make_later-clause-stopped g c = λ clean before making.
-    let clean_2 = c.in_err-make_later.ensures.ends.lasts.returned clean in
-    let clean_1 = c.in_ok-make_indexes.ensures.ends.lasts.returned clean_2 in
-    let clean_0 = c.in_ok-make_second.ensures.ends.lasts.returned clean_1 in
+    let clean_2 = c.in_err-make_later.ensures.ends.remains_open.disk_was_clean clean in
+    let clean_1 = c.in_ok-make_indexes.ensures.ends.remains_open.disk_was_clean clean_2 in
+    let clean_0 = c.in_ok-make_second.ensures.ends.remains_open.disk_was_clean clean_1 in
     let first = c.in_ok-make_second.ensures.made clean_1 before (c.in_ok-make_first.ensures.made clean_0 before making) in
     on_err c.from_residual-in_err-make_later.result _ (c.in_err-make_later.ensures.stopped clean before (c.in_ok-make_indexes.ensures.made clean_2 before first))
 
 pub returns-in_err-commit-clause-stopped : goal.returns-in_err-commit-clause-stopped
 returns-in_err-commit-clause-stopped g c = λ clean before making.
-    let clean_3 = c.in_err-commit.ensures.ends.lasts.returned clean in
-    let clean_2 = c.in_ok-make_later.ensures.ends.lasts.returned clean_3 in
-    let clean_1 = c.in_ok-make_indexes.ensures.ends.lasts.returned clean_2 in
-    let clean_0 = c.in_ok-make_second.ensures.ends.lasts.returned clean_1 in
+    let clean_3 = c.in_err-commit.ensures.ends.remains_open.disk_was_clean clean in
+    let clean_2 = c.in_ok-make_later.ensures.ends.remains_open.disk_was_clean clean_3 in
+    let clean_1 = c.in_ok-make_indexes.ensures.ends.remains_open.disk_was_clean clean_2 in
+    let clean_0 = c.in_ok-make_second.ensures.ends.remains_open.disk_was_clean clean_1 in
     let first = c.in_ok-make_second.ensures.made clean_1 before (c.in_ok-make_first.ensures.made clean_0 before making) in
     let made = c.in_ok-make_later.ensures.made clean_3 before (c.in_ok-make_indexes.ensures.made clean_2 before first) in
     on_err c.from_residual-in_err-commit.result _
-    (stopped_by (state g.S.Store c.make_later.new.conn) (state g.S.Store c.commit.new.conn) before made.behind made.within (c.in_err-commit.ensures.ends.stopped clean))
+    (stopped_by (state g.S.Store c.make_later.new.conn) (state g.S.Store c.commit.new.conn) before made.committed_is_before made.is_in_transaction
+    (c.in_err-commit.ensures.ends.failure_keeps_or_rolls_back clean))
 
 -- ---- what a stop of the machine leaves
 
@@ -58,23 +59,23 @@ returns-in_err-make_first-clause-crash g c = λ before making clean db may.
 
 pub returns-in_err-make_second-clause-crash : goal.returns-in_err-make_second-clause-crash
 returns-in_err-make_second-clause-crash g c = λ before making clean db may.
-    let clean_1 = c.make_second.ensures.ends.lasts.returned clean in
+    let clean_1 = c.make_second.ensures.ends.remains_open.disk_was_clean clean in
     let made_1 = c.in_ok-make_first.ensures.made clean_1 before making in
     inl (c.make_first.ensures.quiet before making clean_1 db (c.make_second.ensures.quiet before made_1 clean db may))
 
 pub returns-in_err-make_indexes-clause-crash : goal.returns-in_err-make_indexes-clause-crash
 returns-in_err-make_indexes-clause-crash g c = λ before making clean db may.
-    let clean_2 = c.make_indexes.ensures.ends.lasts.returned clean in
-    let clean_1 = c.make_second.ensures.ends.lasts.returned clean_2 in
+    let clean_2 = c.make_indexes.ensures.ends.remains_open.disk_was_clean clean in
+    let clean_1 = c.make_second.ensures.ends.remains_open.disk_was_clean clean_2 in
     let made_1 = c.in_ok-make_first.ensures.made clean_1 before making in
     let made_2 = c.in_ok-make_second.ensures.made clean_2 before made_1 in
     inl (c.make_first.ensures.quiet before making clean_1 db (c.make_second.ensures.quiet before made_1 clean_2 db (c.make_indexes.ensures.quiet before made_2 clean db may)))
 
 pub returns-in_err-make_later-clause-crash : goal.returns-in_err-make_later-clause-crash
 returns-in_err-make_later-clause-crash g c = λ before making clean db may.
-    let clean_3 = c.make_later.ensures.ends.lasts.returned clean in
-    let clean_2 = c.make_indexes.ensures.ends.lasts.returned clean_3 in
-    let clean_1 = c.make_second.ensures.ends.lasts.returned clean_2 in
+    let clean_3 = c.make_later.ensures.ends.remains_open.disk_was_clean clean in
+    let clean_2 = c.make_indexes.ensures.ends.remains_open.disk_was_clean clean_3 in
+    let clean_1 = c.make_second.ensures.ends.remains_open.disk_was_clean clean_2 in
     let made_1 = c.in_ok-make_first.ensures.made clean_1 before making in
     let made_2 = c.in_ok-make_second.ensures.made clean_2 before made_1 in
     let made_3 = c.in_ok-make_indexes.ensures.made clean_3 before made_2 in
@@ -83,10 +84,10 @@ returns-in_err-make_later-clause-crash g c = λ before making clean db may.
 
 pub returns-in_err-commit-clause-crash : goal.returns-in_err-commit-clause-crash
 returns-in_err-commit-clause-crash g c = λ before making clean db may.
-    let clean_4 = c.commit.ensures.ends.lasts.returned clean in
-    let clean_3 = c.make_later.ensures.ends.lasts.returned clean_4 in
-    let clean_2 = c.make_indexes.ensures.ends.lasts.returned clean_3 in
-    let clean_1 = c.make_second.ensures.ends.lasts.returned clean_2 in
+    let clean_4 = c.commit.ensures.ends.remains_open.disk_was_clean clean in
+    let clean_3 = c.make_later.ensures.ends.remains_open.disk_was_clean clean_4 in
+    let clean_2 = c.make_indexes.ensures.ends.remains_open.disk_was_clean clean_3 in
+    let clean_1 = c.make_second.ensures.ends.remains_open.disk_was_clean clean_2 in
     let made_1 = c.in_ok-make_first.ensures.made clean_1 before making in
     let made_2 = c.in_ok-make_second.ensures.made clean_2 before made_1 in
     let made_3 = c.in_ok-make_indexes.ensures.made clean_3 before made_2 in
@@ -99,10 +100,10 @@ returns-in_err-commit-clause-crash g c = λ before making clean db may.
 
 pub returns-clause-crash : goal.returns-clause-crash
 returns-clause-crash g c = λ before making clean db may.
-    let clean_4 = c.commit.ensures.ends.lasts.returned clean in
-    let clean_3 = c.make_later.ensures.ends.lasts.returned clean_4 in
-    let clean_2 = c.make_indexes.ensures.ends.lasts.returned clean_3 in
-    let clean_1 = c.make_second.ensures.ends.lasts.returned clean_2 in
+    let clean_4 = c.commit.ensures.ends.remains_open.disk_was_clean clean in
+    let clean_3 = c.make_later.ensures.ends.remains_open.disk_was_clean clean_4 in
+    let clean_2 = c.make_indexes.ensures.ends.remains_open.disk_was_clean clean_3 in
+    let clean_1 = c.make_second.ensures.ends.remains_open.disk_was_clean clean_2 in
     let made_1 = c.in_ok-make_first.ensures.made clean_1 before making in
     let made_2 = c.in_ok-make_second.ensures.made clean_2 before made_1 in
     let made_3 = c.in_ok-make_indexes.ensures.made clean_3 before made_2 in
@@ -135,7 +136,7 @@ returns-in_err-make_indexes-clause-ends g c =
     (done_then (λ s before. IsCreatingTables s empty_schema before) (λ s before. IsCreatingTables s schema_with_persons before) (first_create_statements) second_create_statements
     c.in_ok-make_first.ensures.ends
     (λ clean before k. (c.in_ok-make_first.ensures.made clean before k)) _ (tt {0}) c.in_ok-make_second.ensures.ends)
-    (λ clean before k. (c.in_ok-make_second.ensures.made clean before (c.in_ok-make_first.ensures.made (c.in_ok-make_second.ensures.ends.lasts.returned clean) before k)))
+    (λ clean before k. (c.in_ok-make_second.ensures.made clean before (c.in_ok-make_first.ensures.made (c.in_ok-make_second.ensures.ends.remains_open.disk_was_clean clean) before k)))
     c.from_residual-in_err-make_indexes.result c.in_err-make_indexes.field-0.0 c.from_residual-in_err-make_indexes.ensures.1 (last_create_statements) c.in_err-make_indexes.ensures.ends
 
 pub returns-in_err-make_later-clause-ends : goal.returns-in_err-make_later-clause-ends
@@ -146,10 +147,10 @@ returns-in_err-make_later-clause-ends g c =
     create_index_statements (done_then (λ s before. IsCreatingTables s empty_schema before) (λ s before. IsCreatingTables s schema_with_persons before) (first_create_statements)
     second_create_statements
     c.in_ok-make_first.ensures.ends (λ clean before k. (c.in_ok-make_first.ensures.made clean before k)) _ (tt {0}) c.in_ok-make_second.ensures.ends)
-    (λ clean before k. (c.in_ok-make_second.ensures.made clean before (c.in_ok-make_first.ensures.made (c.in_ok-make_second.ensures.ends.lasts.returned clean) before k))) _
+    (λ clean before k. (c.in_ok-make_second.ensures.made clean before (c.in_ok-make_first.ensures.made (c.in_ok-make_second.ensures.ends.remains_open.disk_was_clean clean) before k))) _
     (tt {0}) c.in_ok-make_indexes.ensures.ends) (λ clean before k. (c.in_ok-make_indexes.ensures.made clean before
-    (c.in_ok-make_second.ensures.made (c.in_ok-make_indexes.ensures.ends.lasts.returned clean) before
-    (c.in_ok-make_first.ensures.made (c.in_ok-make_second.ensures.ends.lasts.returned (c.in_ok-make_indexes.ensures.ends.lasts.returned clean)) before k))))
+    (c.in_ok-make_second.ensures.made (c.in_ok-make_indexes.ensures.ends.remains_open.disk_was_clean clean) before
+    (c.in_ok-make_first.ensures.made (c.in_ok-make_second.ensures.ends.remains_open.disk_was_clean (c.in_ok-make_indexes.ensures.ends.remains_open.disk_was_clean clean)) before k))))
     c.from_residual-in_err-make_later.result c.in_err-make_later.field-0.0 c.from_residual-in_err-make_later.ensures.1 ([]) c.in_err-make_later.ensures.ends
 
 pub returns-in_err-commit-clause-ends : goal.returns-in_err-commit-clause-ends
@@ -163,17 +164,17 @@ returns-in_err-commit-clause-ends g c =
     create_index_statements (done_then (λ s before. IsCreatingTables s empty_schema before) (λ s before. IsCreatingTables s schema_with_persons before) (first_create_statements)
     second_create_statements
     c.in_ok-make_first.ensures.ends (λ clean before k. (c.in_ok-make_first.ensures.made clean before k)) _ (tt {0}) c.in_ok-make_second.ensures.ends)
-    (λ clean before k. (c.in_ok-make_second.ensures.made clean before (c.in_ok-make_first.ensures.made (c.in_ok-make_second.ensures.ends.lasts.returned clean) before k))) _
+    (λ clean before k. (c.in_ok-make_second.ensures.made clean before (c.in_ok-make_first.ensures.made (c.in_ok-make_second.ensures.ends.remains_open.disk_was_clean clean) before k))) _
     (tt {0}) c.in_ok-make_indexes.ensures.ends) (λ clean before k. (c.in_ok-make_indexes.ensures.made clean before
-    (c.in_ok-make_second.ensures.made (c.in_ok-make_indexes.ensures.ends.lasts.returned clean) before
-    (c.in_ok-make_first.ensures.made (c.in_ok-make_second.ensures.ends.lasts.returned (c.in_ok-make_indexes.ensures.ends.lasts.returned clean)) before k)))) _
+    (c.in_ok-make_second.ensures.made (c.in_ok-make_indexes.ensures.ends.remains_open.disk_was_clean clean) before
+    (c.in_ok-make_first.ensures.made (c.in_ok-make_second.ensures.ends.remains_open.disk_was_clean (c.in_ok-make_indexes.ensures.ends.remains_open.disk_was_clean clean)) before k)))) _
     (tt {0}) c.in_ok-make_later.ensures.ends) (λ clean before k. (c.in_ok-make_later.ensures.made clean before
-    (c.in_ok-make_indexes.ensures.made (c.in_ok-make_later.ensures.ends.lasts.returned clean) before
-    (c.in_ok-make_second.ensures.made (c.in_ok-make_indexes.ensures.ends.lasts.returned (c.in_ok-make_later.ensures.ends.lasts.returned clean)) before
-    (c.in_ok-make_first.ensures.made (c.in_ok-make_second.ensures.ends.lasts.returned (c.in_ok-make_indexes.ensures.ends.lasts.returned
-    (c.in_ok-make_later.ensures.ends.lasts.returned clean))) before k)))))
+    (c.in_ok-make_indexes.ensures.made (c.in_ok-make_later.ensures.ends.remains_open.disk_was_clean clean) before
+    (c.in_ok-make_second.ensures.made (c.in_ok-make_indexes.ensures.ends.remains_open.disk_was_clean (c.in_ok-make_later.ensures.ends.remains_open.disk_was_clean clean)) before
+    (c.in_ok-make_first.ensures.made (c.in_ok-make_second.ensures.ends.remains_open.disk_was_clean (c.in_ok-make_indexes.ensures.ends.remains_open.disk_was_clean
+    (c.in_ok-make_later.ensures.ends.remains_open.disk_was_clean clean))) before k)))))
     c.from_residual-in_err-commit.result c.in_err-commit.field-0.0 c.from_residual-in_err-commit.ensures.1 ([])
-    (commit_ends (λ s before. IsReadyToCommit s before empty_archive) (λ before k. (k.is_open, k.within)) c.in_err-commit.ensures.ends)
+    (commit_ends (λ s before. IsReadyToCommit s before empty_archive) (λ before k. (k.is_open, k.is_in_transaction)) c.in_err-commit.ensures.ends)
 
 pub returns-clause-ends : goal.returns-clause-ends
 returns-clause-ends g c =
@@ -186,13 +187,13 @@ returns-clause-ends g c =
     create_index_statements (done_then (λ s before. IsCreatingTables s empty_schema before) (λ s before. IsCreatingTables s schema_with_persons before) (first_create_statements)
     second_create_statements
     c.in_ok-make_first.ensures.ends (λ clean before k. (c.in_ok-make_first.ensures.made clean before k)) _ (tt {0}) c.in_ok-make_second.ensures.ends)
-    (λ clean before k. (c.in_ok-make_second.ensures.made clean before (c.in_ok-make_first.ensures.made (c.in_ok-make_second.ensures.ends.lasts.returned clean) before k))) _
+    (λ clean before k. (c.in_ok-make_second.ensures.made clean before (c.in_ok-make_first.ensures.made (c.in_ok-make_second.ensures.ends.remains_open.disk_was_clean clean) before k))) _
     (tt {0}) c.in_ok-make_indexes.ensures.ends) (λ clean before k. (c.in_ok-make_indexes.ensures.made clean before
-    (c.in_ok-make_second.ensures.made (c.in_ok-make_indexes.ensures.ends.lasts.returned clean) before
-    (c.in_ok-make_first.ensures.made (c.in_ok-make_second.ensures.ends.lasts.returned (c.in_ok-make_indexes.ensures.ends.lasts.returned clean)) before k)))) _
+    (c.in_ok-make_second.ensures.made (c.in_ok-make_indexes.ensures.ends.remains_open.disk_was_clean clean) before
+    (c.in_ok-make_first.ensures.made (c.in_ok-make_second.ensures.ends.remains_open.disk_was_clean (c.in_ok-make_indexes.ensures.ends.remains_open.disk_was_clean clean)) before k)))) _
     (tt {0}) c.in_ok-make_later.ensures.ends) (λ clean before k. (c.in_ok-make_later.ensures.made clean before
-    (c.in_ok-make_indexes.ensures.made (c.in_ok-make_later.ensures.ends.lasts.returned clean) before
-    (c.in_ok-make_second.ensures.made (c.in_ok-make_indexes.ensures.ends.lasts.returned (c.in_ok-make_later.ensures.ends.lasts.returned clean)) before
-    (c.in_ok-make_first.ensures.made (c.in_ok-make_second.ensures.ends.lasts.returned (c.in_ok-make_indexes.ensures.ends.lasts.returned
-    (c.in_ok-make_later.ensures.ends.lasts.returned clean))) before k))))) _ _ (commit_ends (λ s before. IsReadyToCommit s before empty_archive)
-    (λ before k. (k.is_open, k.within)) c.in_ok-commit.ensures.ends)
+    (c.in_ok-make_indexes.ensures.made (c.in_ok-make_later.ensures.ends.remains_open.disk_was_clean clean) before
+    (c.in_ok-make_second.ensures.made (c.in_ok-make_indexes.ensures.ends.remains_open.disk_was_clean (c.in_ok-make_later.ensures.ends.remains_open.disk_was_clean clean)) before
+    (c.in_ok-make_first.ensures.made (c.in_ok-make_second.ensures.ends.remains_open.disk_was_clean (c.in_ok-make_indexes.ensures.ends.remains_open.disk_was_clean
+    (c.in_ok-make_later.ensures.ends.remains_open.disk_was_clean clean))) before k))))) _ _ (commit_ends (λ s before. IsReadyToCommit s before empty_archive)
+    (λ before k. (k.is_open, k.is_in_transaction)) c.in_ok-commit.ensures.ends)

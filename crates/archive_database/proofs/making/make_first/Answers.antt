@@ -4,94 +4,99 @@ use Rattle.archive_tables.specs.Statements.{create_version_statement, create_lis
 use Rattle.archive_database.proofs.StepsLemmas.{one_ends, fails_first, fails_then, done_then}
 use Rattle.sqlite.specs.Held.{state}
 use Rattle.archive_database.proofs.MakingLemmas.{stopped_by, on_err}
-use Rattle.archive_tables.specs.Schema.{empty_schema, schema_with_version, schema_with_lists}
+use Rattle.archive_tables.specs.Schema.{empty_schema, schema_with_version_table, schema_with_lists}
 use Rattle.archive_tables.proofs.CrashLemmas.{making_within}
 use Rattle.archive_database.proofs.making.make_first.Goals as goal
 
 pub returns-clause-made : goal.returns-clause-made
 returns-clause-made g c = λ clean before making.
-    let clean_2 = c.in_ok-create_person.ensures.ends.lasts.returned clean in
-    let clean_1 = c.in_ok-create_list.ensures.ends.lasts.returned clean_2 in
-    c.in_ok-create_person.ensures.made clean before (c.in_ok-create_list.ensures.made clean_2 before (c.in_ok-create_version.ensures.made clean_1 before making))
+    let clean_2 = c.in_ok-create_person_table.ensures.ends.remains_open.disk_was_clean clean in
+    let clean_1 = c.in_ok-create_list_table.ensures.ends.remains_open.disk_was_clean clean_2 in
+    c.in_ok-create_person_table.ensures.made clean before (c.in_ok-create_list_table.ensures.made clean_2 before (c.in_ok-create_version_table.ensures.made clean_1 before making))
 
-pub returns-in_err-create_list-clause-stopped : goal.returns-in_err-create_list-clause-stopped
-returns-in_err-create_list-clause-stopped g c = λ clean before making.
-    let made = c.in_ok-create_version.ensures.made (c.in_err-create_list.ensures.ends.lasts.returned clean) before making in
-    on_err c.from_residual-in_err-create_list.result _
-    (stopped_by (state g.S.Store c.create_version.new.conn) (state g.S.Store c.create_list.new.conn) before made.behind made.within (c.in_err-create_list.ensures.ends.stopped clean))
+pub returns-in_err-create_list_table-clause-stopped : goal.returns-in_err-create_list_table-clause-stopped
+returns-in_err-create_list_table-clause-stopped g c = λ clean before making.
+    let made = c.in_ok-create_version_table.ensures.made (c.in_err-create_list_table.ensures.ends.remains_open.disk_was_clean clean) before making in
+    on_err c.from_residual-in_err-create_list_table.result _
+    (stopped_by (state g.S.Store c.create_version_table.new.conn) (state g.S.Store c.create_list_table.new.conn) before made.committed_is_before made.is_in_transaction
+    (c.in_err-create_list_table.ensures.ends.failure_keeps_or_rolls_back clean))
 
-pub returns-in_err-create_person-clause-stopped : goal.returns-in_err-create_person-clause-stopped
-returns-in_err-create_person-clause-stopped g c = λ clean before making.
-    let clean_2 = c.in_err-create_person.ensures.ends.lasts.returned clean in
-    let clean_1 = c.in_ok-create_list.ensures.ends.lasts.returned clean_2 in
-    let made = c.in_ok-create_list.ensures.made clean_2 before (c.in_ok-create_version.ensures.made clean_1 before making) in
-    on_err c.from_residual-in_err-create_person.result _
-    (stopped_by (state g.S.Store c.create_list.new.conn) (state g.S.Store c.create_person.new.conn) before made.behind made.within (c.in_err-create_person.ensures.ends.stopped clean))
+pub returns-in_err-create_person_table-clause-stopped : goal.returns-in_err-create_person_table-clause-stopped
+returns-in_err-create_person_table-clause-stopped g c = λ clean before making.
+    let clean_2 = c.in_err-create_person_table.ensures.ends.remains_open.disk_was_clean clean in
+    let clean_1 = c.in_ok-create_list_table.ensures.ends.remains_open.disk_was_clean clean_2 in
+    let made = c.in_ok-create_list_table.ensures.made clean_2 before (c.in_ok-create_version_table.ensures.made clean_1 before making) in
+    on_err c.from_residual-in_err-create_person_table.result _
+    (stopped_by (state g.S.Store c.create_list_table.new.conn) (state g.S.Store c.create_person_table.new.conn) before made.committed_is_before made.is_in_transaction
+    (c.in_err-create_person_table.ensures.ends.failure_keeps_or_rolls_back clean))
 
 -- ---- what a stop of the machine leaves
 
-pub returns-in_err-create_version-clause-quiet : goal.returns-in_err-create_version-clause-quiet
-returns-in_err-create_version-clause-quiet g c = λ before making clean db may.
-    c.create_version.ensures.quiet before (making_within (state g.S.Store c.args.conn.now) before empty_schema making) clean db may
+pub returns-in_err-create_version_table-clause-quiet : goal.returns-in_err-create_version_table-clause-quiet
+returns-in_err-create_version_table-clause-quiet g c = λ before making clean db may.
+    c.create_version_table.ensures.quiet before (making_within (state g.S.Store c.args.conn.now) before empty_schema making) clean db may
 
-pub returns-in_err-create_list-clause-quiet : goal.returns-in_err-create_list-clause-quiet
-returns-in_err-create_list-clause-quiet g c = λ before making clean db may.
-    let clean_1 = c.create_list.ensures.ends.lasts.returned clean in
-    let made_1 = c.in_ok-create_version.ensures.made clean_1 before making in
-    c.create_version.ensures.quiet before (making_within (state g.S.Store c.args.conn.now) before empty_schema making) clean_1 db
-    (c.create_list.ensures.quiet before (making_within (state g.S.Store c.create_version.new.conn) before schema_with_version made_1) clean db may)
+pub returns-in_err-create_list_table-clause-quiet : goal.returns-in_err-create_list_table-clause-quiet
+returns-in_err-create_list_table-clause-quiet g c = λ before making clean db may.
+    let clean_1 = c.create_list_table.ensures.ends.remains_open.disk_was_clean clean in
+    let made_1 = c.in_ok-create_version_table.ensures.made clean_1 before making in
+    c.create_version_table.ensures.quiet before (making_within (state g.S.Store c.args.conn.now) before empty_schema making) clean_1 db
+    (c.create_list_table.ensures.quiet before (making_within (state g.S.Store c.create_version_table.new.conn) before schema_with_version_table made_1) clean db may)
 
-pub returns-in_err-create_person-clause-quiet : goal.returns-in_err-create_person-clause-quiet
-returns-in_err-create_person-clause-quiet g c = λ before making clean db may.
-    let clean_2 = c.create_person.ensures.ends.lasts.returned clean in
-    let clean_1 = c.create_list.ensures.ends.lasts.returned clean_2 in
-    let made_1 = c.in_ok-create_version.ensures.made clean_1 before making in
-    let made_2 = c.in_ok-create_list.ensures.made clean_2 before made_1 in
-    c.create_version.ensures.quiet before (making_within (state g.S.Store c.args.conn.now) before empty_schema making) clean_1 db
-    (c.create_list.ensures.quiet before (making_within (state g.S.Store c.create_version.new.conn) before schema_with_version made_1) clean_2 db
-    (c.create_person.ensures.quiet before (making_within (state g.S.Store c.create_list.new.conn) before schema_with_lists made_2) clean db may))
+pub returns-in_err-create_person_table-clause-quiet : goal.returns-in_err-create_person_table-clause-quiet
+returns-in_err-create_person_table-clause-quiet g c = λ before making clean db may.
+    let clean_2 = c.create_person_table.ensures.ends.remains_open.disk_was_clean clean in
+    let clean_1 = c.create_list_table.ensures.ends.remains_open.disk_was_clean clean_2 in
+    let made_1 = c.in_ok-create_version_table.ensures.made clean_1 before making in
+    let made_2 = c.in_ok-create_list_table.ensures.made clean_2 before made_1 in
+    c.create_version_table.ensures.quiet before (making_within (state g.S.Store c.args.conn.now) before empty_schema making) clean_1 db
+    (c.create_list_table.ensures.quiet before (making_within (state g.S.Store c.create_version_table.new.conn) before schema_with_version_table made_1) clean_2 db
+    (c.create_person_table.ensures.quiet before (making_within (state g.S.Store c.create_list_table.new.conn) before schema_with_lists made_2) clean db may))
 
 pub returns-clause-quiet : goal.returns-clause-quiet
 returns-clause-quiet g c = λ before making clean db may.
-    let clean_2 = c.create_person.ensures.ends.lasts.returned clean in
-    let clean_1 = c.create_list.ensures.ends.lasts.returned clean_2 in
-    let made_1 = c.in_ok-create_version.ensures.made clean_1 before making in
-    let made_2 = c.in_ok-create_list.ensures.made clean_2 before made_1 in
-    c.create_version.ensures.quiet before (making_within (state g.S.Store c.args.conn.now) before empty_schema making) clean_1 db
-    (c.create_list.ensures.quiet before (making_within (state g.S.Store c.create_version.new.conn) before schema_with_version made_1) clean_2 db
-    (c.create_person.ensures.quiet before (making_within (state g.S.Store c.create_list.new.conn) before schema_with_lists made_2) clean db may))
+    let clean_2 = c.create_person_table.ensures.ends.remains_open.disk_was_clean clean in
+    let clean_1 = c.create_list_table.ensures.ends.remains_open.disk_was_clean clean_2 in
+    let made_1 = c.in_ok-create_version_table.ensures.made clean_1 before making in
+    let made_2 = c.in_ok-create_list_table.ensures.made clean_2 before made_1 in
+    c.create_version_table.ensures.quiet before (making_within (state g.S.Store c.args.conn.now) before empty_schema making) clean_1 db
+    (c.create_list_table.ensures.quiet before (making_within (state g.S.Store c.create_version_table.new.conn) before schema_with_version_table made_1) clean_2 db
+    (c.create_person_table.ensures.quiet before (making_within (state g.S.Store c.create_list_table.new.conn) before schema_with_lists made_2) clean db may))
 
 -- ---- how it ends
 
-pub returns-in_err-create_version-clause-ends : goal.returns-in_err-create_version-clause-ends
-returns-in_err-create_version-clause-ends g c =
-    fails_first c.from_residual.result c.in_err-create_version.field-0.0 c.from_residual.ensures.1 (λ s before. IsCreatingTables s empty_schema before) (create_version_statement ∷ [])
-    (create_list_statement ∷ create_person_statement ∷ []) (one_ends (λ s before. IsCreatingTables s empty_schema before) (λ before k. (k.is_open, k.schema_is)) c.in_err-create_version.ensures.ends)
+pub returns-in_err-create_version_table-clause-ends : goal.returns-in_err-create_version_table-clause-ends
+returns-in_err-create_version_table-clause-ends g c =
+    fails_first c.from_residual.result c.in_err-create_version_table.field-0.0 c.from_residual.ensures.1 (λ s before. IsCreatingTables s empty_schema before) (create_version_statement ∷ [])
+    (create_list_statement ∷ create_person_statement ∷ []) (one_ends (λ s before. IsCreatingTables s empty_schema before)
+    (λ before k. (k.is_open, k.schema_is)) c.in_err-create_version_table.ensures.ends)
 
-pub returns-in_err-create_list-clause-ends : goal.returns-in_err-create_list-clause-ends
-returns-in_err-create_list-clause-ends g c =
-    fails_then (λ s before. IsCreatingTables s empty_schema before) (λ s before. IsCreatingTables s schema_with_version before) (create_version_statement ∷ []) (create_list_statement ∷ [])
-    (one_ends (λ s before. IsCreatingTables s empty_schema before) (λ before k. (k.is_open, k.schema_is)) c.in_ok-create_version.ensures.ends) c.in_ok-create_version.ensures.made
-    c.from_residual-in_err-create_list.result c.in_err-create_list.field-0.0 c.from_residual-in_err-create_list.ensures.1 (create_person_statement ∷ [])
-    (one_ends (λ s before. IsCreatingTables s schema_with_version before) (λ before k. (k.is_open, k.schema_is)) c.in_err-create_list.ensures.ends)
+pub returns-in_err-create_list_table-clause-ends : goal.returns-in_err-create_list_table-clause-ends
+returns-in_err-create_list_table-clause-ends g c =
+    fails_then (λ s before. IsCreatingTables s empty_schema before) (λ s before. IsCreatingTables s schema_with_version_table before) (create_version_statement ∷ []) (create_list_statement ∷ [])
+    (one_ends (λ s before. IsCreatingTables s empty_schema before) (λ before k. (k.is_open, k.schema_is)) c.in_ok-create_version_table.ensures.ends) c.in_ok-create_version_table.ensures.made
+    c.from_residual-in_err-create_list_table.result c.in_err-create_list_table.field-0.0 c.from_residual-in_err-create_list_table.ensures.1 (create_person_statement ∷ [])
+    (one_ends (λ s before. IsCreatingTables s schema_with_version_table before) (λ before k. (k.is_open, k.schema_is)) c.in_err-create_list_table.ensures.ends)
 
-pub returns-in_err-create_person-clause-ends : goal.returns-in_err-create_person-clause-ends
-returns-in_err-create_person-clause-ends g c =
+pub returns-in_err-create_person_table-clause-ends : goal.returns-in_err-create_person_table-clause-ends
+returns-in_err-create_person_table-clause-ends g c =
     fails_then (λ s before. IsCreatingTables s empty_schema before) (λ s before. IsCreatingTables s schema_with_lists before) (create_version_statement ∷ create_list_statement ∷ [])
     (create_person_statement ∷ [])
-    (done_then (λ s before. IsCreatingTables s empty_schema before) (λ s before. IsCreatingTables s schema_with_version before) (create_version_statement ∷ []) (create_list_statement ∷ [])
-    (one_ends (λ s before. IsCreatingTables s empty_schema before) (λ before k. (k.is_open, k.schema_is)) c.in_ok-create_version.ensures.ends) c.in_ok-create_version.ensures.made _
-    (tt {0}) (one_ends (λ s before. IsCreatingTables s schema_with_version before) (λ before k. (k.is_open, k.schema_is)) c.in_ok-create_list.ensures.ends))
-    (λ clean before k. c.in_ok-create_list.ensures.made clean before (c.in_ok-create_version.ensures.made (c.in_ok-create_list.ensures.ends.lasts.returned clean) before k))
-    c.from_residual-in_err-create_person.result c.in_err-create_person.field-0.0 c.from_residual-in_err-create_person.ensures.1 []
-    (one_ends (λ s before. IsCreatingTables s schema_with_lists before) (λ before k. (k.is_open, k.schema_is)) c.in_err-create_person.ensures.ends)
+    (done_then (λ s before. IsCreatingTables s empty_schema before) (λ s before. IsCreatingTables s schema_with_version_table before) (create_version_statement ∷ []) (create_list_statement ∷ [])
+    (one_ends (λ s before. IsCreatingTables s empty_schema before) (λ before k. (k.is_open, k.schema_is)) c.in_ok-create_version_table.ensures.ends) c.in_ok-create_version_table.ensures.made _
+    (tt {0}) (one_ends (λ s before. IsCreatingTables s schema_with_version_table before) (λ before k. (k.is_open, k.schema_is)) c.in_ok-create_list_table.ensures.ends))
+    (λ clean before k. c.in_ok-create_list_table.ensures.made clean before
+    (c.in_ok-create_version_table.ensures.made (c.in_ok-create_list_table.ensures.ends.remains_open.disk_was_clean clean) before k))
+    c.from_residual-in_err-create_person_table.result c.in_err-create_person_table.field-0.0 c.from_residual-in_err-create_person_table.ensures.1 []
+    (one_ends (λ s before. IsCreatingTables s schema_with_lists before) (λ before k. (k.is_open, k.schema_is)) c.in_err-create_person_table.ensures.ends)
 
 pub returns-clause-ends : goal.returns-clause-ends
 returns-clause-ends g c =
     done_then (λ s before. IsCreatingTables s empty_schema before) (λ s before. IsCreatingTables s schema_with_lists before) (create_version_statement ∷ create_list_statement ∷ [])
     (create_person_statement ∷ [])
-    (done_then (λ s before. IsCreatingTables s empty_schema before) (λ s before. IsCreatingTables s schema_with_version before) (create_version_statement ∷ []) (create_list_statement ∷ [])
-    (one_ends (λ s before. IsCreatingTables s empty_schema before) (λ before k. (k.is_open, k.schema_is)) c.in_ok-create_version.ensures.ends) c.in_ok-create_version.ensures.made _
-    (tt {0}) (one_ends (λ s before. IsCreatingTables s schema_with_version before) (λ before k. (k.is_open, k.schema_is)) c.in_ok-create_list.ensures.ends))
-    (λ clean before k. c.in_ok-create_list.ensures.made clean before (c.in_ok-create_version.ensures.made (c.in_ok-create_list.ensures.ends.lasts.returned clean) before k)) _ _
-    (one_ends (λ s before. IsCreatingTables s schema_with_lists before) (λ before k. (k.is_open, k.schema_is)) c.in_ok-create_person.ensures.ends)
+    (done_then (λ s before. IsCreatingTables s empty_schema before) (λ s before. IsCreatingTables s schema_with_version_table before) (create_version_statement ∷ []) (create_list_statement ∷ [])
+    (one_ends (λ s before. IsCreatingTables s empty_schema before) (λ before k. (k.is_open, k.schema_is)) c.in_ok-create_version_table.ensures.ends) c.in_ok-create_version_table.ensures.made _
+    (tt {0}) (one_ends (λ s before. IsCreatingTables s schema_with_version_table before) (λ before k. (k.is_open, k.schema_is)) c.in_ok-create_list_table.ensures.ends))
+    (λ clean before k. c.in_ok-create_list_table.ensures.made clean before
+    (c.in_ok-create_version_table.ensures.made (c.in_ok-create_list_table.ensures.ends.remains_open.disk_was_clean clean) before k)) _ _
+    (one_ends (λ s before. IsCreatingTables s schema_with_lists before) (λ before k. (k.is_open, k.schema_is)) c.in_ok-create_person_table.ensures.ends)

@@ -10,16 +10,16 @@ use Rattle.archive_database.proofs.making.make_indexes.Goals as goal
 
 pub returns-clause-made : goal.returns-clause-made
 returns-clause-made g c = λ clean before making.
-    let clean_1 = c.in_ok-create_author_index.ensures.ends.lasts.returned clean in
+    let clean_1 = c.in_ok-create_author_index.ensures.ends.remains_open.disk_was_clean clean in
     c.in_ok-create_author_index.ensures.made clean before (c.in_ok-create_month_index.ensures.made clean_1 before making)
 
 pub returns-in_err-create_author_index-clause-stopped : goal.returns-in_err-create_author_index-clause-stopped
 returns-in_err-create_author_index-clause-stopped g c = λ clean before making.
-    let clean_1 = c.in_err-create_author_index.ensures.ends.lasts.returned clean in
+    let clean_1 = c.in_err-create_author_index.ensures.ends.remains_open.disk_was_clean clean in
     let made = c.in_ok-create_month_index.ensures.made clean_1 before making in
     on_err c.from_residual-in_err-create_author_index.result _
-    (stopped_by (state g.S.Store c.create_month_index.new.conn) (state g.S.Store c.create_author_index.new.conn) before made.behind made.within
-    (c.in_err-create_author_index.ensures.ends.stopped clean))
+    (stopped_by (state g.S.Store c.create_month_index.new.conn) (state g.S.Store c.create_author_index.new.conn) before made.committed_is_before made.is_in_transaction
+    (c.in_err-create_author_index.ensures.ends.failure_keeps_or_rolls_back clean))
 
 -- ---- what a stop of the machine leaves
 
@@ -29,14 +29,14 @@ returns-in_err-create_month_index-clause-quiet g c = λ before making clean db m
 
 pub returns-in_err-create_author_index-clause-quiet : goal.returns-in_err-create_author_index-clause-quiet
 returns-in_err-create_author_index-clause-quiet g c = λ before making clean db may.
-    let clean_1 = c.create_author_index.ensures.ends.lasts.returned clean in
+    let clean_1 = c.create_author_index.ensures.ends.remains_open.disk_was_clean clean in
     let made_1 = c.in_ok-create_month_index.ensures.made clean_1 before making in
     c.create_month_index.ensures.quiet before (making_within (state g.S.Store c.args.conn.now) before schema_with_messages making) clean_1 db
     (c.create_author_index.ensures.quiet before (making_within (state g.S.Store c.create_month_index.new.conn) before schema_with_month_index made_1) clean db may)
 
 pub returns-clause-quiet : goal.returns-clause-quiet
 returns-clause-quiet g c = λ before making clean db may.
-    let clean_1 = c.create_author_index.ensures.ends.lasts.returned clean in
+    let clean_1 = c.create_author_index.ensures.ends.remains_open.disk_was_clean clean in
     let made_1 = c.in_ok-create_month_index.ensures.made clean_1 before making in
     c.create_month_index.ensures.quiet before (making_within (state g.S.Store c.args.conn.now) before schema_with_messages making) clean_1 db
     (c.create_author_index.ensures.quiet before (making_within (state g.S.Store c.create_month_index.new.conn) before schema_with_month_index made_1) clean db may)

@@ -11,9 +11,9 @@ pub returns-in_default-clause-ends : goal.returns-in_default-clause-ends
 returns-in_default-clause-ends g c =
     let old = state g.S.Store c.args.conn.now in
     record {
-      lasts = lasts_same old;
+      remains_open = lasts_same old;
       was_open = λ clean. tt;
-      caused = λ clean it free why. absurd (told_none old.now.schema it.1 c.version_of_objects.result c.version_of_objects.ensures.own (search rules));
+      fault_has_cause = λ clean it free why. absurd (told_none old.now.schema it.1 c.version_of_objects.result c.version_of_objects.ensures.own (search rules));
     }
 
 pub returns-in_err-check_version-clause-ends : goal.returns-in_err-check_version-clause-ends
@@ -21,10 +21,10 @@ returns-in_err-check_version-clause-ends g c =
     let old = state g.S.Store c.args.conn.now in
     let new = state g.S.Store c.check_version.new.conn in
     record {
-      lasts = c.check_version.ensures.ends.lasts;
+      remains_open = c.check_version.ensures.ends.remains_open;
       was_open = λ clean. search rules;
-      caused = λ clean it free.
+      fault_has_cause = λ clean it free.
           let told = told_version old.now.schema it.1 c.version_of_objects.result c.version_of_objects.ensures.own c.in-Some.number (search rules) in
           passes old old new new c.from_residual.result c.in_err-check_version.field-0.0 _ (IsAdoptionRefused old.now) (search rules) (lasts_same old) (lasts_same new)
-          (λ no. inl (c.in-Some.number, told.0, told.1, no)) (c.in_err-check_version.ensures.ends.caused clean (told.0, idle_form c.in-Some.number old it.0 told.1) free);
+          (λ no. inl (c.in-Some.number, told.0, told.1, no)) (c.in_err-check_version.ensures.ends.fault_has_cause clean (told.0, idle_form c.in-Some.number old it.0 told.1) free);
     }

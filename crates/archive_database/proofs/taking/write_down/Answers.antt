@@ -3,12 +3,12 @@ use Rattle.archive_database.proofs.taking.write_down.Goals as goal
 
 pub returns-clause-taken : goal.returns-clause-taken
 returns-clause-taken g c is clean behind k none =
-    let written = c.in_ok-add_message.ensures.over clean behind k in
+    let written = c.in_ok-add_message.ensures.answer_holds clean behind k in
     search rules
 
 pub returns-clause-made : goal.returns-clause-made
 returns-clause-made g c = λ is clean behind k free.
-    let written = c.in_ok-add_message.ensures.made clean behind k free in
+    let written = c.in_ok-add_message.ensures.executes_statement clean behind k free in
     search rules
 
 -- ---- what a stop of the machine leaves

@@ -28,7 +28,7 @@ returns-in-Err-clause-stopped g c =
     leaves_none g.S.Store c.args.store.now c.resolve_reader.new.store ask (g.W.Sink.told c.args.out.now) (λ a. c.args.head.now ++ exported_text a ask) c.in-Err.fault
 
 pub returns-in-Err-clause-writer : goal.returns-in-Err-clause-writer
-returns-in-Err-clause-writer g c = tells_none (g.W.Sink.told c.args.out.now) (g.W.Sink.failures c.args.out.now) c.in-Err.fault c.in-Err.ensures.ends.fault
+returns-in-Err-clause-writer g c = tells_none (g.W.Sink.told c.args.out.now) (g.W.Sink.failures c.args.out.now) c.in-Err.fault c.in-Err.ensures.ends.fault_is_expected
 
 pub returns-in-Err-clause-ends : goal.returns-in-Err-clause-ends
 returns-in-Err-clause-ends g c =
@@ -76,7 +76,7 @@ returns-clause-ends g c =
     let Unread : _ = λ a. IsQuestionUnreadable a ask (messages_in a ask.list) in
     subst (λ f. EndsExport g.S.Store old last ask (Err (record { written = 0; fault = f }))) (sym c.from.ensures)
     (export_stops g.S.Store ask old mid last ReaderFacts _ Unread (λ a bad. bad)
-    (unbegun_ends g.S.Store old mid last (found.0, λ returned held. let there = found.1 returned held in (there.0, there.1.0)) c.in-Ok.ensures.ends.counted.0
+    (unbegun_ends g.S.Store old mid last (found.0, λ returned held. let there = found.1 returned held in (there.0, there.1.0)) c.in-Ok.ensures.ends.refusals_counted.0
     c.in-Ok.ensures.ends.was_open ReaderFacts c.ask.inside.list.now fault Unread c.in-Err-each_row.ensures.refused c.in-Err-each_row.ensures.kind))
 
 pub returns-in-Ok-each_row-clause-exported : goal.returns-in-Ok-each_row-clause-exported
@@ -90,7 +90,7 @@ returns-in-Ok-each_row-clause-exported g c =
     let list : c.ask.inside.list.now ≡ ask.list = search rules in
     let begun = subst (λ l. BeginsListWalk g.S.Store mid l walk) list c.in-Ok-each_row.ensures.begun in
     walk_ended g.S.Store old mid last walk new ask c.in-Ok.reader c.args.head.now (g.W.Sink.told c.args.out.now) (g.W.Sink.told c.write_walk.new.out) refl
-    c.in-Ok.ensures.found begun c.write_walk.ensures.ends.lasts (g.W.Sink.failures c.args.out.now) (g.W.Sink.failures c.write_walk.new.out) c.write_walk.result
+    c.in-Ok.ensures.found begun c.write_walk.ensures.ends.remains_open (g.W.Sink.failures c.args.out.now) (g.W.Sink.failures c.write_walk.new.out) c.write_walk.result
     c.write_walk.ensures.writer.cause c.write_walk.ensures.written
 
 pub returns-in-Ok-each_row-clause-stopped : goal.returns-in-Ok-each_row-clause-stopped
@@ -104,7 +104,7 @@ returns-in-Ok-each_row-clause-stopped g c =
     let list : c.ask.inside.list.now ≡ ask.list = search rules in
     let begun = subst (λ l. BeginsListWalk g.S.Store mid l walk) list c.in-Ok-each_row.ensures.begun in
     walk_leaves g.S.Store old mid last walk new ask c.in-Ok.reader c.args.head.now (g.W.Sink.told c.args.out.now) (g.W.Sink.told c.write_walk.new.out) refl
-    c.in-Ok.ensures.found begun c.write_walk.ensures.ends.lasts (g.W.Sink.failures c.args.out.now) (g.W.Sink.failures c.write_walk.new.out) c.write_walk.result
+    c.in-Ok.ensures.found begun c.write_walk.ensures.ends.remains_open (g.W.Sink.failures c.args.out.now) (g.W.Sink.failures c.write_walk.new.out) c.write_walk.result
     c.in-Ok.ensures.ends.was_open c.write_walk.ensures.written
 
 pub returns-in-Ok-each_row-clause-writer : goal.returns-in-Ok-each_row-clause-writer
@@ -118,7 +118,7 @@ returns-in-Ok-each_row-clause-writer g c =
     let list : c.ask.inside.list.now ≡ ask.list = search rules in
     let begun = subst (λ l. BeginsListWalk g.S.Store mid l walk) list c.in-Ok-each_row.ensures.begun in
     walk_tells g.S.Store old mid last walk new ask c.in-Ok.reader c.args.head.now (g.W.Sink.told c.args.out.now) (g.W.Sink.told c.write_walk.new.out) refl
-    c.in-Ok.ensures.found begun c.write_walk.ensures.ends.lasts (g.W.Sink.failures c.args.out.now) (g.W.Sink.failures c.write_walk.new.out) c.write_walk.result
+    c.in-Ok.ensures.found begun c.write_walk.ensures.ends.remains_open (g.W.Sink.failures c.args.out.now) (g.W.Sink.failures c.write_walk.new.out) c.write_walk.result
     c.write_walk.ensures.writer
 
 pub returns-in-Ok-each_row-clause-ends : goal.returns-in-Ok-each_row-clause-ends
@@ -133,4 +133,4 @@ returns-in-Ok-each_row-clause-ends g c =
     let begun = subst (λ l. BeginsListWalk g.S.Store mid l walk) list c.in-Ok-each_row.ensures.begun in
     let found = c.in-Ok.ensures.found in
     export_ends g.S.Store ask old mid last walk new refl (found.0, λ returned held. let there = found.1 returned held in (there.0, there.1.0)) begun
-    c.in-Ok.ensures.ends.counted.0 c.in-Ok.ensures.ends.was_open c.write_walk.result c.write_walk.ensures.ends
+    c.in-Ok.ensures.ends.refusals_counted.0 c.in-Ok.ensures.ends.was_open c.write_walk.result c.write_walk.ensures.ends

@@ -26,15 +26,15 @@ loop-walk-preserved g c =
     let so_far = c.loop-walk.invariant in
     let mid = (walk_over_store c.pass_withheld.new.store c.pass_withheld.new.walk) in
     let past = rows_past g.S.Store c.args.ask.now c.args.reader.now (walk_over_store c.args.store.now c.args.walk.now) (walk_over_store c.loop-walk.store c.loop-walk.walk) mid
-    (g.W.Sink.told c.args.out.now) (g.W.Sink.told c.loop-walk.out) c.args.count.now c.loop-walk.count c.loop-walk.invariant.2 c.pass_withheld.ensures.lasts.returned
+    (g.W.Sink.told c.args.out.now) (g.W.Sink.told c.loop-walk.out) c.args.count.now c.loop-walk.count c.loop-walk.invariant.2 c.pass_withheld.ensures.lasts.disk_was_clean
     c.in_ok-pass_withheld.ensures.passed in (
-      lasts_then _ _ _ (lasts_then _ _ _ so_far.0 c.pass_withheld.ensures.lasts) c.next.ensures.ends.lasts,
+      lasts_then _ _ _ (lasts_then _ _ _ so_far.0 c.pass_withheld.ensures.lasts) c.next.ensures.ends.remains_open,
       c.in-Ok.ensures.quiet ∙ so_far.1,
       rows_more g.S.Store c.args.ask.now c.args.reader.now (walk_over_store c.args.store.now c.args.walk.now) mid (walk_over_store c.next.new.store c.next.new.self) (g.W.Sink.told c.args.out.now)
-          (g.W.Sink.told c.loop-walk.out) c.args.count.now c.loop-walk.count past c.next.ensures.ends.lasts.returned c.in-Some.message
+          (g.W.Sink.told c.loop-walk.out) c.args.count.now c.loop-walk.count past c.next.ensures.ends.remains_open.disk_was_clean c.in-Some.message
           (λ returned all a given w. rw c.in-Some.is at (c.in_ok-message.ensures.given returned c.args.ask.now.list all a given w))
           (g.W.Sink.told c.write_shown.new.out) c.in-Ok.more c.saturating_add.result c.in-Ok.ensures.ok c.in-Ok.ensures.count c.saturating_add.ensures,
-      omega (arith, so_far.3, c.in_ok-pass_withheld.ensures.counted.0, c.in_ok-message.ensures.ends.counted.0),
+      omega (arith, so_far.3, c.in_ok-pass_withheld.ensures.counted.0, c.in_ok-message.ensures.ends.refusals_counted.0),
     )
 
 pub returns-in_err-message-clause-written : goal.returns-in_err-message-clause-written
@@ -43,13 +43,13 @@ returns-in_err-message-clause-written g c =
     let is : c.from_residual-in_err-message.result ≡ Err (desk_error_of fault) = search rules in
     let mid = (walk_over_store c.pass_withheld.new.store c.pass_withheld.new.walk) in
     let past = rows_past g.S.Store c.args.ask.now c.args.reader.now (walk_over_store c.args.store.now c.args.walk.now) (walk_over_store c.loop-walk.store c.loop-walk.walk) mid
-    (g.W.Sink.told c.args.out.now) (g.W.Sink.told c.loop-walk.out) c.args.count.now c.loop-walk.count c.loop-walk.invariant.2 c.pass_withheld.ensures.lasts.returned
+    (g.W.Sink.told c.args.out.now) (g.W.Sink.told c.loop-walk.out) c.args.count.now c.loop-walk.count c.loop-walk.invariant.2 c.pass_withheld.ensures.lasts.disk_was_clean
     c.in_ok-pass_withheld.ensures.passed in
     subst (λ r. WritesRows g.S.Store (walk_over_store c.args.store.now c.args.walk.now) (walk_over_store c.next.new.store c.next.new.self) c.args.ask.now c.args.reader.now
     (g.W.Sink.told c.args.out.now) (g.W.Sink.told c.loop-walk.out) c.args.count.now c.loop-walk.count r) (sym is)
     (rows_unread g.S.Store c.args.ask.now c.args.reader.now (walk_over_store c.args.store.now c.args.walk.now) mid (walk_over_store c.next.new.store c.next.new.self) (g.W.Sink.told c.args.out.now)
-    (g.W.Sink.told c.loop-walk.out) c.args.count.now c.loop-walk.count past c.next.ensures.ends.lasts.returned (desk_error_of fault)
-    (reasoned fault ∙ ap (option_map reason_of_refusal) c.in_err-message.ensures.ends.fault)
+    (g.W.Sink.told c.loop-walk.out) c.args.count.now c.loop-walk.count past c.next.ensures.ends.remains_open.disk_was_clean (desk_error_of fault)
+    (reasoned fault ∙ ap (option_map reason_of_refusal) c.in_err-message.ensures.ends.fault_is_no_refusal)
     (λ returned all a given w. c.in_err-message.ensures.given returned c.args.ask.now.list all a given w))
 
 pub returns-in_err-pass_withheld-clause-written : goal.returns-in_err-pass_withheld-clause-written
@@ -60,27 +60,27 @@ returns-in_err-pass_withheld-clause-written g c =
     (g.W.Sink.told c.args.out.now) (g.W.Sink.told c.loop-walk.out) c.args.count.now c.loop-walk.count r) (sym is)
     (rows_unpassed g.S.Store c.args.ask.now c.args.reader.now (walk_over_store c.args.store.now c.args.walk.now) (walk_over_store c.loop-walk.store c.loop-walk.walk)
     (walk_over_store c.pass_withheld.new.store c.pass_withheld.new.walk) (g.W.Sink.told c.args.out.now) (g.W.Sink.told c.loop-walk.out) c.args.count.now c.loop-walk.count
-    c.loop-walk.invariant.2 c.pass_withheld.ensures.lasts.returned (desk_error_of fault)
-    (reasoned fault ∙ ap (option_map reason_of_refusal) c.in_err-pass_withheld.ensures.passed.fault) fault c.in_err-pass_withheld.ensures.passed)
+    c.loop-walk.invariant.2 c.pass_withheld.ensures.lasts.disk_was_clean (desk_error_of fault)
+    (reasoned fault ∙ ap (option_map reason_of_refusal) c.in_err-pass_withheld.ensures.passed.fault_is_no_refusal) fault c.in_err-pass_withheld.ensures.passed)
 
 pub returns-in_default-clause-written : goal.returns-in_default-clause-written
 returns-in_default-clause-written g c =
     let mid = (walk_over_store c.pass_withheld.new.store c.pass_withheld.new.walk) in
     let past = rows_past g.S.Store c.args.ask.now c.args.reader.now (walk_over_store c.args.store.now c.args.walk.now) (walk_over_store c.loop-walk.store c.loop-walk.walk) mid
-    (g.W.Sink.told c.args.out.now) (g.W.Sink.told c.loop-walk.out) c.args.count.now c.loop-walk.count c.loop-walk.invariant.2 c.pass_withheld.ensures.lasts.returned
+    (g.W.Sink.told c.args.out.now) (g.W.Sink.told c.loop-walk.out) c.args.count.now c.loop-walk.count c.loop-walk.invariant.2 c.pass_withheld.ensures.lasts.disk_was_clean
     c.in_ok-pass_withheld.ensures.passed in
     rows_all g.S.Store c.args.ask.now c.args.reader.now (walk_over_store c.args.store.now c.args.walk.now) mid (walk_over_store c.next.new.store c.next.new.self) (g.W.Sink.told c.args.out.now)
-    (g.W.Sink.told c.loop-walk.out) c.args.count.now c.loop-walk.count past c.next.ensures.ends.lasts.returned
+    (g.W.Sink.told c.loop-walk.out) c.args.count.now c.loop-walk.count past c.next.ensures.ends.remains_open.disk_was_clean
     (λ returned all a given w. rw c.in_default.is at (c.in_ok-message.ensures.given returned c.args.ask.now.list all a given w))
 
 pub returns-in-Err-Write-clause-written : goal.returns-in-Err-Write-clause-written
 returns-in-Err-Write-clause-written g c =
     let mid = (walk_over_store c.pass_withheld.new.store c.pass_withheld.new.walk) in
     let past = rows_past g.S.Store c.args.ask.now c.args.reader.now (walk_over_store c.args.store.now c.args.walk.now) (walk_over_store c.loop-walk.store c.loop-walk.walk) mid
-    (g.W.Sink.told c.args.out.now) (g.W.Sink.told c.loop-walk.out) c.args.count.now c.loop-walk.count c.loop-walk.invariant.2 c.pass_withheld.ensures.lasts.returned
+    (g.W.Sink.told c.args.out.now) (g.W.Sink.told c.loop-walk.out) c.args.count.now c.loop-walk.count c.loop-walk.invariant.2 c.pass_withheld.ensures.lasts.disk_was_clean
     c.in_ok-pass_withheld.ensures.passed in
     rows_unwritten g.S.Store c.args.ask.now c.args.reader.now (walk_over_store c.args.store.now c.args.walk.now) mid (walk_over_store c.next.new.store c.next.new.self)
-    (g.W.Sink.told c.args.out.now) (g.W.Sink.told c.loop-walk.out) c.args.count.now c.loop-walk.count past c.next.ensures.ends.lasts.returned c.in-Some.message
+    (g.W.Sink.told c.args.out.now) (g.W.Sink.told c.loop-walk.out) c.args.count.now c.loop-walk.count past c.next.ensures.ends.remains_open.disk_was_clean c.in-Some.message
     (λ returned all a given w. rw c.in-Some.is at (c.in_ok-message.ensures.given returned c.args.ask.now.list all a given w))
     (g.W.Sink.told c.write_shown.new.out)
     c.in-Err-Write.written c.saturating_add-in-Err-Write.result Write (rw c.in-Err-Write.field-0-is at c.in-Err-Write.ensures.part)
@@ -90,13 +90,13 @@ pub returns-in-Err-Refused-clause-written : goal.returns-in-Err-Refused-clause-w
 returns-in-Err-Refused-clause-written g c =
     let mid = (walk_over_store c.pass_withheld.new.store c.pass_withheld.new.walk) in
     let past = rows_past g.S.Store c.args.ask.now c.args.reader.now (walk_over_store c.args.store.now c.args.walk.now) (walk_over_store c.loop-walk.store c.loop-walk.walk) mid
-    (g.W.Sink.told c.args.out.now) (g.W.Sink.told c.loop-walk.out) c.args.count.now c.loop-walk.count c.loop-walk.invariant.2 c.pass_withheld.ensures.lasts.returned
+    (g.W.Sink.told c.args.out.now) (g.W.Sink.told c.loop-walk.out) c.args.count.now c.loop-walk.count c.loop-walk.invariant.2 c.pass_withheld.ensures.lasts.disk_was_clean
     c.in_ok-pass_withheld.ensures.passed in
     rows_counted g.S.Store c.args.ask.now c.args.reader.now (walk_over_store c.args.store.now c.args.walk.now) (walk_over_store c.next.new.store c.next.new.self)
     (walk_over_store (record c.next.new.store { wants = c.increment.new.self }) c.next.new.self) (g.W.Sink.told c.args.out.now) (g.W.Sink.told c.write_shown.new.out)
     c.args.count.now c.loop-walk.count Memory (counts_one c.next.new.store c.next.new.self c.increment.new.self c.increment.ensures)
     (rows_refused g.S.Store c.args.ask.now c.args.reader.now (walk_over_store c.args.store.now c.args.walk.now) mid (walk_over_store c.next.new.store c.next.new.self) (g.W.Sink.told c.args.out.now)
-    (g.W.Sink.told c.loop-walk.out) c.args.count.now c.loop-walk.count past c.next.ensures.ends.lasts.returned c.in-Some.message
+    (g.W.Sink.told c.loop-walk.out) c.args.count.now c.loop-walk.count past c.next.ensures.ends.remains_open.disk_was_clean c.in-Some.message
     (λ returned all a given w. rw c.in-Some.is at (c.in_ok-message.ensures.given returned c.args.ask.now.list all a given w))
     (g.W.Sink.told c.write_shown.new.out)
     Memory (rw c.in-Err-Refused.field-0-is at c.in-Err-Refused.ensures.part))
@@ -105,13 +105,13 @@ pub returns-in-Err-Refused-clause-writer : goal.returns-in-Err-Refused-clause-wr
 returns-in-Err-Refused-clause-writer g c =
     let mid = (walk_over_store c.pass_withheld.new.store c.pass_withheld.new.walk) in
     let past = rows_past g.S.Store c.args.ask.now c.args.reader.now (walk_over_store c.args.store.now c.args.walk.now) (walk_over_store c.loop-walk.store c.loop-walk.walk) mid
-    (g.W.Sink.told c.args.out.now) (g.W.Sink.told c.loop-walk.out) c.args.count.now c.loop-walk.count c.loop-walk.invariant.2 c.pass_withheld.ensures.lasts.returned
+    (g.W.Sink.told c.args.out.now) (g.W.Sink.told c.loop-walk.out) c.args.count.now c.loop-walk.count c.loop-walk.invariant.2 c.pass_withheld.ensures.lasts.disk_was_clean
     c.in_ok-pass_withheld.ensures.passed in
     let why = rw c.in-Err-Refused.field-0-is at c.in-Err-Refused.ensures.cause in record {
-      quiet = tt;
+      no_failure_if_ok = tt;
       cause = rows_wanting g.S.Store c.args.ask.now c.args.reader.now (walk_over_store c.args.store.now c.args.walk.now) mid (walk_over_store c.next.new.store c.next.new.self)
           (g.W.Sink.told c.args.out.now) (g.W.Sink.told c.loop-walk.out) c.args.count.now c.loop-walk.count past
-          c.next.ensures.ends.lasts.returned (g.W.Sink.told c.write_shown.new.out) (g.W.Sink.failures c.args.out.now) (g.W.Sink.failures c.write_shown.new.out) why.0
+          c.next.ensures.ends.remains_open.disk_was_clean (g.W.Sink.told c.write_shown.new.out) (g.W.Sink.failures c.args.out.now) (g.W.Sink.failures c.write_shown.new.out) why.0
           (why.1 ∙ c.loop-walk.invariant.1);
     }
 
@@ -138,18 +138,18 @@ returns-in_err-message-clause-ends g c =
     let is : c.from_residual-in_err-message.result ≡ Err (desk_error_of fault) = search rules in
     let before = lasts_then _ _ _ so_far.0 c.pass_withheld.ensures.lasts in
     let past = rows_past g.S.Store c.args.ask.now c.args.reader.now (walk_over_store c.args.store.now c.args.walk.now) (walk_over_store c.loop-walk.store c.loop-walk.walk) mid
-    (g.W.Sink.told c.args.out.now) (g.W.Sink.told c.loop-walk.out) c.args.count.now c.loop-walk.count c.loop-walk.invariant.2 c.pass_withheld.ensures.lasts.returned
+    (g.W.Sink.told c.args.out.now) (g.W.Sink.told c.loop-walk.out) c.args.count.now c.loop-walk.count c.loop-walk.invariant.2 c.pass_withheld.ensures.lasts.disk_was_clean
     c.in_ok-pass_withheld.ensures.passed in
     subst (λ r. EndsWalk g.S.Store old new c.args.ask.now (λ fault. fault) r) (sym is)
-    (walk_stops g.S.Store c.args.ask.now (Unit {0}) old mid new before c.next.ensures.ends.lasts (omega (arith, so_far.3, c.in_ok-pass_withheld.ensures.counted.0)) fault
-    (next_cause g.S.Store c.args.ask.now old mid new (λ returned all a w. let so = past.walked returned all a w in (so.0, so.1)) before c.next.ensures.ends.lasts fault
-    c.in_err-message.ensures.caused) c.in_err-message.ensures.ends.counted)
+    (walk_stops g.S.Store c.args.ask.now (Unit {0}) old mid new before c.next.ensures.ends.remains_open (omega (arith, so_far.3, c.in_ok-pass_withheld.ensures.counted.0)) fault
+    (next_cause g.S.Store c.args.ask.now old mid new (λ returned all a w. let so = past.walked returned all a w in (so.0, so.1)) before c.next.ensures.ends.remains_open fault
+    c.in_err-message.ensures.caused) c.in_err-message.ensures.ends.refusals_counted)
 
 pub returns-in-Err-Refused-clause-ends : goal.returns-in-Err-Refused-clause-ends
 returns-in-Err-Refused-clause-ends g c =
     let so_far = c.loop-walk.invariant in
     walk_unheld g.S.Store c.args.ask.now (Unit {0}) (walk_over_store c.args.store.now c.args.walk.now) (walk_over_store c.pass_withheld.new.store c.pass_withheld.new.walk)
     (walk_over_store c.next.new.store c.next.new.self)
-    (lasts_then _ _ _ so_far.0 c.pass_withheld.ensures.lasts) c.next.ensures.ends.lasts (omega (arith, so_far.3, c.in_ok-pass_withheld.ensures.counted.0))
+    (lasts_then _ _ _ so_far.0 c.pass_withheld.ensures.lasts) c.next.ensures.ends.remains_open (omega (arith, so_far.3, c.in_ok-pass_withheld.ensures.counted.0))
     (walk_over_store (record c.next.new.store { wants = c.increment.new.self }) c.next.new.self) (counts_one c.next.new.store c.next.new.self c.increment.new.self c.increment.ensures)
-    c.in_ok-message.ensures.ends.counted.0
+    c.in_ok-message.ensures.ends.refusals_counted.0

@@ -16,11 +16,11 @@ use Rattle.archive_desk.proofs.importing.add_items.Goals as goal
 
 pub returns-in-Ok : goal.returns-in-Ok
 returns-in-Ok g c = record {
-  added = added_all g.S.Store c.args.store.now c.add_all.new.self c.args.list.now c.args.items.now c.add_all.ensures.ends.lasts c.in-Ok.counts _
+  added = added_all g.S.Store c.args.store.now c.add_all.new.self c.args.list.now c.args.items.now c.add_all.ensures.ends.remains_open c.in-Ok.counts _
       (search rules) c.in-Ok.ensures.step;
   crash = all_safe g.S.Store (store_connection c.args.store.now) (store_connection c.add_all.new.self) c.args.list.now c.args.items.now
       (λ db up may. g.met.S.Store.settled (store_connection c.add_all.new.self).store db up may) c.in-Ok.counts c.in-Ok.ensures.step c.in-Ok.ensures.crash;
-  ends = record { caused = tt; counted = (c.in-Ok.ensures.ends.counted.0, tt) };
+  ends = record { fault_has_cause = tt; refusals_counted = (c.in-Ok.ensures.ends.refusals_counted.0, tt) };
 }
 
 pub returns-in-Err : goal.returns-in-Err
@@ -30,7 +30,7 @@ returns-in-Err g c =
     let old = c.args.store.now in
     let new = c.add_all.new.self in
     record {
-      added = added_first g.S.Store old new list items c.add_all.ensures.ends.lasts c.in-Err.stop c.in-Err.ensures.bound c.in-Err.ensures.step;
+      added = added_first g.S.Store old new list items c.add_all.ensures.ends.remains_open c.in-Err.stop c.in-Err.ensures.bound c.in-Err.ensures.step;
       crash = stopped_crash g.S.Store old new list items c.in-Err.stop (record { done = c.in-Err.stop.done; fault = Stored c.in-Err.stop.fault }) refl c.in-Err.ensures.crash;
       ends = import_stopped g.S.Store (HoldsTables g.S.Store) IsImportStoreMemoryRefusal old new AddReport Report (λ a done db. RowsRefuseAnItem list (drop done items) db)
           (λ store held. held) wanted_by

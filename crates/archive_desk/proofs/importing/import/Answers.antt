@@ -28,7 +28,7 @@ returns-in-Ok g c =
       imports = imports;
       crash = import_crash g.S.Store store new list mbox c.add_items.result imports
           (some_imported g.S.Store store mid new list mbox found c.in_default.ensures.quiet items divided lasts c.add_items.result c.add_items.ensures.crash);
-      ends = import_ends_after g.S.Store (HoldsTables g.S.Store) IsImportStoreMemoryRefusal store mid new (IsThere g.S.Store list) found lasts c.in_default.ensures.ends.counted.0
+      ends = import_ends_after g.S.Store (HoldsTables g.S.Store) IsImportStoreMemoryRefusal store mid new (IsThere g.S.Store list) found lasts c.in_default.ensures.ends.refusals_counted.0
           (λ a done db. RowsRefuseAnItem list (drop done items) db) (λ a done db. RowsRefuseImportItem list mbox done db) (λ a b done db there stops. (items, divided, stops))
           c.add_items.result c.add_items.ensures.ends;
     }
@@ -49,14 +49,14 @@ returns-in-Err-Mbox-clause-ends g c =
     rw c.in-Err-Mbox.field-0-is
     (import_unbroken g.S.Store (HoldsTables g.S.Store) IsImportStoreMemoryRefusal c.args.store.now c.check_list_exists.new.store Report Report
     (λ a done db. RowsRefuseImportItem c.args.list.now c.args.mbox.now done db) 0
-    (Mbox c.in-Err-Mbox.fault) (record { done = 0; fault = Mbox c.in-Err-Mbox.fault }) (λ bad. absurd (cc)) refl (c.in_default.ensures.ends.counted.0, (λ it. absurd (cc))))
+    (Mbox c.in-Err-Mbox.fault) (record { done = 0; fault = Mbox c.in-Err-Mbox.fault }) (λ bad. absurd (cc)) refl (c.in_default.ensures.ends.refusals_counted.0, (λ it. absurd (cc))))
 
 pub returns-in-Err-Refused : goal.returns-in-Err-Refused
 returns-in-Err-Refused g c = record {
   imports = no_room_to_cut g.S.Store c.args.store.now c.check_list_exists.new.store c.args.list.now c.args.mbox.now c.in_default.ensures.found;
   crash = none_imported g.S.Store c.args.store.now c.check_list_exists.new.store c.args.list.now c.args.mbox.now (record { done = 0; fault = Stored Memory }) refl c.in_default.ensures.quiet;
   ends =
-      let grows = c.in_default.ensures.ends.counted.0 in
+      let grows = c.in_default.ensures.ends.refusals_counted.0 in
       import_unbroken g.S.Store (HoldsTables g.S.Store) IsImportStoreMemoryRefusal c.args.store.now _ Report Report
       (λ a done db. RowsRefuseImportItem c.args.list.now c.args.mbox.now done db) 0 (Stored Memory)
       (record { done = 0; fault = Stored Memory }) (λ bad. absurd (cc)) refl (omega (arith, grows, c.increment.ensures), (λ it. omega (arith, grows, c.increment.ensures)));

@@ -44,7 +44,7 @@ returns-in-Ok-each_selected-clause-held g c =
     let which : Archive → List Remembered = λ a. selected_messages a ask.list c.args.which.now in
     let list : c.ask.inside.list.now ≡ ask.list = search rules in
     let begun = subst (λ l. BeginsOver g.S.Store mid l (λ a. selected_messages a l c.args.which.now) walk) list c.in-Ok-each_selected.ensures.begun in
-    walk_ended (map summary_of) g.S.Store old mid ask which last walk new c.in-Ok.reader refl c.in-Ok.ensures.found begun c.walk_headers.ensures.ends.lasts
+    walk_ended (map summary_of) g.S.Store old mid ask which last walk new c.in-Ok.reader refl c.in-Ok.ensures.found begun c.walk_headers.ensures.ends.remains_open
     c.walk_headers.result c.walk_headers.ensures.fault c.walk_headers.ensures.listed
 
 pub returns-in-Err-clause-ends : goal.returns-in-Err-clause-ends
@@ -63,7 +63,7 @@ returns-clause-ends g c =
     let found = c.in-Ok.ensures.found in
     let Unread : _ = λ a. IsQuestionUnreadable a ask (selected_messages a ask.list c.args.which.now) in
     subst (λ f. EndsDeskQuestion g.S.Store old last IsAskFault {A = Vec MessageSummary Global} (Err f) Unread) (sym c.from.ensures)
-    (unbegun_ends g.S.Store old mid last (found.0, λ returned held. let there = found.1 returned held in (there.0, there.1.0)) c.in-Ok.ensures.ends.counted.0
+    (unbegun_ends g.S.Store old mid last (found.0, λ returned held. let there = found.1 returned held in (there.0, there.1.0)) c.in-Ok.ensures.ends.refusals_counted.0
     c.in-Ok.ensures.ends.was_open (Vec MessageSummary Global) c.ask.inside.list.now fault Unread c.in-Err-each_selected.ensures.refused c.in-Err-each_selected.ensures.kind)
 
 pub returns-in-Ok-each_selected-clause-ends : goal.returns-in-Ok-each_selected-clause-ends
@@ -79,4 +79,4 @@ returns-in-Ok-each_selected-clause-ends g c =
     let begun = subst (λ l. BeginsOver g.S.Store mid l (λ a. selected_messages a l c.args.which.now) walk) list c.in-Ok-each_selected.ensures.begun in
     let found = c.in-Ok.ensures.found in
     walk_ends g.S.Store ask which old mid last walk new refl (found.0, λ returned held. let there = found.1 returned held in (there.0, there.1.0)) begun
-    c.in-Ok.ensures.ends.counted.0 c.in-Ok.ensures.ends.was_open c.walk_headers.result c.walk_headers.ensures.fault c.walk_headers.ensures.ends
+    c.in-Ok.ensures.ends.refusals_counted.0 c.in-Ok.ensures.ends.was_open c.walk_headers.result c.walk_headers.ensures.fault c.walk_headers.ensures.ends

@@ -20,26 +20,26 @@ loop-headers-preserved g c =
     let so_far = c.loop-headers.invariant in
     let mid = (walk_over_store c.pass_withheld.new.store c.pass_withheld.new.walk) in
     let past = listed_past (map summary_of) (each_apart summary_of) c.args.ask.now c.args.reader.now g.S.Store (walk_over_store c.args.store.now c.args.walk.now)
-    (walk_over_store c.loop-headers.store c.loop-headers.walk) mid c.loop-headers.headers.items c.loop-headers.invariant.1 c.pass_withheld.ensures.lasts.returned refl
+    (walk_over_store c.loop-headers.store c.loop-headers.walk) mid c.loop-headers.headers.items c.loop-headers.invariant.1 c.pass_withheld.ensures.lasts.disk_was_clean refl
     c.in_ok-pass_withheld.ensures.passed in (
-      lasts_then _ _ _ (lasts_then _ _ _ so_far.0 c.pass_withheld.ensures.lasts) c.next.ensures.ends.lasts,
+      lasts_then _ _ _ (lasts_then _ _ _ so_far.0 c.pass_withheld.ensures.lasts) c.next.ensures.ends.remains_open,
       listed_more (map summary_of) (each_apart summary_of) c.args.ask.now c.args.reader.now g.S.Store (walk_over_store c.args.store.now c.args.walk.now) mid
-          (walk_over_store c.next.new.store c.next.new.self) c.loop-headers.headers.items past c.next.ensures.ends.lasts.returned c.in-Some.message c.push_header.new.headers.items
+          (walk_over_store c.next.new.store c.next.new.self) c.loop-headers.headers.items past c.next.ensures.ends.remains_open.disk_was_clean c.in-Some.message c.push_header.new.headers.items
           (λ returned all a given w. rw c.in-Some.is at (c.in_ok-message.ensures.given returned c.args.ask.now.list all a given w)) c.in-Ok.ensures,
-      omega (arith, so_far.2, c.in_ok-pass_withheld.ensures.counted.0, c.in_ok-message.ensures.ends.counted.0),
+      omega (arith, so_far.2, c.in_ok-pass_withheld.ensures.counted.0, c.in_ok-message.ensures.ends.refusals_counted.0),
     )
 
 pub returns-in-Err-clause-listed : goal.returns-in-Err-clause-listed
 returns-in-Err-clause-listed g c =
     let mid = (walk_over_store c.pass_withheld.new.store c.pass_withheld.new.walk) in
     let past = listed_past (map summary_of) (each_apart summary_of) c.args.ask.now c.args.reader.now g.S.Store (walk_over_store c.args.store.now c.args.walk.now)
-    (walk_over_store c.loop-headers.store c.loop-headers.walk) mid c.loop-headers.headers.items c.loop-headers.invariant.1 c.pass_withheld.ensures.lasts.returned refl
+    (walk_over_store c.loop-headers.store c.loop-headers.walk) mid c.loop-headers.headers.items c.loop-headers.invariant.1 c.pass_withheld.ensures.lasts.disk_was_clean refl
     c.in_ok-pass_withheld.ensures.passed in
     listed_counted (map summary_of) (each_apart summary_of) c.args.ask.now c.args.reader.now g.S.Store (walk_over_store c.args.store.now c.args.walk.now)
     (walk_over_store c.next.new.store c.next.new.self) (walk_over_store (record c.next.new.store { wants = c.increment.new.self }) c.next.new.self) Memory
     (counts_one c.next.new.store c.next.new.self c.increment.new.self c.increment.ensures)
     (listed_no_more (map summary_of) (each_apart summary_of) c.args.ask.now c.args.reader.now g.S.Store (walk_over_store c.args.store.now c.args.walk.now) mid
-    (walk_over_store c.next.new.store c.next.new.self) c.loop-headers.headers.items past c.next.ensures.ends.lasts.returned c.in-Some.message Memory refl
+    (walk_over_store c.next.new.store c.next.new.self) c.loop-headers.headers.items past c.next.ensures.ends.remains_open.disk_was_clean c.in-Some.message Memory refl
     (λ returned all a given w. rw c.in-Some.is at (c.in_ok-message.ensures.given returned c.args.ask.now.list all a given w)))
 
 pub returns-in_err-message-clause-listed : goal.returns-in_err-message-clause-listed
@@ -48,12 +48,12 @@ returns-in_err-message-clause-listed g c =
     let is : c.from_residual-in_err-message.result ≡ Err (desk_error_of fault) = search rules in
     let mid = (walk_over_store c.pass_withheld.new.store c.pass_withheld.new.walk) in
     let past = listed_past (map summary_of) (each_apart summary_of) c.args.ask.now c.args.reader.now g.S.Store (walk_over_store c.args.store.now c.args.walk.now)
-    (walk_over_store c.loop-headers.store c.loop-headers.walk) mid c.loop-headers.headers.items c.loop-headers.invariant.1 c.pass_withheld.ensures.lasts.returned refl
+    (walk_over_store c.loop-headers.store c.loop-headers.walk) mid c.loop-headers.headers.items c.loop-headers.invariant.1 c.pass_withheld.ensures.lasts.disk_was_clean refl
     c.in_ok-pass_withheld.ensures.passed in
     subst (λ r. ListsRows g.S.Store (walk_over_store c.args.store.now c.args.walk.now) (walk_over_store c.next.new.store c.next.new.self) c.args.ask.now c.args.reader.now (map summary_of) r) (sym is)
     (listed_unread (map summary_of) (each_apart summary_of) c.args.ask.now c.args.reader.now g.S.Store (walk_over_store c.args.store.now c.args.walk.now) mid
-    (walk_over_store c.next.new.store c.next.new.self) c.loop-headers.headers.items past c.next.ensures.ends.lasts.returned (desk_error_of fault)
-    (reasoned fault ∙ ap (option_map reason_of_refusal) c.in_err-message.ensures.ends.fault)
+    (walk_over_store c.next.new.store c.next.new.self) c.loop-headers.headers.items past c.next.ensures.ends.remains_open.disk_was_clean (desk_error_of fault)
+    (reasoned fault ∙ ap (option_map reason_of_refusal) c.in_err-message.ensures.ends.fault_is_no_refusal)
     (λ returned all a given w. c.in_err-message.ensures.given returned c.args.ask.now.list all a given w))
 
 pub returns-in_err-pass_withheld-clause-listed : goal.returns-in_err-pass_withheld-clause-listed
@@ -64,17 +64,17 @@ returns-in_err-pass_withheld-clause-listed g c =
     (map summary_of) r) (sym is)
     (listed_unpassed (map summary_of) (each_apart summary_of) c.args.ask.now c.args.reader.now g.S.Store (walk_over_store c.args.store.now c.args.walk.now)
     (walk_over_store c.loop-headers.store c.loop-headers.walk) (walk_over_store c.pass_withheld.new.store c.pass_withheld.new.walk) c.loop-headers.headers.items c.loop-headers.invariant.1
-    c.pass_withheld.ensures.lasts.returned (desk_error_of fault)
-    (reasoned fault ∙ ap (option_map reason_of_refusal) c.in_err-pass_withheld.ensures.passed.fault) fault c.in_err-pass_withheld.ensures.passed)
+    c.pass_withheld.ensures.lasts.disk_was_clean (desk_error_of fault)
+    (reasoned fault ∙ ap (option_map reason_of_refusal) c.in_err-pass_withheld.ensures.passed.fault_is_no_refusal) fault c.in_err-pass_withheld.ensures.passed)
 
 pub returns-in_default-clause-listed : goal.returns-in_default-clause-listed
 returns-in_default-clause-listed g c =
     let mid = (walk_over_store c.pass_withheld.new.store c.pass_withheld.new.walk) in
     let past = listed_past (map summary_of) (each_apart summary_of) c.args.ask.now c.args.reader.now g.S.Store (walk_over_store c.args.store.now c.args.walk.now)
-    (walk_over_store c.loop-headers.store c.loop-headers.walk) mid c.loop-headers.headers.items c.loop-headers.invariant.1 c.pass_withheld.ensures.lasts.returned refl
+    (walk_over_store c.loop-headers.store c.loop-headers.walk) mid c.loop-headers.headers.items c.loop-headers.invariant.1 c.pass_withheld.ensures.lasts.disk_was_clean refl
     c.in_ok-pass_withheld.ensures.passed in
     listed_all (map summary_of) (each_apart summary_of) c.args.ask.now c.args.reader.now g.S.Store (walk_over_store c.args.store.now c.args.walk.now) mid
-    (walk_over_store c.next.new.store c.next.new.self) c.loop-headers.headers.items past c.next.ensures.ends.lasts.returned c.loop-headers.headers refl
+    (walk_over_store c.next.new.store c.next.new.self) c.loop-headers.headers.items past c.next.ensures.ends.remains_open.disk_was_clean c.loop-headers.headers refl
     (λ returned all a given w. rw c.in_default.is at (c.in_ok-message.ensures.given returned c.args.ask.now.list all a given w))
 
 pub returns-in_err-pass_withheld-clause-ends : goal.returns-in_err-pass_withheld-clause-ends
@@ -100,18 +100,18 @@ returns-in_err-message-clause-ends g c =
     let is : c.from_residual-in_err-message.result ≡ Err (desk_error_of fault) = search rules in
     let before = lasts_then _ _ _ so_far.0 c.pass_withheld.ensures.lasts in
     let past = listed_past (map summary_of) (each_apart summary_of) c.args.ask.now c.args.reader.now g.S.Store (walk_over_store c.args.store.now c.args.walk.now)
-    (walk_over_store c.loop-headers.store c.loop-headers.walk) mid c.loop-headers.headers.items c.loop-headers.invariant.1 c.pass_withheld.ensures.lasts.returned refl
+    (walk_over_store c.loop-headers.store c.loop-headers.walk) mid c.loop-headers.headers.items c.loop-headers.invariant.1 c.pass_withheld.ensures.lasts.disk_was_clean refl
     c.in_ok-pass_withheld.ensures.passed in
     subst (λ r. EndsWalk g.S.Store old new c.args.ask.now (λ fault. fault) r) (sym is)
-    (walk_stops g.S.Store c.args.ask.now (Vec MessageSummary Global) old mid new before c.next.ensures.ends.lasts (omega (arith, so_far.2, c.in_ok-pass_withheld.ensures.counted.0)) fault
-    (next_cause g.S.Store c.args.ask.now old mid new (λ returned all a w. let so = past returned all a w in (so.0, so.1)) before c.next.ensures.ends.lasts fault
-    c.in_err-message.ensures.caused) c.in_err-message.ensures.ends.counted)
+    (walk_stops g.S.Store c.args.ask.now (Vec MessageSummary Global) old mid new before c.next.ensures.ends.remains_open (omega (arith, so_far.2, c.in_ok-pass_withheld.ensures.counted.0)) fault
+    (next_cause g.S.Store c.args.ask.now old mid new (λ returned all a w. let so = past returned all a w in (so.0, so.1)) before c.next.ensures.ends.remains_open fault
+    c.in_err-message.ensures.caused) c.in_err-message.ensures.ends.refusals_counted)
 
 pub returns-in-Err-clause-ends : goal.returns-in-Err-clause-ends
 returns-in-Err-clause-ends g c =
     let so_far = c.loop-headers.invariant in
     walk_unheld g.S.Store c.args.ask.now (Vec MessageSummary Global) (walk_over_store c.args.store.now c.args.walk.now) (walk_over_store c.pass_withheld.new.store c.pass_withheld.new.walk)
     (walk_over_store c.next.new.store c.next.new.self)
-    (lasts_then _ _ _ so_far.0 c.pass_withheld.ensures.lasts) c.next.ensures.ends.lasts (omega (arith, so_far.2, c.in_ok-pass_withheld.ensures.counted.0))
+    (lasts_then _ _ _ so_far.0 c.pass_withheld.ensures.lasts) c.next.ensures.ends.remains_open (omega (arith, so_far.2, c.in_ok-pass_withheld.ensures.counted.0))
     (walk_over_store (record c.next.new.store { wants = c.increment.new.self }) c.next.new.self) (counts_one c.next.new.store c.next.new.self c.increment.new.self c.increment.ensures)
-    c.in_ok-message.ensures.ends.counted.0
+    c.in_ok-message.ensures.ends.refusals_counted.0

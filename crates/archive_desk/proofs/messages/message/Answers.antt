@@ -37,7 +37,7 @@ returns-in-Ok-clause-ends g c =
     let last = asks_last g.S.Store (HoldsTables g.S.Store) mid new refusal_reason (λ a. standing_reason a ask)
     (λ a answer. spec_asked answer ≡ asked_of_message ask (reader_facts a ask) (option_map (archived_message ask.list) c.in-Ok.held)) c.answer_on.result c.answer_on.ensures.asked in
     ask_after g.S.Store old mid new (c.in-Ok.ensures.held.0, λ returned held. let there = c.in-Ok.ensures.held.1 returned held in (there.0, there.1.0)) last
-    c.in-Ok.ensures.ends.counted.0 IsAskFault c.answer_on.result (λ a. IsReaderUnreadable a ask) (λ a. IsMessageUnreadable a ask c.args.key.now ⊎ IsReaderUnreadable a ask)
+    c.in-Ok.ensures.ends.refusals_counted.0 IsAskFault c.answer_on.result (λ a. IsReaderUnreadable a ask) (λ a. IsMessageUnreadable a ask c.args.key.now ⊎ IsReaderUnreadable a ask)
     (λ a bad. inr bad) c.answer_on.ensures.ends c.in-Ok.ensures.ends.was_open
 
 pub returns-in-Err-clause-ends : goal.returns-in-Err-clause-ends

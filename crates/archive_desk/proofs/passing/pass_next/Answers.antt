@@ -23,12 +23,12 @@ returns-in_err-marks-clause-caused g c = λ returned all a given w free.
 pub returns-in_default-clause-passed : goal.returns-in_default-clause-passed
 returns-in_default-clause-passed g c =
     none_passed g.S.Store c.args.ask.now c.args.reader.now (walk_over_store c.args.store.now c.args.walk.now) (walk_over_store c.peek_marks.new.store c.args.walk.now)
-    (λ returned all a given w. (c.in_ok-marks.ensures.shown.given returned c.args.ask.now.list all a given w).0) (omega (arith, c.in_ok-marks.ensures.shown.left))
+    (λ returned all a given w. (c.in_ok-marks.ensures.shown.gives_next_marks returned c.args.ask.now.list all a given w).0) (omega (arith, c.in_ok-marks.ensures.shown.remaining_is_same))
 
 pub returns-then-not-is_withheld-clause-passed : goal.returns-then-not-is_withheld-clause-passed
 returns-then-not-is_withheld-clause-passed g c =
     none_passed g.S.Store c.args.ask.now c.args.reader.now (walk_over_store c.args.store.now c.args.walk.now) (walk_over_store c.peek_marks.new.store c.args.walk.now)
-    (λ returned all a given w. (c.in_ok-marks.ensures.shown.given returned c.args.ask.now.list all a given w).0) (omega (arith, c.in_ok-marks.ensures.shown.left))
+    (λ returned all a given w. (c.in_ok-marks.ensures.shown.gives_next_marks returned c.args.ask.now.list all a given w).0) (omega (arith, c.in_ok-marks.ensures.shown.remaining_is_same))
 
 pub returns-clause-passed : goal.returns-clause-passed
 returns-clause-passed g c =

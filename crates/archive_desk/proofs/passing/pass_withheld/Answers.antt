@@ -20,30 +20,30 @@ pub loop-preserved : goal.loop-preserved
 loop-preserved g c = (
   lasts_then _ _ _ c.loop.invariant.0 c.pass_next.ensures.lasts,
   passed_further g.S.Store c.args.ask.now c.args.reader.now (walk_over_store c.args.store.now c.args.walk.now) (walk_over_store c.loop.store c.loop.walk)
-      (walk_over_store c.pass_next.new.store c.pass_next.new.walk) c.in_ok-pass_next.field-0 c.loop.invariant.1 c.pass_next.ensures.lasts.returned
-      c.in_ok-pass_next.ensures.passed.passes,
-  omega (arith, c.loop.invariant.2, c.in_ok-pass_next.ensures.passed.passes.left),
+      (walk_over_store c.pass_next.new.store c.pass_next.new.walk) c.in_ok-pass_next.field-0 c.loop.invariant.1 c.pass_next.ensures.lasts.disk_was_clean
+      c.in_ok-pass_next.ensures.passed.skips_withheld,
+  omega (arith, c.loop.invariant.2, c.in_ok-pass_next.ensures.passed.skips_withheld.remaining_never_grows),
   omega (arith, c.loop.invariant.3, c.in_ok-pass_next.ensures.counted.0),
 )
 
 pub returns-clause-passed : goal.returns-clause-passed
 returns-clause-passed g c = record {
-  passed = passed_further g.S.Store c.args.ask.now c.args.reader.now (walk_over_store c.args.store.now c.args.walk.now) (walk_over_store c.loop.store c.loop.walk)
-      (walk_over_store c.pass_next.new.store c.pass_next.new.walk) c.in_ok-pass_next.field-0 c.loop.invariant.1 c.pass_next.ensures.lasts.returned
-      c.in_ok-pass_next.ensures.passed.passes;
-  left = omega (arith, c.loop.invariant.2, c.in_ok-pass_next.ensures.passed.passes.left);
-  fault = tt;
+  skips_withheld = passed_further g.S.Store c.args.ask.now c.args.reader.now (walk_over_store c.args.store.now c.args.walk.now) (walk_over_store c.loop.store c.loop.walk)
+      (walk_over_store c.pass_next.new.store c.pass_next.new.walk) c.in_ok-pass_next.field-0 c.loop.invariant.1 c.pass_next.ensures.lasts.disk_was_clean
+      c.in_ok-pass_next.ensures.passed.skips_withheld;
+  remaining_never_grows = omega (arith, c.loop.invariant.2, c.in_ok-pass_next.ensures.passed.skips_withheld.remaining_never_grows);
+  fault_is_no_refusal = tt;
 }
 
 pub returns-in_err-pass_next-clause-passed : goal.returns-in_err-pass_next-clause-passed
 returns-in_err-pass_next-clause-passed g c =
     stopped_further g.S.Store c.args.ask.now c.args.reader.now (walk_over_store c.args.store.now c.args.walk.now) (walk_over_store c.loop.store c.loop.walk)
     (walk_over_store c.pass_next.new.store c.pass_next.new.walk) c.in_err-pass_next.field-0.0 c.from_residual.result c.from_residual.ensures.1
-    c.loop.invariant.1 c.pass_next.ensures.lasts.returned c.loop.invariant.2 c.in_err-pass_next.ensures.passed.passes
+    c.loop.invariant.1 c.pass_next.ensures.lasts.disk_was_clean c.loop.invariant.2 c.in_err-pass_next.ensures.passed.skips_withheld
 
 pub returns-in_err-pass_next-clause-caused : goal.returns-in_err-pass_next-clause-caused
 returns-in_err-pass_next-clause-caused g c = λ returned all a given w free.
-    let it = c.loop.invariant.1 (c.pass_next.ensures.lasts.returned returned) all a given w in
+    let it = c.loop.invariant.1 (c.pass_next.ensures.lasts.disk_was_clean returned) all a given w in
     passed_on c.from_residual.result c.in_err-pass_next.field-0.0 _ c.from_residual.ensures.1
     (λ bad. failed_since (state g.S.Store (store_connection c.args.store.now)) (state g.S.Store (store_connection c.loop.store)) (state g.S.Store (store_connection c.pass_next.new.store)) _
-    c.loop.invariant.0 (c.in_err-pass_next.ensures.caused returned all a (given ++ it.0) it.1 (c.loop.invariant.0.limit ∙ free) bad))
+    c.loop.invariant.0 (c.in_err-pass_next.ensures.caused returned all a (given ++ it.0) it.1 (c.loop.invariant.0.step_limit_is_same ∙ free) bad))

@@ -18,18 +18,18 @@ returns-in_err-address-clause-found g c =
     let is : c.from_residual.result ≡ Err (desk_error_of fault) = search rules in
     subst (λ r. AnswersFromStoreUnder g.S.Store (HoldsTables g.S.Store) old new refusal_reason r (λ a. person_reason a name)
     (λ a address. option_map string_bytes address ≡ address_of a name)) (sym is)
-    (store_declines g.S.Store old new (λ a. person_refusal a name) (λ a (x : Unit {0}). ⊤) fault (λ a (x : Unit {0}). ⊤) c.in_err-address.ensures.ends.lasts c.in_err-address.ensures.answer)
+    (store_declines g.S.Store old new (λ a. person_refusal a name) (λ a (x : Unit {0}). ⊤) fault (λ a (x : Unit {0}). ⊤) c.in_err-address.ensures.ends.remains_open c.in_err-address.ensures.answer)
 
 pub returns-in_err-address-clause-ends : goal.returns-in_err-address-clause-ends
 returns-in_err-address-clause-ends g c = record {
-  fault = search rules;
-  caused =
+  fault_is_expected = search rules;
+  fault_has_cause =
       let old = c.args.store.now in
       let new = c.address.new.self in
       let name = c.args.name.now in
       let fault = c.in_err-address.field-0.0 in
       let is : c.from_residual.result ≡ Err (desk_error_of fault) = search rules in
       subst (λ r. DeskFaultMeansDiskFailedOr g.S.Store old new r (λ a. IsAddressUnreadable a name)) (sym is)
-      (store_cause g.S.Store old new fault (λ a. IsAddressUnreadable a name) c.in_err-address.ensures.ends.caused);
-  counted = search rules;
+      (store_cause g.S.Store old new fault (λ a. IsAddressUnreadable a name) c.in_err-address.ensures.ends.fault_has_cause);
+  refusals_counted = search rules;
 }

@@ -23,14 +23,14 @@ returns-in_err-standing-clause-found g c =
     let list : c.ask.inside.list.now ≡ ask.list = search rules in
     let is : c.from_residual.result ≡ Err (desk_error_of fault) = search rules in
     subst (λ r. AnswersFromStoreUnder g.S.Store (HoldsTables g.S.Store) old new refusal_reason r (λ a. option_map reason_of_refusal (standing_refusal a name ask.list)) Says) (sym is)
-    (store_declines g.S.Store old new (λ a. standing_refusal a name ask.list) Says fault (λ a (standing : Standing). ⊤) c.in_err-standing.ensures.ends.lasts
+    (store_declines g.S.Store old new (λ a. standing_refusal a name ask.list) Says fault (λ a (standing : Standing). ⊤) c.in_err-standing.ensures.ends.remains_open
     (subst (λ l. AnswersStoreQuestion g.S.Store (store_connection old) (store_connection new) {A = Standing} (Err fault) (λ a. standing_refusal a name l) (λ a s. ⊤)) list
     c.in_err-standing.ensures.answer))
 
 pub returns-in_err-standing-clause-ends : goal.returns-in_err-standing-clause-ends
 returns-in_err-standing-clause-ends g c = record {
-  fault = search rules;
-  caused =
+  fault_is_expected = search rules;
+  fault_has_cause =
       let ask = c.args.ask.now in
       let old = c.args.store.now in
       let new = c.standing.new.self in
@@ -43,6 +43,6 @@ returns-in_err-standing-clause-ends g c = record {
       (store_cause g.S.Store old new fault (λ a. IsRankUnknown a ask name)
       (subst (λ l. StoreCausedOr g.S.Store old new {A = Standing} (Err fault) (λ a. IsRankUnknown a (record ask { list = l }) name)) list
       (subst (λ d. StoreCausedOr g.S.Store old new {A = Standing} (Err fault) (λ a. IsRankUnknown a (record ask { list = c.ask.inside.list.now; day = d }) name)) day
-      c.in_err-standing.ensures.ends.caused)));
-  counted = search rules;
+      c.in_err-standing.ensures.ends.fault_has_cause)));
+  refusals_counted = search rules;
 }

@@ -57,6 +57,6 @@ returns-in-Err-find_address-clause-ends g c =
     (λ a address. option_map (string_bytes {Z = Global}) address ≡ address_of a name)
     (Err fault) c.in-Err-find_address.ensures.found in
     ends_after g.S.Store old mid new (c.in-Ok.ensures.found.0, λ returned held. let there = c.in-Ok.ensures.found.1 returned held in (there.0, there.1.0)) last
-    c.in-Ok.ensures.ends.counted.0 IsAskFault {A = ReaderFacts} (Err fault) (λ a. IsAddressUnreadable a name) (λ a. IsPersonUnreadable a ask name) (λ a bad. inr (own, bad))
+    c.in-Ok.ensures.ends.refusals_counted.0 IsAskFault {A = ReaderFacts} (Err fault) (λ a. IsAddressUnreadable a name) (λ a. IsPersonUnreadable a ask name) (λ a bad. inr (own, bad))
     (stops_as g.S.Store mid new IsAskFault _ ReaderFacts fault (λ a. IsAddressUnreadable a name) (λ a. IsAddressUnreadable a name) (λ a bad. bad)
     c.in-Err-find_address.ensures.ends)

@@ -44,7 +44,7 @@ returns-in-Ok-clause-ends g c =
     let last = asks_last g.S.Store (HoldsTables g.S.Store) mid new refusal_reason (λ a. standing_reason a ask) (λ a reader. DeterminesVerdicts a ask reader) c.find_marks.result
     c.find_marks.ensures.found in
     ask_after g.S.Store old mid new (c.in-Ok.ensures.found.0, λ returned held. let there = c.in-Ok.ensures.found.1 returned held in (there.0, there.1.0)) last
-    c.in-Ok.ensures.ends.counted.0 IsAskFault c.find_marks.result Unread Unread (λ a bad. bad) c.find_marks.ensures.ends c.in-Ok.ensures.was_open
+    c.in-Ok.ensures.ends.refusals_counted.0 IsAskFault c.find_marks.result Unread Unread (λ a bad. bad) c.find_marks.ensures.ends c.in-Ok.ensures.was_open
 
 pub returns-in-Err-clause-ends : goal.returns-in-Err-clause-ends
 returns-in-Err-clause-ends g c =

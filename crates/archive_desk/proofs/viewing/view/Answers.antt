@@ -71,5 +71,5 @@ returns-in-Err-find_marks-clause-ends g c =
     let last = asks_last g.S.Store (HoldsTables g.S.Store) mid new refusal_reason (λ a. standing_reason a ask) (λ a reader. DeterminesVerdicts a ask reader)
     (Err fault) c.in-Err-find_marks.ensures.found in
     ends_after g.S.Store old mid new (c.in-Ok.ensures.held.0, λ returned held. let there = c.in-Ok.ensures.held.1 returned held in (there.0, there.1.0)) last
-    c.in-Ok.ensures.ends.counted.0 IsAskFault {A = Vec Message Global} (Err fault) Unread (λ a. IsQuestionUnreadable a ask (messages_in a ask.list)) (λ a bad. inr bad)
+    c.in-Ok.ensures.ends.refusals_counted.0 IsAskFault {A = Vec Message Global} (Err fault) Unread (λ a. IsQuestionUnreadable a ask (messages_in a ask.list)) (λ a bad. inr bad)
     (stops_as g.S.Store mid new IsAskFault ReaderFacts (Vec Message Global) fault Unread Unread (λ a bad. bad) c.in-Err-find_marks.ensures.ends)

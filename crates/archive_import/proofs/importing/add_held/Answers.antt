@@ -19,14 +19,15 @@ use Rattle.archive_import.proofs.importing.add_held.Goals as goal
 
 pub returns-in-Ok-add_owned-clause-adds : goal.returns-in-Ok-add_owned-clause-adds
 returns-in-Ok-add_owned-clause-adds g c =
-    held_added g.S.Store c.args.store.now c.add_owned.new.store c.args.list.now c.args.intake.now c.count.new.self c.in-Ok-add_owned.counts c.in-Ok-add_owned.ensures.ends.lasts
+    held_added g.S.Store c.args.store.now c.add_owned.new.store c.args.list.now c.args.intake.now c.count.new.self c.in-Ok-add_owned.counts c.in-Ok-add_owned.ensures.ends.remains_open
     (subst (λ is. AddsAllMessages g.S.Store (store_connection c.args.store.now) (store_connection c.add_owned.new.store) (Ok c.in-Ok-add_owned.counts) c.args.list.now is) c.held.ensures
     c.in-Ok-add_owned.ensures.step)
     c.count.ensures.held c.count.ensures.done c.count.ensures.report
 
 pub returns-in-Err-add_owned-clause-adds : goal.returns-in-Err-add_owned-clause-adds
 returns-in-Err-add_owned-clause-adds g c =
-    add_stopped g.S.Store c.args.store.now c.add_owned.new.store c.args.list.now c.args.intake.now c.in-Err-add_owned.stop c.stop_amid.result c.stop_amid.ensures c.in-Err-add_owned.ensures.ends.lasts
+    add_stopped g.S.Store c.args.store.now c.add_owned.new.store c.args.list.now c.args.intake.now c.in-Err-add_owned.stop c.stop_amid.result c.stop_amid.ensures
+    c.in-Err-add_owned.ensures.ends.remains_open
     (subst (λ is. AddsAllMessages g.S.Store (store_connection c.args.store.now) (store_connection c.add_owned.new.store) (Err c.in-Err-add_owned.stop) c.args.list.now is) c.held.ensures
     c.in-Err-add_owned.ensures.step)
     (subst (λ is. c.in-Err-add_owned.stop.done ≤ length is) c.held.ensures c.in-Err-add_owned.ensures.tells)
@@ -40,7 +41,7 @@ returns-in-Err-clause-ends g c =
     (omega (arith, c.increment.ensures), (λ want. omega (arith, c.increment.ensures)))
 
 pub returns-in-Ok-add_owned-clause-ends : goal.returns-in-Ok-add_owned-clause-ends
-returns-in-Ok-add_owned-clause-ends g c = record { caused = tt; counted = (c.in-Ok-add_owned.ensures.ends.counted.0, tt) }
+returns-in-Ok-add_owned-clause-ends g c = record { fault_has_cause = tt; refusals_counted = (c.in-Ok-add_owned.ensures.ends.refusals_counted.0, tt) }
 
 pub returns-in-Err-add_owned-clause-ends : goal.returns-in-Err-add_owned-clause-ends
 returns-in-Err-add_owned-clause-ends g c =

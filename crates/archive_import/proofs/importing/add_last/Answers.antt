@@ -13,9 +13,10 @@ returns-in-Err-clause-adds g c =
     let intake = c.args.intake.now in
     let store = c.args.store.now in
     end_stopped g.S.Store store store c.args.list.now cutter.taken cutter.taken intake intake (begun_none g.S.Store store c.args.list.now cutter.taken cutter.taken intake refl)
-    cutter.stream cutter.stream [] 1 (settled_taken cutter c.requires.given c.requires.goes_on c.requires.none) (sym (append-nil _)) c.in-Err.fault c.stop_uncut.result c.stop_uncut.ensures.stop
+    cutter.stream cutter.stream [] 1 (settled_taken cutter c.requires.is_consistent c.requires.phase_is_running c.requires.none_waiting)
+    (sym (append-nil _)) c.in-Err.fault c.stop_uncut.result c.stop_uncut.ensures.stop
     (subst (λ s. IsEndFault s c.in-Err.fault) c.finish.ensures.stream c.in-Err.ensures.fault.0)
-    (λ h. c.finish.ensures.closed.0 (c.in-Err.is ∙ ap Err h) c.requires.goes_on)
+    (λ h. c.finish.ensures.closed.0 (c.in-Err.is ∙ ap Err h) c.requires.phase_is_running)
 
 pub returns-in-Ok-add_waiting-clause-adds : goal.returns-in-Ok-add_waiting-clause-adds
 returns-in-Ok-add_waiting-clause-adds g c =
@@ -60,7 +61,7 @@ returns-in-Ok-add_waiting-clause-ends g c =
     let mid = c.add_waiting.new.store in
     last_ends g.S.Store store mid list cutter.taken (cutter.taken ++ ended.waiting) intake c.add_waiting.new.intake
     (begun_more g.S.Store store store mid list cutter.taken cutter.taken intake intake (begun_none g.S.Store store list cutter.taken cutter.taken intake refl)
-    c.add_waiting.new.intake ended.waiting (cutter.taken ++ ended.waiting) refl c.in-Ok-add_waiting.ensures.adds) c.in-Ok-add_waiting.ensures.ends.counted.0
+    c.add_waiting.new.intake ended.waiting (cutter.taken ++ ended.waiting) refl c.in-Ok-add_waiting.ensures.adds) c.in-Ok-add_waiting.ensures.ends.refusals_counted.0
     c.add_held.new.store (amid_lasts g.S.Store mid c.add_held.new.store list c.add_waiting.new.intake (λ b d _. Keeps list c.add_waiting.new.intake c.add_held.new.intake b d)
     c.add_held.result c.add_held.ensures.adds) cutter.stream 1 c.add_held.result
     (inr (refl, ended_divides cutter ended c.finish.ensures.given c.in-Ok.ensures.finished c.finish.ensures.stream c.finish.ensures.taken)) c.add_held.ensures.ends
@@ -87,7 +88,7 @@ returns-in-Err-clause-crash g c =
     let store = c.args.store.now in
     read_crash g.S.Store store store c.args.list.now cutter.taken cutter.taken intake intake (safe_still g.S.Store store)
     (begun_none g.S.Store store c.args.list.now cutter.taken cutter.taken intake refl) cutter.stream cutter.stream [] 1
-    (settled_taken cutter c.requires.given c.requires.goes_on c.requires.none) (sym (append-nil _)) c.stop_uncut.result _ c.stop_uncut.ensures.stop
+    (settled_taken cutter c.requires.is_consistent c.requires.phase_is_running c.requires.none_waiting) (sym (append-nil _)) c.stop_uncut.result _ c.stop_uncut.ensures.stop
 
 pub returns-in-Ok-add_waiting-clause-crash : goal.returns-in-Ok-add_waiting-clause-crash
 returns-in-Ok-add_waiting-clause-crash g c =

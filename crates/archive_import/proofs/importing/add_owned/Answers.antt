@@ -16,11 +16,11 @@ returns-in-Err-clause-step g c = λ clean kept up. (kept, run_nothing _)
 
 pub returns-in-Err-clause-ends : goal.returns-in-Err-clause-ends
 returns-in-Err-clause-ends g c = record {
-  lasts = lasts_same _;
+  remains_open = lasts_same _;
   was_open = λ returned. tt;
-  kind = tt;
-  counted = (omega (arith, c.increment.ensures), (λ want. omega (arith, c.increment.ensures)));
-  caused = λ returned held free bad. absurd (cc);
+  refusal_is_possible = tt;
+  refusals_counted = (omega (arith, c.increment.ensures), (λ want. omega (arith, c.increment.ensures)));
+  fault_has_cause = λ returned held free bad. absurd (cc);
 }
 
 pub returns-in-Err-clause-crash : goal.returns-in-Err-clause-crash

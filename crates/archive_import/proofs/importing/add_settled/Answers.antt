@@ -19,14 +19,14 @@ loop-preserved g c =
     let r = c.read_from.ensures.read in
     record {
       adds = begun_more g.S.Store c.args.store.now c.loop.store c.add_waiting.new.store list [] c.loop.cutter.taken c.args.intake.now c.loop.intake i.adds c.add_waiting.new.intake read.waiting
-          c.add_waiting.new.cutter.taken (takes.taken.0 ∙ ap (λ is. is ++ read.waiting) c.read_from.ensures.taken) c.in-Ok.ensures.adds;
-      told = r.1 ∙ ap (λ t. t ++ r.0) i.told ∙ append_assoc _ c.loop.cutter.stream r.0 ∙ ap (λ t. g.R.Source.told c.args.input.now ++ t) (sym r.2 ∙ sym takes.stream);
+          c.add_waiting.new.cutter.taken (takes.takes_waiting.0 ∙ ap (λ is. is ++ read.waiting) c.read_from.ensures.taken) c.in-Ok.ensures.adds;
+      told = r.1 ∙ ap (λ t. t ++ r.0) i.told ∙ append_assoc _ c.loop.cutter.stream r.0 ∙ ap (λ t. g.R.Source.told c.args.input.now ++ t) (sym r.2 ∙ sym takes.stream_is_same);
       no_read_failed = search rules;
       no_end = search rules;
-      none_waits = takes.taken.1;
-      goes_on = takes.phase ∙ c.in-Ok-true.ensures.open;
-      given = takes.given;
-      grows = omega (arith, i.grows, c.in-Ok.ensures.ends.counted.0);
+      none_waits = takes.takes_waiting.1;
+      goes_on = takes.phase_is_same ∙ c.in-Ok-true.ensures.open;
+      given = takes.is_consistent;
+      grows = omega (arith, i.grows, c.in-Ok.ensures.ends.refusals_counted.0);
       safe = safe_then g.S.Store c.args.store.now c.loop.store c.add_waiting.new.store (Begun list [] c.loop.cutter.taken c.args.intake.now c.loop.intake) i.safe i.adds c.in-Ok.ensures.adds.0
           c.in-Ok.ensures.crash;
     }
@@ -38,7 +38,8 @@ returns-in-Err-Read-clause-adds g c =
     unread_stopped_read g.S.Store c.args.store.now c.loop.store c.stop_unread.new.store c.args.list.now [] cutter.taken c.args.intake.now c.loop.intake i.adds
     (λ b d _. (a : Archive) → IsUnderWay c.args.list.now a b [] c.args.intake.now → IsUnderWay c.args.list.now a d c.read_from.new.self.taken c.stop_unread.new.intake)
     c.read_from.new.self.stream c.stop_unread.result c.stop_unread.ensures.stopped
-    (settled_taken cutter i.given i.goes_on i.none_waits ∙ ap settled_items (sym (c.read_from.ensures.none (inr (c.in-Err-Read.is ∙ ap Err c.in-Err-Read.field-0-is))).0)) c.stop_unread.ensures.adds
+    (settled_taken cutter i.given i.goes_on i.none_waits ∙ ap settled_items
+    (sym (c.read_from.ensures.none (inr (c.in-Err-Read.is ∙ ap Err c.in-Err-Read.field-0-is))).0)) c.stop_unread.ensures.adds
 
 pub returns-in-Err-Preamble-clause-adds : goal.returns-in-Err-Preamble-clause-adds
 returns-in-Err-Preamble-clause-adds g c =
@@ -68,7 +69,7 @@ returns-in-Err-clause-adds g c =
     let read = c.read_from.new.self in
     waiting_stopped g.S.Store c.args.store.now c.loop.store c.add_waiting.new.store c.args.list.now [] cutter.taken c.args.intake.now c.loop.intake i.adds
     c.add_waiting.new.intake c.add_waiting.new.cutter.stream 0 read.waiting c.in-Err.stop
-    (inl (settled_given read cutter.taken c.read_from.ensures.given c.in-Ok-true.ensures.open c.read_from.ensures.taken ∙ ap settled_items (sym c.add_waiting.ensures.takes.stream)))
+    (inl (settled_given read cutter.taken c.read_from.ensures.given c.in-Ok-true.ensures.open c.read_from.ensures.taken ∙ ap settled_items (sym c.add_waiting.ensures.takes.stream_is_same)))
     c.in-Err.ensures.adds
 
 pub returns-clause-adds : goal.returns-clause-adds
@@ -123,7 +124,7 @@ returns-in-Err-clause-ends g c =
     waiting_ends g.S.Store c.args.store.now c.loop.store c.args.list.now [] cutter.taken c.args.intake.now c.loop.intake i.adds i.grows c.add_waiting.new.store
     (more_lasts g.S.Store c.loop.store c.add_waiting.new.store c.args.list.now c.loop.intake c.add_waiting.new.intake read.waiting c.in-Err.stop c.in-Err.ensures.adds)
     c.add_waiting.new.cutter.stream 0 read.waiting (Err c.in-Err.stop)
-    (inl (settled_given read cutter.taken c.read_from.ensures.given c.in-Ok-true.ensures.open c.read_from.ensures.taken ∙ ap settled_items (sym c.add_waiting.ensures.takes.stream)))
+    (inl (settled_given read cutter.taken c.read_from.ensures.given c.in-Ok-true.ensures.open c.read_from.ensures.taken ∙ ap settled_items (sym c.add_waiting.ensures.takes.stream_is_same)))
     c.in-Err.ensures.ends
 
 -- ---- what a stop of the machine leaves
@@ -164,7 +165,7 @@ returns-in-Err-clause-crash g c =
     waiting_crash g.S.Store c.args.store.now c.loop.store c.args.list.now [] cutter.taken c.args.intake.now c.loop.intake i.safe i.adds c.add_waiting.new.store
     (more_lasts g.S.Store c.loop.store c.add_waiting.new.store c.args.list.now c.loop.intake c.add_waiting.new.intake read.waiting c.in-Err.stop c.in-Err.ensures.adds)
     c.add_waiting.new.cutter.stream 0 read.waiting c.in-Err.stop
-    (inl (settled_given read cutter.taken c.read_from.ensures.given c.in-Ok-true.ensures.open c.read_from.ensures.taken ∙ ap settled_items (sym c.add_waiting.ensures.takes.stream)))
+    (inl (settled_given read cutter.taken c.read_from.ensures.given c.in-Ok-true.ensures.open c.read_from.ensures.taken ∙ ap settled_items (sym c.add_waiting.ensures.takes.stream_is_same)))
     c.in-Err.ensures.crash
 
 pub returns-clause-crash : goal.returns-clause-crash

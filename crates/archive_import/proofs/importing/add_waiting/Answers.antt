@@ -28,7 +28,7 @@ loop-item-preserved g c =
       stream = c.take.ensures.stream ∙ i.stream;
       phase = c.take.ensures.phase ∙ i.phase;
       given = c.take.ensures.given;
-      grows = omega (arith, i.grows, c.hold_one.ensures.ends.counted.0);
+      grows = omega (arith, i.grows, c.hold_one.ensures.ends.refusals_counted.0);
       safe = safe_then g.S.Store c.args.store.now c.loop-item.store c.hold_one.new.store (Grows c.args.list.now c.args.intake.now c.loop-item.intake i.adds.0.done) i.safe i.adds.1
           c.in-Ok.ensures.adds.0 c.in-Ok.ensures.crash;
     }
@@ -51,7 +51,7 @@ returns-in-Err-clause-ends g c =
     i.grows c.in-Err.stop (m.0.was ∙ ap (λ is. m.0.done ++ is) c.in-Some.ensures.item) c.in-Err.ensures.ends
 
 pub returns-clause-ends : goal.returns-clause-ends
-returns-clause-ends g c = record { caused = tt; counted = (c.loop-item.invariant.grows, tt) }
+returns-clause-ends g c = record { fault_has_cause = tt; refusals_counted = (c.loop-item.invariant.grows, tt) }
 
 pub returns-in-Err-clause-crash : goal.returns-in-Err-clause-crash
 returns-in-Err-clause-crash g c =

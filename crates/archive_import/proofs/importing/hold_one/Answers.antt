@@ -27,7 +27,7 @@ returns-then-has_room-clause-ends g c =
 pub returns-in-Ok-clause-ends : goal.returns-in-Ok-clause-ends
 returns-in-Ok-clause-ends g c =
     hold_ends g.S.Store c.args.store.now _ (RowsRefusePendingOrMore c.args.list.now c.args.intake.now (c.args.item ∷ [])) c.add_held.new.intake.done c.hold-in-Ok.result c.hold-in-Ok.ensures.fault
-    (raises_after IsStopWanting (memory_refusal_count c.args.store.now) (memory_refusal_count c.add_held.new.store) c.hold-in-Ok.new.wants c.hold-in-Ok.result c.in-Ok.ensures.ends.counted.0
+    (raises_after IsStopWanting (memory_refusal_count c.args.store.now) (memory_refusal_count c.add_held.new.store) c.hold-in-Ok.new.wants c.hold-in-Ok.result c.in-Ok.ensures.ends.refusals_counted.0
     c.hold-in-Ok.ensures.counted)
 
 pub returns-in-Err-clause-ends : goal.returns-in-Err-clause-ends

@@ -30,8 +30,8 @@ pub returns-in-Err-add_settled-clause-imports : goal.returns-in-Err-add_settled-
 returns-in-Err-add_settled-clause-imports g c = (
   c.add_settled.new.cutter.stream,
   0,
-  c.add_settled.ensures.read.told,
-  omega (arith, c.in-Err-add_settled.ensures.read.no_end),
+  c.add_settled.ensures.read.stream_is_read,
+  omega (arith, c.in-Err-add_settled.ensures.read.err_means_no_end),
   settled_stopped g.S.Store c.args.store.now c.check_list_exists.new.store c.add_settled.new.store c.args.list.now c.new-intake.result c.new-intake.ensures
       c.in_default.ensures.found
       c.add_settled.new.cutter.stream c.in-Err-add_settled.stop c.in-Err-add_settled.ensures.adds,
@@ -45,8 +45,8 @@ returns-in-Ok-add_last-clause-imports g c =
     let store = c.args.store.now in (
       cutter.stream,
       1,
-      c.add_settled.ensures.read.told,
-      c.in-Ok.ensures.read.end,
+      c.add_settled.ensures.read.stream_is_read,
+      c.in-Ok.ensures.read.ok_means_end,
       read_in g.S.Store store c.add_settled.new.store c.add_last.new.store list cutter.stream cutter.taken intake
           (found_begun g.S.Store store c.check_list_exists.new.store c.add_settled.new.store list c.new-intake.result c.new-intake.ensures
           c.in_default.ensures.found cutter.taken intake c.in-Ok.ensures.adds)
@@ -64,8 +64,8 @@ returns-clause-imports g c =
     let store = c.args.store.now in (
       cutter.stream,
       1,
-      c.add_settled.ensures.read.told,
-      c.in-Ok.ensures.read.end,
+      c.add_settled.ensures.read.stream_is_read,
+      c.in-Ok.ensures.read.ok_means_end,
       last_stopped g.S.Store store c.add_settled.new.store c.add_last.new.store list cutter.stream cutter.taken intake
           (found_begun g.S.Store store c.check_list_exists.new.store c.add_settled.new.store list c.new-intake.result c.new-intake.ensures
           c.in_default.ensures.found cutter.taken intake c.in-Ok.ensures.adds)
@@ -92,9 +92,9 @@ returns-in-Err-add_settled-clause-ends g c =
     read_ends g.S.Store store mid new list stream 0 [] begun (IsFound list) (λ a b it. under_way_first list a b begun it.2 it.0 c.new-intake.ensures)
     c.in_default.ensures.found
     (read_lasts g.S.Store mid new list stream 0 [] begun (λ b d _. Begun list [] c.add_settled.new.cutter.taken begun c.add_settled.new.intake b d) stop c.in-Err-add_settled.ensures.adds)
-    c.in_default.ensures.ends.counted.0 _ stop
-    (λ a db stops text ends told ended. subst (λ n. RowsRefuseReadItem list text n stop.done db) (omega (arith, ended, c.in-Err-add_settled.ensures.read.no_end))
-    (subst (λ t. RowsRefuseReadItem list t 0 stop.done db) (read_all _ stream text _ c.add_settled.ensures.read.told told) stops))
+    c.in_default.ensures.ends.refusals_counted.0 _ stop
+    (λ a db stops text ends told ended. subst (λ n. RowsRefuseReadItem list text n stop.done db) (omega (arith, ended, c.in-Err-add_settled.ensures.read.err_means_no_end))
+    (subst (λ t. RowsRefuseReadItem list t 0 stop.done db) (read_all _ stream text _ c.add_settled.ensures.read.stream_is_read told) stops))
     c.in-Err-add_settled.ensures.ends
 
 pub returns-in-Ok-add_last-clause-ends : goal.returns-in-Ok-add_last-clause-ends
@@ -117,9 +117,9 @@ returns-clause-ends g c =
     (read_lasts g.S.Store later new list cutter.stream 1 cutter.taken intake (λ b d _. (a : Archive) → IsUnderWay list a b cutter.taken intake
     → IsInputImported list cutter.stream 1 a d c.add_last.new.intake.report)
     stop c.in-Err-add_last.ensures.adds)
-    (omega (arith, c.in_default.ensures.ends.counted.0, c.in-Ok.ensures.ends.counted.0)) _ stop
-    (λ a db stops text ends told ended. subst (λ n. RowsRefuseReadItem list text n stop.done db) (omega (arith, ended, c.in-Ok.ensures.read.end))
-    (subst (λ t. RowsRefuseReadItem list t 1 stop.done db) (read_all _ cutter.stream text _ c.add_settled.ensures.read.told told) stops))
+    (omega (arith, c.in_default.ensures.ends.refusals_counted.0, c.in-Ok.ensures.ends.refusals_counted.0)) _ stop
+    (λ a db stops text ends told ended. subst (λ n. RowsRefuseReadItem list text n stop.done db) (omega (arith, ended, c.in-Ok.ensures.read.ok_means_end))
+    (subst (λ t. RowsRefuseReadItem list t 1 stop.done db) (read_all _ cutter.stream text _ c.add_settled.ensures.read.stream_is_read told) stops))
     c.in-Err-add_last.ensures.ends
 
 -- ---- what a stop of the machine leaves
@@ -145,8 +145,10 @@ returns-in-Err-add_settled-clause-crash g c = λ text ends told ended.
     (read_lasts g.S.Store mid new list stream 0 [] c.new-intake.result (λ b d _. Begun list [] c.add_settled.new.cutter.taken c.new-intake.result c.add_settled.new.intake b d) stop
     c.in-Err-add_settled.ensures.adds)
     text ends stop
-    (subst (λ n. CrashAfterTablesCall g.S.Store mid new {A = Unit {0}} (Err stop) (LeavesRead list text n [] c.new-intake.result)) (omega (arith, ended, c.in-Err-add_settled.ensures.read.no_end))
-    (subst (λ t. CrashAfterTablesCall g.S.Store mid new {A = Unit {0}} (Err stop) (LeavesRead list t 0 [] c.new-intake.result)) (read_all _ stream text _ c.add_settled.ensures.read.told told)
+    (subst (λ n. CrashAfterTablesCall g.S.Store mid new {A = Unit {0}} (Err stop) (LeavesRead list text n [] c.new-intake.result))
+    (omega (arith, ended, c.in-Err-add_settled.ensures.read.err_means_no_end))
+    (subst (λ t. CrashAfterTablesCall g.S.Store mid new {A = Unit {0}} (Err stop) (LeavesRead list t 0 [] c.new-intake.result))
+    (read_all _ stream text _ c.add_settled.ensures.read.stream_is_read told)
     c.in-Err-add_settled.ensures.crash)))
 
 pub returns-in-Ok-add_last-clause-crash : goal.returns-in-Ok-add_last-clause-crash
@@ -162,8 +164,8 @@ returns-in-Ok-add_last-clause-crash g c = λ text ends told ended.
     let begun = found_begun g.S.Store store mid later list c.new-intake.result c.new-intake.ensures found cutter.taken intake c.in-Ok.ensures.adds in
     let safe = safe_then g.S.Store store mid later (IsFound list) (found_safe g.S.Store store mid list c.in_default.ensures.found c.in_default.ensures.quiet) found c.in-Ok.ensures.adds.0
     c.in-Ok.ensures.crash in
-    subst (λ n. CrashImportsInput g.S.Store store new list text n (Ok c.report.result)) (omega (arith, ended, c.in-Ok.ensures.read.end))
-    (subst (λ t. CrashImportsInput g.S.Store store new list t 1 (Ok c.report.result)) (read_all _ cutter.stream text _ c.add_settled.ensures.read.told told)
+    subst (λ n. CrashImportsInput g.S.Store store new list text n (Ok c.report.result)) (omega (arith, ended, c.in-Ok.ensures.read.ok_means_end))
+    (subst (λ t. CrashImportsInput g.S.Store store new list t 1 (Ok c.report.result)) (read_all _ cutter.stream text _ c.add_settled.ensures.read.stream_is_read told)
     (ends_reading g.S.Store store new list cutter.stream 1 c.report.result
     (read_in g.S.Store store later new list cutter.stream cutter.taken intake begun c.report.result
     (subst (λ r. RelatesTableArchives g.S.Store later new (λ b c. (a : Archive) → IsUnderWay list a b cutter.taken intake → IsInputImported list cutter.stream 1 a c r)) (sym c.report.ensures)
@@ -189,6 +191,7 @@ returns-clause-crash g c = λ text ends told ended.
     (read_lasts g.S.Store later new list cutter.stream 1 cutter.taken intake (λ b d _. (a : Archive) → IsUnderWay list a b cutter.taken intake
     → IsInputImported list cutter.stream 1 a d c.add_last.new.intake.report)
     stop c.in-Err-add_last.ensures.adds) text ends stop
-    (subst (λ n. CrashAfterTablesCall g.S.Store later new {A = Unit {0}} (Err stop) (LeavesRead list text n cutter.taken intake)) (omega (arith, ended, c.in-Ok.ensures.read.end))
-    (subst (λ t. CrashAfterTablesCall g.S.Store later new {A = Unit {0}} (Err stop) (LeavesRead list t 1 cutter.taken intake)) (read_all _ cutter.stream text _ c.add_settled.ensures.read.told told)
+    (subst (λ n. CrashAfterTablesCall g.S.Store later new {A = Unit {0}} (Err stop) (LeavesRead list text n cutter.taken intake)) (omega (arith, ended, c.in-Ok.ensures.read.ok_means_end))
+    (subst (λ t. CrashAfterTablesCall g.S.Store later new {A = Unit {0}} (Err stop) (LeavesRead list t 1 cutter.taken intake))
+    (read_all _ cutter.stream text _ c.add_settled.ensures.read.stream_is_read told)
     c.in-Err-add_last.ensures.crash)))

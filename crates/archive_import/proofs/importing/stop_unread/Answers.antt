@@ -20,7 +20,7 @@ returns-in-Err-clause-adds g c =
 pub returns-in-Ok-clause-ends : goal.returns-in-Ok-clause-ends
 returns-in-Ok-clause-ends g c =
     uncut_ends g.S.Store c.args.store.now c.add_held.new.store (RowsRefusePending c.args.list.now c.args.intake.now) _ _ c.stop.result c.stop.ensures
-    (unread_unwanted (Unit {0}) (memory_refusal_count c.args.store.now) (memory_refusal_count c.add_held.new.store) _ c.stop.result c.in-Ok.ensures.ends.counted.0 c.stop.ensures)
+    (unread_unwanted (Unit {0}) (memory_refusal_count c.args.store.now) (memory_refusal_count c.add_held.new.store) _ c.stop.result c.in-Ok.ensures.ends.refusals_counted.0 c.stop.ensures)
 
 pub returns-in-Ok-clause-crash : goal.returns-in-Ok-clause-crash
 returns-in-Ok-clause-crash g c =

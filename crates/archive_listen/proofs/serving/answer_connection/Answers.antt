@@ -7,11 +7,11 @@ returns-in-Err g c =
     let begins = g.met.O.BufferedSink.begins c.flush.new.self in
     let same : g.O.Sink.told c.flush.new.self ≡ g.O.Sink.told c.answer.new.output = c.in-Err.ensures.told in
     record {
-      told = connection_transcript (g.I.Source.told c.answer.new.input) (g.I.Source.ends c.answer.new.input) (g.I.Source.failures c.answer.new.input)
+      transcript = connection_transcript (g.I.Source.told c.answer.new.input) (g.I.Source.ends c.answer.new.input) (g.I.Source.failures c.answer.new.input)
           (g.O.Sink.told c.answer.new.output) (g.O.Sink.failures c.answer.new.output);
       answer = Ok c.in_ok-status.status;
-      answered = search rules;
-      read = refl;
-      written = same;
-      reached = (c.in-Err.ensures.cause, (begins.0, sym same ∙ begins.1));
+      is_answered = search rules;
+      read_is_transcript = refl;
+      written_is_transcript = same;
+      client_receives = (c.in-Err.ensures.cause, (begins.0, sym same ∙ begins.1));
     }

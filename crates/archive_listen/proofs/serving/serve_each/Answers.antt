@@ -4,7 +4,7 @@ use Rattle.archive_listen.proofs.ServingLemmas.{serves_more, reads_text}
 use Rattle.archive_listen.proofs.serving.serve_each.Goals as goal
 
 pub loop-taken-init : goal.loop-taken-init
-loop-taken-init g c = ([], refl, omega arith, record { each = refl; told = refl }, omega arith)
+loop-taken-init g c = ([], refl, omega arith, record { serves_each = refl; reports_outcomes = refl }, omega arith)
 
 pub loop-taken-preserved : goal.loop-taken-preserved
 loop-taken-preserved g c =
@@ -13,8 +13,8 @@ loop-taken-preserved g c =
       length-append i.0 (c.in-Ok.outcome ∷ []) ∙ ap (λ n. n + 1) i.1,
       omega (arith, c.loop-taken-test.true),
       record {
-        each = serves_more _ _ _ i.0 c.in-Ok.outcome _ _ _ i.3.each c.in-Ok.ensures.served;
-        told = reads_text i.0 c.in-Ok.outcome _ _ _ i.3.told c.tell_outcome.ensures.told;
+        serves_each = serves_more _ _ _ i.0 c.in-Ok.outcome _ _ _ i.3.serves_each c.in-Ok.ensures.served;
+        reports_outcomes = reads_text i.0 c.in-Ok.outcome _ _ _ i.3.reports_outcomes c.tell_outcome.ensures.told;
       },
       omega (arith, i.4, c.tell_outcome.ensures.failures),
     )

@@ -9,7 +9,7 @@ pub returns-clause-answered : goal.returns-clause-answered
 returns-clause-answered g c = λ of.
     let told = c.in-Ok.ensures.read in
     outcome_answered c.answer_read.result (g.W.Sink.told c.args.output.now) (g.W.Sink.told c.answer_read.new.output) (g.W.Sink.failures c.args.output.now)
-    (g.W.Sink.failures c.answer_read.new.output) _ _ c.answer_read.ensures.ends.reply.cause (
+    (g.W.Sink.failures c.answer_read.new.output) _ _ c.answer_read.ensures.ends.ends_reply.cause (
       told.0,
       told.1,
       said_either told.0 c.in-Ok.read _ _ _
@@ -21,10 +21,10 @@ returns-clause-answered g c = λ of.
 pub returns-clause-ends : goal.returns-clause-ends
 returns-clause-ends g c = record {
   stays = c.answer_read.ensures.stays;
-  quiet = outcome_quiet c.answer_read.result _ _ c.in-Ok.ensures.quiet c.answer_read.ensures.ends.reply.quiet;
+  quiet = outcome_quiet c.answer_read.result _ _ c.in-Ok.ensures.quiet c.answer_read.ensures.ends.ends_reply.no_failure_if_ok;
   cause = outcome_cause c.answer_read.result (g.W.Sink.told c.args.output.now) (g.W.Sink.told c.answer_read.new.output) (g.R.Source.failures c.args.input.now)
       (g.R.Source.failures c.read_request.new.input) (g.W.Sink.failures c.args.output.now) (g.W.Sink.failures c.answer_read.new.output)
-      c.in-Ok.ensures.quiet c.answer_read.ensures.ends.reply.cause;
+      c.in-Ok.ensures.quiet c.answer_read.ensures.ends.ends_reply.cause;
 }
 
 pub returns-clause-unrouted : goal.returns-clause-unrouted
@@ -32,7 +32,7 @@ returns-clause-unrouted g c = with_same c.args.pages.now.routes
     (λ says.
     let told = c.in-Ok.ensures.read in
     outcome_answered c.answer_read.result (g.W.Sink.told c.args.output.now) (g.W.Sink.told c.answer_read.new.output) (g.W.Sink.failures c.args.output.now)
-    (g.W.Sink.failures c.answer_read.new.output) _ _ c.answer_read.ensures.ends.reply.cause (
+    (g.W.Sink.failures c.answer_read.new.output) _ _ c.answer_read.ensures.ends.ends_reply.cause (
       told.0,
       told.1,
       said_either told.0 c.in-Ok.read _ _ _ (λ all. Sends404IfUnrouted all (g.W.Sink.told c.args.output.now) (g.W.Sink.told c.answer_read.new.output) c.answer_read.result)
@@ -47,4 +47,4 @@ returns-clause-caused g c =
     let after = g.R.Source.told c.read_request.new.input in
     let told = c.in-Ok.ensures.read in
     serves_or_as g.S.Store c.args.store.now c.answer_read.new.store c.answer_read.result (IsReadRequestDataUnreadable rules day c.in-Ok.read) (IsInputDataUnreadable before after rules day)
-    (λ a bad. unread_in before after told.0 rules day a c.in-Ok.read told.1 (begun_by told.0 c.in-Ok.read _ _ _ told.2) bad) c.answer_read.ensures.ends.caused
+    (λ a bad. unread_in before after told.0 rules day a c.in-Ok.read told.1 (begun_by told.0 c.in-Ok.read _ _ _ told.2) bad) c.answer_read.ensures.ends.fault_has_cause

@@ -8,11 +8,11 @@ returns-in_default-fault-clause-why g c =
     let ask = c.args.ask.now in
     let old = c.args.store.now in
     let new = c.find_message.new.store in record {
-      caused = (
-        c.in-Err.ensures.ends.counted.0,
+      fault_has_cause = (
+        c.in-Err.ensures.ends.refusals_counted.0,
         subst (λ (key : List ℕ). Has503Cause g.S.Store old new (IsUnreadableOrReaderUnknown (IsMessageDataUnreadable ask key) ask.reader)) c.in-Some.ensures.some
-            (desk_unfound g.S.Store old new ask (IsMessageDataUnreadable ask c.in-Some.key) c.in-Err.fault c.in_default-fault.not-NoList c.in-Err.ensures.ends.fault
-            c.in-Err.ensures.ends.counted.1 c.in-Err.ensures.ends.caused c.in-Err.ensures.asked),
+            (desk_unfound g.S.Store old new ask (IsMessageDataUnreadable ask c.in-Some.key) c.in-Err.fault c.in_default-fault.not-NoList c.in-Err.ensures.ends.fault_is_expected
+            c.in-Err.ensures.ends.refusals_counted.1 c.in-Err.ensures.ends.fault_has_cause c.in-Err.ensures.asked),
       );
-      served = tt;
+      status_is_not_503 = tt;
     }

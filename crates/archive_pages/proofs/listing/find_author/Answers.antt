@@ -31,7 +31,7 @@ returns-in-Ok-author_page-clause-found g c =
     let asked : c.deref.result.now ≡ key = c.deref.ensures.value ∙ c.in-Ok.ensures in
     let shown : c.deref-2.result.now ≡ key = c.deref-2.ensures.value ∙ c.in-Ok.ensures in
     let outline = c.in-Some-outline.outline.now in
-    let page = c.in-Ok-author_page.page.items in
+    let made = c.in-Ok-author_page.page.items in
     found_at g.S.Store c.args.store.now c.find_place.new.store (IsCacheCoherentForAsk ask c.args.kept.now) ask c.find_place.new.kept (author c.deref.result.now) c.in_ok-place.field-0
     (λ a. page_reply (author_page ask.list key (author_lines key (shown_view a ask)))) c.in_ok-place.ensures.found
     c.in-Some.place outline (page_reply page) c.in-Some.is c.in-Some-outline.ensures.outline

@@ -26,5 +26,5 @@ returns-in-Ok-clause-found g c =
     found_at g.S.Store c.args.store.now c.find_place.new.store (IsCacheCoherentForAsk ask c.args.kept.now) ask c.find_place.new.kept (month c.in-Some.asked) c.in_ok-place.field-0
     (λ a. month_reply ask.list c.args.text.now (shown_view a ask)) c.in_ok-place.ensures.found
     c.in-Some-2.place outline (page_reply c.in-Ok.page.items) c.in-Some-2.is c.in-Some-outline.ensures.outline
-    (λ a of. month_placed a ask outline c.ask.inside.list.now c.lines.result.now (ap (λ (q : Ask). q.list) c.ask.view_is) c.lines.ensures
+    (λ a of. month_placed a ask outline c.ask.inside.list.now c.text.result.now (ap (λ (q : Ask). q.list) c.ask.view_is) c.text.ensures
     c.in-Some.asked c.args.text.now c.in-Ok.page.items of (search rules) c.in-Ok.ensures)

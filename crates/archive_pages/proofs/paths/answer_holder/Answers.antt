@@ -34,8 +34,8 @@ returns-in-Ok-Some-clause-ends g c =
     let named : Some c.as_str.result.now ≡ option_map string_bytes c.in-Ok-Some.field-0 =
     ap (λ (n : List ℕ). Some n) c.as_str.ensures.value ∙ sym (ap (option_map string_bytes) c.in-Ok-Some.field-0-is) in
     record {
-      reply = c.answer_path.ensures.ends.reply;
-      caused = served_after g.S.Store c.args.store.now c.find_person.new.store c.answer_path.new.store (λ a. option_map string_bytes c.in-Ok-Some.field-0 ≡ person_of_token a c.args.token.now)
+      ends_reply = c.answer_path.ensures.ends.ends_reply;
+      fault_has_cause = served_after g.S.Store c.args.store.now c.find_person.new.store c.answer_path.new.store (λ a. option_map string_bytes c.in-Ok-Some.field-0 ≡ person_of_token a c.args.token.now)
           c.in-Ok-Some.ensures.found.0 c.in-Ok-Some.ensures.caused.0
           (lasts_kept g.S.Store (g.W.Sink.told c.args.output.now) (g.W.Sink.told c.answer_path.new.output) c.answer_path.result
           c.find_person.new.store c.answer_path.new.store (λ a. IsCacheCoherent a c.args.pages.now.policy.now c.args.pages.now.day c.args.pages.now.kept)
@@ -44,10 +44,10 @@ returns-in-Ok-Some-clause-ends g c =
           (IsUnreadableOrReaderUnknown (IsPathDataUnreadable c.args.pages.now.policy.now c.args.pages.now.day c.args.path.now (Some c.as_str.result.now)) (Some c.as_str.result.now))
           (IsTokenDataUnreadable c.args.pages.now.policy.now c.args.pages.now.day c.args.token.now c.args.path.now)
           (λ a is bad. holder_unread c.args.pages.now.policy.now c.args.pages.now.day a c.args.token.now c.args.path.now c.as_str.result.now (sym (named ∙ is)) bad)
-          c.answer_path.ensures.ends.caused;
-      keeps = record {
-        same = c.answer_path.ensures.ends.keeps.same;
-        keeps = keeps_after g.S.Store c.args.pages.now.policy.now c.args.pages.now.day c.args.store.now c.find_person.new.store c.answer_path.new.store
+          c.answer_path.ensures.ends.fault_has_cause;
+      changes_only_cache = record {
+        only_cache_differs = c.answer_path.ensures.ends.changes_only_cache.only_cache_differs;
+        cache_stays_coherent = keeps_after g.S.Store c.args.pages.now.policy.now c.args.pages.now.day c.args.store.now c.find_person.new.store c.answer_path.new.store
             c.args.pages.now.kept c.answer_path.new.pages.kept
             (goes_in_as g.S.Store (HoldsTables g.S.Store) c.args.store.now c.find_person.new.store
             (λ a b. (b ≡ a) × (option_map string_bytes c.in-Ok-Some.field-0 ≡ person_of_token a c.args.token.now))
@@ -55,17 +55,17 @@ returns-in-Ok-Some-clause-ends g c =
             (lasts_kept g.S.Store (g.W.Sink.told c.args.output.now) (g.W.Sink.told c.answer_path.new.output) c.answer_path.result
             c.find_person.new.store c.answer_path.new.store (λ a. IsCacheCoherent a c.args.pages.now.policy.now c.args.pages.now.day c.args.pages.now.kept)
             (λ a reply. reply ≡ path_reply a c.args.pages.now.policy.now c.args.pages.now.day c.args.path.now (Some c.as_str.result.now)) c.answer_path.ensures.sent)
-            c.answer_path.ensures.ends.keeps.keeps;
+            c.answer_path.ensures.ends.changes_only_cache.cache_stays_coherent;
       };
     }
 
 pub returns-in-Err-clause-ends : goal.returns-in-Err-clause-ends
 returns-in-Err-clause-ends g c = record {
-  reply = c.write_failure-in-Err.ensures.ends;
-  caused = (
+  ends_reply = c.write_failure-in-Err.ensures.ends;
+  fault_has_cause = (
     c.in-Err.ensures.caused.0,
     λ it. cause_as g.S.Store c.args.store.now c.find_person.new.store (λ a. IsTokenHolderUnreadable a c.args.token.now)
         (IsTokenDataUnreadable c.args.pages.now.policy.now c.args.pages.now.day c.args.token.now c.args.path.now) (λ a bad. inl bad) c.in-Err.ensures.caused.1,
   );
-  keeps = keeps_still g.S.Store c.args.store.now c.find_person.new.store c.args.pages.now;
+  changes_only_cache = keeps_still g.S.Store c.args.store.now c.find_person.new.store c.args.pages.now;
 }

@@ -61,21 +61,21 @@ returns-in-Asks-None-default-clause-ends g c =
     let path = c.in-Asks-None-default.path.now in
     let none : c.in-Asks-None-default.token ≡ None = search rules in
     record {
-      reply = c.answer_path.ensures.ends.reply;
-      caused = subst (λ (r : Request). ServesOr503 g.S.Store c.args.store.now c.answer_path.new.store c.answer_path.result (IsRequestDataUnreadable policy day (model_request r)))
+      ends_reply = c.answer_path.ensures.ends.ends_reply;
+      fault_has_cause = subst (λ (r : Request). ServesOr503 g.S.Store c.args.store.now c.answer_path.new.store c.answer_path.result (IsRequestDataUnreadable policy day (model_request r)))
           (sym (c.in-Asks-None-default.is ∙ ap (λ t. Asks t c.in-Asks-None-default.path) none))
           (serves_or_as g.S.Store c.args.store.now c.answer_path.new.store c.answer_path.result (IsUnreadableOrReaderUnknown (IsPathDataUnreadable policy day path None) None)
-          (IsPathDataUnreadable policy day path None) (λ a bad. elim bad [ inl unread ↦ unread | inr none ↦ absurd none ]) c.answer_path.ensures.ends.caused);
-      keeps = c.answer_path.ensures.ends.keeps;
+          (IsPathDataUnreadable policy day path None) (λ a bad. elim bad [ inl unread ↦ unread | inr none ↦ absurd none ]) c.answer_path.ensures.ends.fault_has_cause);
+      changes_only_cache = c.answer_path.ensures.ends.changes_only_cache;
     }
 
 pub returns-in-Asks-Some-default-clause-ends : goal.returns-in-Asks-Some-default-clause-ends
 returns-in-Asks-Some-default-clause-ends g c =
     let held : c.in-Asks-Some-default.token' ≡ Some c.in-Asks-Some-default.token = search rules in
     record {
-      reply = c.answer_holder.ensures.ends.reply;
-      caused = subst (λ (r : Request). ServesOr503 g.S.Store c.args.store.now c.answer_holder.new.store c.answer_holder.result
+      ends_reply = c.answer_holder.ensures.ends.ends_reply;
+      fault_has_cause = subst (λ (r : Request). ServesOr503 g.S.Store c.args.store.now c.answer_holder.new.store c.answer_holder.result
           (IsRequestDataUnreadable c.args.pages.now.policy.now c.args.pages.now.day (model_request r)))
-          (sym (c.in-Asks-Some-default.is ∙ ap (λ t. Asks t c.in-Asks-Some-default.path) held)) c.answer_holder.ensures.ends.caused;
-      keeps = c.answer_holder.ensures.ends.keeps;
+          (sym (c.in-Asks-Some-default.is ∙ ap (λ t. Asks t c.in-Asks-Some-default.path) held)) c.answer_holder.ensures.ends.fault_has_cause;
+      changes_only_cache = c.answer_holder.ensures.ends.changes_only_cache;
     }

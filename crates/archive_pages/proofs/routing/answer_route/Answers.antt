@@ -25,13 +25,14 @@ returns-in-Mbox-clause-sent g c = rw c.in-Mbox.is (
 pub returns-in-Mbox-clause-ends : goal.returns-in-Mbox-clause-ends
 returns-in-Mbox-clause-ends g c = rw c.in-Mbox.is (
     record {
-      reply = c.answer_mbox.ensures.ends;
-      caused = subst (λ (q : Ask). ServesOr503 g.S.Store c.args.store.now c.answer_mbox.new.store c.answer_mbox.result (IsUnreadableOrReaderUnknown (IsListDataUnreadable q) q.reader))
+      ends_reply = c.answer_mbox.ensures.ends;
+      fault_has_cause = subst (λ (q : Ask). ServesOr503 g.S.Store c.args.store.now c.answer_mbox.new.store c.answer_mbox.result (IsUnreadableOrReaderUnknown (IsListDataUnreadable q) q.reader))
           c.ask_of-ask.ensures
           c.answer_mbox.ensures.caused;
-      keeps = record {
-        same = refl;
-        keeps = subst (λ (q : Ask). KeepsCacheCoherent g.S.Store c.args.store.now c.answer_mbox.new.store q.rules q.day c.args.pages.now.kept c.answer_mbox.new.kept) c.ask_of-ask.ensures
+      changes_only_cache = record {
+        only_cache_differs = refl;
+        cache_stays_coherent = subst (λ (q : Ask). KeepsCacheCoherent g.S.Store c.args.store.now c.answer_mbox.new.store q.rules q.day c.args.pages.now.kept c.answer_mbox.new.kept)
+            c.ask_of-ask.ensures
             c.answer_mbox.ensures.keeps;
       };
     })
@@ -56,11 +57,11 @@ returns-in_default-clause-sent g c =
 
 pub returns-in_default-clause-ends : goal.returns-in_default-clause-ends
 returns-in_default-clause-ends g c = record {
-  reply = c.write_found.ensures.ends;
-  caused = found_served g.S.Store c.args.store.now c.find_page-found.new.store c.write_found.new.wants c.write_found.result
+  ends_reply = c.write_found.ensures.ends;
+  fault_has_cause = found_served g.S.Store c.args.store.now c.find_page-found.new.store c.write_found.new.wants c.write_found.result
       (IsUnreadableOrReaderUnknown (IsRouteDataUnreadable (ask_of_reader c.args.pages.now.policy.now c.args.pages.now.day (reader_name c.args.reader)) (model_route c.args.route.now))
       (reader_name c.args.reader))
       c.find_page-found.result model_reply
-      c.find_page-found.ensures.why.caused c.find_page-found.ensures.why.served c.write_found.ensures.counted;
-  keeps = record { same = c.find_page-found.ensures.keeps.same; keeps = c.find_page-found.ensures.keeps.keeps };
+      c.find_page-found.ensures.why.fault_has_cause c.find_page-found.ensures.why.status_is_not_503 c.write_found.ensures.counted;
+  changes_only_cache = record { only_cache_differs = c.find_page-found.ensures.keeps.only_cache_differs; cache_stays_coherent = c.find_page-found.ensures.keeps.cache_stays_coherent };
 }

@@ -69,32 +69,35 @@ returns-in-Lists-clause-keeps g c = keeps_still g.S.Store c.args.store.now c.fin
 
 pub returns-in-Message-clause-keeps : goal.returns-in-Message-clause-keeps
 returns-in-Message-clause-keeps g c = record {
-  same = refl;
-  keeps = keeps_for g.S.Store c.args.store.now c.find_message.new.store c.find_message.result c.ask_of-ask.ensures c.args.pages.now.kept c.find_message.new.kept
+  only_cache_differs = refl;
+  cache_stays_coherent = keeps_for g.S.Store c.args.store.now c.find_message.new.store c.find_message.result c.ask_of-ask.ensures c.args.pages.now.kept c.find_message.new.kept
       c.find_message.ensures.keeps;
 }
 
 pub returns-in-Month-clause-keeps : goal.returns-in-Month-clause-keeps
 returns-in-Month-clause-keeps g c = record {
-  same = refl;
-  keeps = keeps_for g.S.Store c.args.store.now c.find_month.new.store c.find_month.result c.ask_of-ask-in-Month.ensures c.args.pages.now.kept c.find_month.new.kept c.find_month.ensures.keeps;
+  only_cache_differs = refl;
+  cache_stays_coherent = keeps_for g.S.Store c.args.store.now c.find_month.new.store c.find_month.result c.ask_of-ask-in-Month.ensures c.args.pages.now.kept c.find_month.new.kept
+      c.find_month.ensures.keeps;
 }
 
 pub returns-in-Threads-clause-keeps : goal.returns-in-Threads-clause-keeps
 returns-in-Threads-clause-keeps g c = record {
-  same = refl;
-  keeps = keeps_for g.S.Store c.args.store.now c.find_threads.new.store c.find_threads.result c.ask_of-ask-in-Threads.ensures c.args.pages.now.kept c.find_threads.new.kept
+  only_cache_differs = refl;
+  cache_stays_coherent = keeps_for g.S.Store c.args.store.now c.find_threads.new.store c.find_threads.result c.ask_of-ask-in-Threads.ensures c.args.pages.now.kept c.find_threads.new.kept
       c.find_threads.ensures.keeps;
 }
 
 pub returns-in-Thread-clause-keeps : goal.returns-in-Thread-clause-keeps
 returns-in-Thread-clause-keeps g c = record {
-  same = refl;
-  keeps = keeps_for g.S.Store c.args.store.now c.find_thread.new.store c.find_thread.result c.ask_of-ask-in-Thread.ensures c.args.pages.now.kept c.find_thread.new.kept c.find_thread.ensures.keeps;
+  only_cache_differs = refl;
+  cache_stays_coherent = keeps_for g.S.Store c.args.store.now c.find_thread.new.store c.find_thread.result c.ask_of-ask-in-Thread.ensures c.args.pages.now.kept c.find_thread.new.kept
+      c.find_thread.ensures.keeps;
 }
 
 pub returns-in-Author-clause-keeps : goal.returns-in-Author-clause-keeps
 returns-in-Author-clause-keeps g c = record {
-  same = refl;
-  keeps = keeps_for g.S.Store c.args.store.now c.find_author.new.store c.find_author.result c.ask_of-ask-in-Author.ensures c.args.pages.now.kept c.find_author.new.kept c.find_author.ensures.keeps;
+  only_cache_differs = refl;
+  cache_stays_coherent = keeps_for g.S.Store c.args.store.now c.find_author.new.store c.find_author.result c.ask_of-ask-in-Author.ensures c.args.pages.now.kept c.find_author.new.kept
+      c.find_author.ensures.keeps;
 }

@@ -7,9 +7,9 @@ pub returns-in-None : goal.returns-in-None
 returns-in-None c =
     let none : HasNoRequest c.args.bytes.now = search rules in
     λ more. record {
-      head = λ h x. full_none _ more h x.rest c.requires none x.short x.reads;
-      whole = search rules;
-      many = λ _ _. refl;
-      long = λ _ _ _. refl;
-      large = λ _. inl (omega (arith, c.requires));
+      when_head = λ h x. full_none _ more h x.after_head c.requires none x.at_most_8192 x.reads_head;
+      when_read = search rules;
+      when_too_many_fields = λ _ _. refl;
+      when_too_long = λ _ _ _. refl;
+      too_large_means_too_long = λ _. inl (omega (arith, c.requires));
     }

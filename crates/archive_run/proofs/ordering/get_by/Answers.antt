@@ -20,12 +20,12 @@ returns-in_err-text g c =
     let day = c.in-Some.day in
     let new = record old { clock = clock; databases = c.work_get.new.databases } in
     let refusal = c.in_err-text.field-0.0 in
-    let is_file : asked.file.now ≡ order.asked.file = ap (λ i. i.asked.file) c.order-inside.view_is ∙ ap (λ (o : GetValues). o.asked.file) c.order.view_is in
-    let is_day : asked.day ≡ order.asked.day = ap (λ i. i.asked.day) c.order-inside.view_is ∙ ap (λ (o : GetValues). o.asked.day) c.order.view_is in
+    let is_file : asked.file.now ≡ order.ask.file = ap (λ i. i.asked.file) c.order-inside.view_is ∙ ap (λ (o : GetValues). o.ask.file) c.order.view_is in
+    let is_day : asked.day ≡ order.ask.day = ap (λ i. i.asked.day) c.order-inside.view_is ∙ ap (λ (o : GetValues). o.ask.day) c.order.view_is in
     let is_key : key ≡ order.key = ap (λ i. i.key.now) c.order-inside.view_is ∙ ap (λ (o : GetValues). o.key) c.order.view_is in
-    let is_asked : c.order.inside.asked ≡ order.asked = ap (λ (o : GetValues). o.asked) c.order.view_is in
+    let is_asked : c.order.inside.asked ≡ order.ask = ap (λ (o : GetValues). o.ask) c.order.view_is in
     let is_ask = rw is_asked at c.ask_of-ask.ensures in
-    let given : IsReadingDay g.Y.Clock.DayClock order.asked.day true old.clock clock (Some day) = rw is_day at c.in-Some.ensures in
+    let given : IsReadingDay g.Y.Clock.DayClock order.ask.day true old.clock clock (Some day) = rw is_day at c.in-Some.ensures in
     err_at (RunGetsMessageOnDay old new g.Y.Output.Sink g.Y.Output.BufferedSink g.Y.Storage.Store g.Y-Databases-Databases g.Y.Clock.DayClock order c.args.policy.now)
     c.from_residual.result refusal c.from_residual.ensures.1
     (inr (
@@ -51,12 +51,12 @@ returns g c =
     let text = c.in_ok-text.text in
     let before = output_stream_state g.Y.Output.Sink g.Y.Output.BufferedSink old.output in
     let after = output_stream_state g.Y.Output.Sink g.Y.Output.BufferedSink c.send.new.output in
-    let is_file : asked.file.now ≡ order.asked.file = ap (λ i. i.asked.file) c.order-inside.view_is ∙ ap (λ (o : GetValues). o.asked.file) c.order.view_is in
-    let is_day : asked.day ≡ order.asked.day = ap (λ i. i.asked.day) c.order-inside.view_is ∙ ap (λ (o : GetValues). o.asked.day) c.order.view_is in
+    let is_file : asked.file.now ≡ order.ask.file = ap (λ i. i.asked.file) c.order-inside.view_is ∙ ap (λ (o : GetValues). o.ask.file) c.order.view_is in
+    let is_day : asked.day ≡ order.ask.day = ap (λ i. i.asked.day) c.order-inside.view_is ∙ ap (λ (o : GetValues). o.ask.day) c.order.view_is in
     let is_key : key ≡ order.key = ap (λ i. i.key.now) c.order-inside.view_is ∙ ap (λ (o : GetValues). o.key) c.order.view_is in
-    let is_asked : c.order.inside.asked ≡ order.asked = ap (λ (o : GetValues). o.asked) c.order.view_is in
+    let is_asked : c.order.inside.asked ≡ order.ask = ap (λ (o : GetValues). o.ask) c.order.view_is in
     let is_ask = rw is_asked at c.ask_of-ask.ensures in
-    let given : IsReadingDay g.Y.Clock.DayClock order.asked.day true old.clock clock (Some day) = rw is_day at c.in-Some.ensures in
+    let given : IsReadingDay g.Y.Clock.DayClock order.ask.day true old.clock clock (Some day) = rw is_day at c.in-Some.ensures in
     let got = at_three (λ (f : List ℕ) (a : Ask) (k : List ℕ). UsesDatabase g.Y-Databases-Databases old.databases new.databases f (λ o x. GetsMessage g.Y.Storage.Store o x a k (Ok text)))
     _ _ _ _ _ _ is_file is_ask is_key c.in_ok-text.ensures in
     by_result (RunGetsMessageOnDay old new g.Y.Output.Sink g.Y.Output.BufferedSink g.Y.Storage.Store g.Y-Databases-Databases g.Y.Clock.DayClock order c.args.policy.now) _ _

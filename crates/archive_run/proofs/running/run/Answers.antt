@@ -37,8 +37,8 @@ returns-in-Ok-clause-refused g c =
       refusal = it.0;
       stopped = mid;
       cause = inr cause;
-      told = (it.2, refl);
-      ends = ends_over dev g.met.Y.Platform.opens_held g.met.Y.Platform.closes_held
+      reports_refusal = (it.2, refl);
+      served_until_f4 = ends_over dev g.met.Y.Platform.opens_held g.met.Y.Platform.closes_held
           g.met.Y.Ports.Listener.Listener.accepts_none g.met.Y.Ports.Listener.Listener.closes_one g.met.Y.Ports.Ports.listens_none old mid order it.0 cause;
     }
 
@@ -86,8 +86,8 @@ returns-in-Err-clause-refused g c =
       refusal = Run Memory;
       stopped = old;
       cause = inl (refl, refl);
-      told = (said.2, ap (λ o. record old { output = o; faults = faults }) said.1);
-      ends = ends_unread dev g.met.Y.Platform.opens_held g.met.Y.Platform.closes_held
+      reports_refusal = (said.2, ap (λ o. record old { output = o; faults = faults }) said.1);
+      served_until_f4 = ends_unread dev g.met.Y.Platform.opens_held g.met.Y.Platform.closes_held
           g.met.Y.Ports.Listener.Listener.accepts_none g.met.Y.Ports.Listener.Listener.closes_one g.met.Y.Ports.Ports.listens_none old old order;
     }
 

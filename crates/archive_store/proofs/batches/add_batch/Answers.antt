@@ -18,37 +18,37 @@ returns-in-Ok-pass-clause-step g c = λ clean a t.
     let list = c.args.additions.now.list.now in
     let items = c.args.additions.now.items.now in
     let first = state g.S.Store c.args.store.now.conn in
-    let clean_2 = c.commit-committed.ensures.ends.lasts.returned clean in
-    let begun = (rw c.in_ok-pass.ensures.passed at c.begin-begun.ensures.held) (c.add_some.ensures.ends.lasts.returned clean_2) t.held in
+    let clean_2 = c.commit-committed.ensures.ends.remains_open.disk_was_clean clean in
+    let begun = (rw c.in_ok-pass.ensures.passed at c.begin-begun.ensures.held) (c.add_some.ensures.ends.remains_open.disk_was_clean clean_2) t.is_open_archive in
     let there = stays_taken None (Some first.now) first (state g.S.Store c.begin-begun.new.conn) a list (take c.args.from items) c.args.count.now c.args.report.now t begun in
     let added = c.in-Ok.ensures.step clean_2 first.now a there in
     let kept = rw c.in-Ok-pass.ensures.passed at c.commit-committed.ensures.held in (
       stays_taken (Some first.now) None (state g.S.Store c.add_some.new.store.conn) (state g.S.Store c.commit-committed.new.conn) a list (take c.in-Ok.at items)
           c.add_some.new.count c.add_some.new.report added.0
-          (kept clean first.now added.0.held),
+          (kept clean first.now added.0.is_open_archive),
       added.1,
     )
 
 pub returns-in-Err-pass-clause-step : goal.returns-in-Err-pass-clause-step
 returns-in-Err-pass-clause-step g c = λ clean a t up.
     let first = state g.S.Store c.args.store.now.conn in
-    let clean_3 = c.rollback-undone.ensures.lasts.returned clean in
-    let clean_2 = c.commit-committed.ensures.ends.lasts.returned clean_3 in
-    let begun = (rw c.in_ok-pass.ensures.passed at c.begin-begun.ensures.held) (c.add_some.ensures.ends.lasts.returned clean_2) t.held in
+    let clean_3 = c.rollback-undone.ensures.lasts.disk_was_clean clean in
+    let clean_2 = c.commit-committed.ensures.ends.remains_open.disk_was_clean clean_3 in
+    let begun = (rw c.in_ok-pass.ensures.passed at c.begin-begun.ensures.held) (c.add_some.ensures.ends.remains_open.disk_was_clean clean_2) t.is_open_archive in
     let there = stays_taken None (Some first.now) first (state g.S.Store c.begin-begun.new.conn) a c.args.additions.now.list.now (take c.args.from c.args.additions.now.items.now)
     c.args.count.now c.args.report.now t begun in
     let added = c.in-Ok.ensures.step clean_2 first.now a there in
     let error = err_from_is_err_and c.commit-committed.result c.in-Err-pass.ensures.passed in
     let failed = rw error.1 at c.commit-committed.ensures.held in
     let back = c.rollback-undone.ensures.left clean first.now
-    (held_or_back first.now (state g.S.Store c.add_some.new.store.conn) (state g.S.Store c.commit-committed.new.conn) (failed clean_3 first.now added.0.held)) up in
+    (held_or_back first.now (state g.S.Store c.add_some.new.store.conn) (state g.S.Store c.commit-committed.new.conn) (failed clean_3 first.now added.0.is_open_archive)) up in
     (back.0, archive_stays back.1 ∙ t.archive_is)
 
 pub returns-in-Err-clause-step : goal.returns-in-Err-clause-step
 returns-in-Err-clause-step g c = λ clean a t up.
     let first = state g.S.Store c.args.store.now.conn in
-    let clean_2 = c.rollback-undone-in-Err.ensures.lasts.returned clean in
-    let begun = (rw c.in_ok-pass.ensures.passed at c.begin-begun.ensures.held) (c.add_some.ensures.ends.lasts.returned clean_2) t.held in
+    let clean_2 = c.rollback-undone-in-Err.ensures.lasts.disk_was_clean clean in
+    let begun = (rw c.in_ok-pass.ensures.passed at c.begin-begun.ensures.held) (c.add_some.ensures.ends.remains_open.disk_was_clean clean_2) t.is_open_archive in
     let there = stays_taken None (Some first.now) first (state g.S.Store c.begin-begun.new.conn) a c.args.additions.now.list.now (take c.args.from c.args.additions.now.items.now)
     c.args.count.now c.args.report.now t begun in
     let back = c.rollback-undone-in-Err.ensures.left clean first.now (c.in-Err.ensures.step clean_2 first.now a there) up in
@@ -58,33 +58,34 @@ returns-in-Err-clause-step g c = λ clean a t up.
 
 pub returns-in_err-pass-clause-ends : goal.returns-in_err-pass-clause-ends
 returns-in_err-pass-clause-ends g c = record {
-  lasts = c.begin-begun.ensures.ends.lasts;
-  counted = search rules;
-  caused = λ clean free a t.
+  remains_open = c.begin-begun.ensures.ends.remains_open;
+  refusals_counted = search rules;
+  fault_has_cause = λ clean free a t.
       passed_on c.from_residual.result c.in_err-pass.field-0.0 _ c.from_residual.ensures.1
       (λ it. inl (blame_disk (state g.S.Store c.args.store.now.conn) (state g.S.Store c.begin-begun.new.conn) c.begin-begun.result c.in_err-pass.field-0.0 c.in_err-pass.ensures.passed
-      (c.begin-begun.ensures.ends.caused clean t.held.is_open t.held.autocommit) it));
+      (c.begin-begun.ensures.ends.fault_has_cause clean t.is_open_archive.is_open t.is_open_archive.autocommit) it));
 }
 
 pub returns-in-Ok-pass-clause-ends : goal.returns-in-Ok-pass-clause-ends
 returns-in-Ok-pass-clause-ends g c = record {
-  lasts = lasts_then _ _ _ (lasts_then _ _ _ c.begin-begun.ensures.ends.lasts c.add_some.ensures.ends.lasts) c.commit-committed.ensures.ends.lasts;
-  counted = search rules;
-  caused = λ clean free a t. tt;
+  remains_open = lasts_then _ _ _ (lasts_then _ _ _ c.begin-begun.ensures.ends.remains_open c.add_some.ensures.ends.remains_open) c.commit-committed.ensures.ends.remains_open;
+  refusals_counted = search rules;
+  fault_has_cause = λ clean free a t. tt;
 }
 
 pub returns-in-Err-pass-clause-ends : goal.returns-in-Err-pass-clause-ends
 returns-in-Err-pass-clause-ends g c = record {
-  lasts = lasts_then _ _ _ (lasts_then _ _ _ (lasts_then _ _ _ c.begin-begun.ensures.ends.lasts c.add_some.ensures.ends.lasts) c.commit-committed.ensures.ends.lasts) c.rollback-undone.ensures.lasts;
-  counted = search rules;
-  caused = λ clean free a t it.
+  remains_open = lasts_then _ _ _ (lasts_then _ _ _ (lasts_then _ _ _ c.begin-begun.ensures.ends.remains_open c.add_some.ensures.ends.remains_open)
+      c.commit-committed.ensures.ends.remains_open) c.rollback-undone.ensures.lasts;
+  refusals_counted = search rules;
+  fault_has_cause = λ clean free a t it.
       let list = c.args.additions.now.list.now in
       let items = c.args.additions.now.items.now in
       let first = state g.S.Store c.args.store.now.conn in
-      let clean_3 = c.rollback-undone.ensures.lasts.returned clean in
-      let clean_2 = c.commit-committed.ensures.ends.lasts.returned clean_3 in
-      let clean_1 = c.add_some.ensures.ends.lasts.returned clean_2 in
-      let begun = (rw c.in_ok-pass.ensures.passed at c.begin-begun.ensures.held) clean_1 t.held in
+      let clean_3 = c.rollback-undone.ensures.lasts.disk_was_clean clean in
+      let clean_2 = c.commit-committed.ensures.ends.remains_open.disk_was_clean clean_3 in
+      let clean_1 = c.add_some.ensures.ends.remains_open.disk_was_clean clean_2 in
+      let begun = (rw c.in_ok-pass.ensures.passed at c.begin-begun.ensures.held) clean_1 t.is_open_archive in
       let there = stays_taken None (Some first.now) first (state g.S.Store c.begin-begun.new.conn) a list (take c.args.from items) c.args.count.now c.args.report.now t begun in
       let added = c.in-Ok.ensures.step clean_2 first.now a there in
       let more = blame_disk (state g.S.Store c.add_some.new.store.conn) (state g.S.Store c.commit-committed.new.conn) c.commit-committed.result _ c.in-Err-pass.ensures.passed
@@ -94,20 +95,20 @@ returns-in-Err-pass-clause-ends g c = record {
 
 pub returns-in-Err-clause-ends : goal.returns-in-Err-clause-ends
 returns-in-Err-clause-ends g c = record {
-  lasts = lasts_then _ _ _ (lasts_then _ _ _ c.begin-begun.ensures.ends.lasts c.add_some.ensures.ends.lasts) c.rollback-undone-in-Err.ensures.lasts;
-  counted = search rules;
-  caused = λ clean free a t it.
+  remains_open = lasts_then _ _ _ (lasts_then _ _ _ c.begin-begun.ensures.ends.remains_open c.add_some.ensures.ends.remains_open) c.rollback-undone-in-Err.ensures.lasts;
+  refusals_counted = search rules;
+  fault_has_cause = λ clean free a t it.
       let list = c.args.additions.now.list.now in
       let items = c.args.additions.now.items.now in
       let first = state g.S.Store c.args.store.now.conn in
-      let clean_2 = c.rollback-undone-in-Err.ensures.lasts.returned clean in
-      let clean_1 = c.add_some.ensures.ends.lasts.returned clean_2 in
-      let limit = c.begin-begun.ensures.ends.lasts.limit ∙ free in
-      let begun = (rw c.in_ok-pass.ensures.passed at c.begin-begun.ensures.held) clean_1 t.held in
+      let clean_2 = c.rollback-undone-in-Err.ensures.lasts.disk_was_clean clean in
+      let clean_1 = c.add_some.ensures.ends.remains_open.disk_was_clean clean_2 in
+      let limit = c.begin-begun.ensures.ends.remains_open.step_limit_is_same ∙ free in
+      let begun = (rw c.in_ok-pass.ensures.passed at c.begin-begun.ensures.held) clean_1 t.is_open_archive in
       let there = stays_taken None (Some first.now) first (state g.S.Store c.begin-begun.new.conn) a list (take c.args.from items) c.args.count.now c.args.report.now t begun in
-      let same = saw_same first (state g.S.Store c.begin-begun.new.conn) c.in_ok-pass.ensures.passed (c.begin-begun.ensures.ends.same clean_1) in
+      let same = saw_same first (state g.S.Store c.begin-begun.new.conn) c.in_ok-pass.ensures.passed (c.begin-begun.ensures.ends.same_database clean_1) in
       let last = state g.S.Store c.rollback-undone-in-Err.new.conn in
-      let whole = lasts_then _ _ _ (lasts_then _ _ _ c.begin-begun.ensures.ends.lasts c.add_some.ensures.ends.lasts) c.rollback-undone-in-Err.ensures.lasts in
+      let whole = lasts_then _ _ _ (lasts_then _ _ _ c.begin-begun.ensures.ends.remains_open c.add_some.ensures.ends.remains_open) c.rollback-undone-in-Err.ensures.lasts in
       let back = c.rollback-undone-in-Err.ensures.left clean first.now (c.in-Err.ensures.step clean_2 first.now a there) in
       elim (c.in-Err.ensures.ends.caused first.now clean_2 limit a there it) [
         | inl more ↦ inl (omega (arith, more, c.begin-begun.ensures.ends.lasts.shut.faults, c.rollback-undone-in-Err.ensures.lasts.shut.faults))
@@ -119,49 +120,52 @@ returns-in-Err-clause-ends g c = record {
 -- ---- what a stop leaves
 
 pub returns-in_err-pass-clause-crash : goal.returns-in_err-pass-clause-crash
-returns-in_err-pass-clause-crash g c = λ a t clean db may. inl (c.begin-begun.ensures.ends.quiet clean db may)
+returns-in_err-pass-clause-crash g c = λ a t clean db may. inl (c.begin-begun.ensures.ends.crash_adds_nothing clean db may)
 
 pub returns-in-Ok-pass-clause-crash : goal.returns-in-Ok-pass-clause-crash
 returns-in-Ok-pass-clause-crash g c = λ a t clean db may.
-    let clean_2 = c.commit-committed.ensures.ends.lasts.returned clean in
+    let clean_2 = c.commit-committed.ensures.ends.remains_open.disk_was_clean clean in
     let list = c.args.additions.now.list.now in
     let items = c.args.additions.now.items.now in
     let first = state g.S.Store c.args.store.now.conn in
-    let begun = (rw c.in_ok-pass.ensures.passed at c.begin-begun.ensures.held) (c.add_some.ensures.ends.lasts.returned clean_2) t.held in
+    let begun = (rw c.in_ok-pass.ensures.passed at c.begin-begun.ensures.held) (c.add_some.ensures.ends.remains_open.disk_was_clean clean_2) t.is_open_archive in
     let there = stays_taken None (Some first.now) first (state g.S.Store c.begin-begun.new.conn) a list (take c.args.from items) c.args.count.now c.args.report.now t begun in
-    let quiet = quiet_then g.S.Store c.args.store.now.conn c.begin-begun.new.conn c.add_some.new.store.conn c.begin-begun.ensures.ends.quiet c.add_some.ensures.ends.lasts.returned
+    let quiet = quiet_then g.S.Store c.args.store.now.conn c.begin-begun.new.conn c.add_some.new.store.conn c.begin-begun.ensures.ends.crash_adds_nothing
+    c.add_some.ensures.ends.remains_open.disk_was_clean
     (c.add_some.ensures.quiet first.now a there) in
     let added = c.in-Ok.ensures.step clean_2 first.now a there in
-    elim (commit_over g.S.Store c.add_some.new.store.conn c.commit-committed.new.conn first.now added.0.held c.commit-committed.ensures.ends.crash clean db may) [
+    elim (commit_over g.S.Store c.add_some.new.store.conn c.commit-committed.new.conn first.now added.0.is_open_archive c.commit-committed.ensures.ends.crash clean db may) [
       | inl earlier ↦ inl (quiet clean_2 db earlier)
       | inr it ↦ inr (c.in-Ok.at, record { least = c.in-Ok.ensures.came.1; most = c.in-Ok.ensures.came.2; whole = added.1 }, subst (λ x. IsArchiveStored x db) added.0.archive_is it)
     ]
 
 pub returns-in-Err-pass-clause-crash : goal.returns-in-Err-pass-clause-crash
 returns-in-Err-pass-clause-crash g c = λ a t clean db may.
-    let clean_2 = c.commit-committed.ensures.ends.lasts.returned (c.rollback-undone.ensures.lasts.returned clean) in
+    let clean_2 = c.commit-committed.ensures.ends.remains_open.disk_was_clean (c.rollback-undone.ensures.lasts.disk_was_clean clean) in
     let list = c.args.additions.now.list.now in
     let items = c.args.additions.now.items.now in
     let first = state g.S.Store c.args.store.now.conn in
-    let begun = (rw c.in_ok-pass.ensures.passed at c.begin-begun.ensures.held) (c.add_some.ensures.ends.lasts.returned clean_2) t.held in
+    let begun = (rw c.in_ok-pass.ensures.passed at c.begin-begun.ensures.held) (c.add_some.ensures.ends.remains_open.disk_was_clean clean_2) t.is_open_archive in
     let there = stays_taken None (Some first.now) first (state g.S.Store c.begin-begun.new.conn) a list (take c.args.from items) c.args.count.now c.args.report.now t begun in
-    let quiet = quiet_then g.S.Store c.args.store.now.conn c.begin-begun.new.conn c.add_some.new.store.conn c.begin-begun.ensures.ends.quiet c.add_some.ensures.ends.lasts.returned
+    let quiet = quiet_then g.S.Store c.args.store.now.conn c.begin-begun.new.conn c.add_some.new.store.conn c.begin-begun.ensures.ends.crash_adds_nothing
+    c.add_some.ensures.ends.remains_open.disk_was_clean
     (c.add_some.ensures.quiet first.now a there) in
     let added = c.in-Ok.ensures.step clean_2 first.now a there in
-    elim (commit_over g.S.Store c.add_some.new.store.conn c.commit-committed.new.conn first.now added.0.held c.commit-committed.ensures.ends.crash
-    (c.rollback-undone.ensures.lasts.returned clean) db (c.rollback-undone.ensures.ends.quiet clean db may)) [
+    elim (commit_over g.S.Store c.add_some.new.store.conn c.commit-committed.new.conn first.now added.0.is_open_archive c.commit-committed.ensures.ends.crash
+    (c.rollback-undone.ensures.lasts.disk_was_clean clean) db (c.rollback-undone.ensures.ends.crash_adds_nothing clean db may)) [
       | inl earlier ↦ inl (quiet clean_2 db earlier)
       | inr it ↦ inr (c.in-Ok.at, record { least = c.in-Ok.ensures.came.1; most = c.in-Ok.ensures.came.2; whole = added.1 }, subst (λ x. IsArchiveStored x db) added.0.archive_is it)
     ]
 
 pub returns-in-Err-clause-crash : goal.returns-in-Err-clause-crash
 returns-in-Err-clause-crash g c = λ a t clean db may.
-    let clean_2 = c.rollback-undone-in-Err.ensures.lasts.returned clean in
+    let clean_2 = c.rollback-undone-in-Err.ensures.lasts.disk_was_clean clean in
     let list = c.args.additions.now.list.now in
     let items = c.args.additions.now.items.now in
     let first = state g.S.Store c.args.store.now.conn in
-    let begun = (rw c.in_ok-pass.ensures.passed at c.begin-begun.ensures.held) (c.add_some.ensures.ends.lasts.returned clean_2) t.held in
+    let begun = (rw c.in_ok-pass.ensures.passed at c.begin-begun.ensures.held) (c.add_some.ensures.ends.remains_open.disk_was_clean clean_2) t.is_open_archive in
     let there = stays_taken None (Some first.now) first (state g.S.Store c.begin-begun.new.conn) a list (take c.args.from items) c.args.count.now c.args.report.now t begun in
-    let quiet = quiet_then g.S.Store c.args.store.now.conn c.begin-begun.new.conn c.add_some.new.store.conn c.begin-begun.ensures.ends.quiet c.add_some.ensures.ends.lasts.returned
+    let quiet = quiet_then g.S.Store c.args.store.now.conn c.begin-begun.new.conn c.add_some.new.store.conn c.begin-begun.ensures.ends.crash_adds_nothing
+    c.add_some.ensures.ends.remains_open.disk_was_clean
     (c.add_some.ensures.quiet first.now a there) in
-    inl (quiet clean_2 db (c.rollback-undone-in-Err.ensures.ends.quiet clean db may))
+    inl (quiet clean_2 db (c.rollback-undone-in-Err.ensures.ends.crash_adds_nothing clean db may))

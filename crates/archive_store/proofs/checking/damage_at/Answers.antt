@@ -32,7 +32,7 @@ pub returns-in_err-rows-clause-caused : goal.returns-in_err-rows-clause-caused
 returns-in_err-rows-clause-caused g c = λ returned held free f is.
     passed_on c.from_residual.result c.in_err-rows.field-0.0 _ c.from_residual.ensures.1
     (blames_disk g.S.Store c.args.store.now.conn c.filed_at-rows.new.conn c.filed_at-rows.result (Err c.in_err-rows.field-0.0) c.in_err-rows.ensures.passed
-    c.filed_at-rows.ensures.caused returned held free)
+    c.filed_at-rows.ensures.fault_has_cause returned held free)
 
 pub returns-in_default-clause-caused : goal.returns-in_default-clause-caused
 returns-in_default-clause-caused g c = λ returned held free f is it.

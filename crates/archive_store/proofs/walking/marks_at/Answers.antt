@@ -31,7 +31,7 @@ pub returns-in_err-row-clause-caused : goal.returns-in_err-row-clause-caused
 returns-in_err-row-clause-caused g c = λ clean kept free.
     passed_on c.from_residual.result c.in_err-row.field-0.0 _ c.from_residual.ensures.1
     (λ it. inl (blames_disk g.S.Store c.args.store.now.conn c.marks_at-found.new.conn c.marks_at-found.result (Err c.in_err-row.field-0.0) c.in_err-row.ensures.passed
-    c.marks_at-found.ensures.caused clean kept free it))
+    c.marks_at-found.ensures.fault_has_cause clean kept free it))
 
 pub returns-in-Some-clause-caused : goal.returns-in-Some-clause-caused
 returns-in-Some-clause-caused g c = λ clean kept free.

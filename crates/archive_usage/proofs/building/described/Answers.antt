@@ -5,6 +5,6 @@ use Rattle.archive_usage.proofs.building.described.Goals as goal
 
 pub returns : goal.returns
 returns c = λ app is. record {
-  reads = ap app_of_fields c.after_help.ensures ∙ (ap app_of_fields c.about.ensures ∙ is.reads);
-  local = ap (λ f. f.has_globals) c.after_help.ensures ∙ (ap (λ f. f.has_globals) c.about.ensures ∙ is.local);
+  app_is = ap app_of_fields c.after_help.ensures ∙ (ap app_of_fields c.about.ensures ∙ is.app_is);
+  has_no_globals = ap (λ f. f.has_globals) c.after_help.ensures ∙ (ap (λ f. f.has_globals) c.about.ensures ∙ is.has_no_globals);
 }

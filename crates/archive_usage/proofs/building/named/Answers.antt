@@ -4,6 +4,6 @@ use Rattle.archive_usage.proofs.building.named.Goals as goal
 
 pub returns : goal.returns
 returns c = λ app is. record {
-  reads = ap app_of_fields c.in_ok-named.ensures.0 ∙ is.reads;
-  local = ap (λ f. f.has_globals) c.in_ok-named.ensures.0 ∙ is.local;
+  app_is = ap app_of_fields c.in_ok-named.ensures.0 ∙ is.app_is;
+  has_no_globals = ap (λ f. f.has_globals) c.in_ok-named.ensures.0 ∙ is.has_no_globals;
 }

@@ -3,4 +3,4 @@ use Rattle.archive_usage.proofs.building.new_command.Goals as goal
 
 pub returns : goal.returns
 unfolding empty_app
-returns c = c.described.ensures (empty_app c.args.name.now) (record { reads = c.new.ensures.app; local = c.new.ensures.local })
+returns c = c.described.ensures (empty_app c.args.name.now) (record { app_is = c.new.ensures.app; has_no_globals = c.new.ensures.local })

@@ -9,6 +9,6 @@ unfolding option_rule
 returns c =
     let global : Arg → Bool = λ a. a.global in
     record {
-      reads = ap rule_of c.long.ensures ∙ ap (λ (r : Rule). record r { long = Some c.args.name.now }) c.valued.ensures.reads;
-      local = ap global c.long.ensures ∙ c.valued.ensures.local;
+      rule_is = ap rule_of c.long.ensures ∙ ap (λ (r : Rule). record r { long = Some c.args.name.now }) c.valued.ensures.rule_is;
+      is_not_global = ap global c.long.ensures ∙ c.valued.ensures.is_not_global;
     }

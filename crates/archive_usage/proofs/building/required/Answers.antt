@@ -9,6 +9,6 @@ unfolding required_rule
 returns c =
     let global : Arg → Bool = λ a. a.global in
     λ rule is. record {
-      reads = ap rule_of c.required.ensures ∙ ap (λ (r : Rule). record r { required = true }) is.reads;
-      local = ap global c.required.ensures ∙ is.local;
+      rule_is = ap rule_of c.required.ensures ∙ ap (λ (r : Rule). record r { required = true }) is.rule_is;
+      is_not_global = ap global c.required.ensures ∙ is.is_not_global;
     }

@@ -9,6 +9,6 @@ unfolding valued_rule
 returns c =
     let global : Arg → Bool = λ a. a.global in
     record {
-      reads = ap rule_of c.help.ensures ∙ (ap rule_of c.value_name.ensures ∙ ap (λ (r : Rule). record r { value_names = 1 }) c.new.ensures.rule);
-      local = ap global c.help.ensures ∙ (ap global c.value_name.ensures ∙ c.new.ensures.optional.1);
+      rule_is = ap rule_of c.help.ensures ∙ (ap rule_of c.value_name.ensures ∙ ap (λ (r : Rule). record r { value_names = 1 }) c.new.ensures.rule);
+      is_not_global = ap global c.help.ensures ∙ (ap global c.value_name.ensures ∙ c.new.ensures.optional.1);
     }

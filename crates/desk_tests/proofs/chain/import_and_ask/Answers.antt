@@ -71,4 +71,4 @@ returns-in-Err-export-clause-part g c =
     (λ x y why. (y ≡ x) × IsExportRefused (ask_reason x ask) before after (exported_text x ask) why.0 why.1)
     (export_reason c.in-Err-export.stop)
     (export_right g.S.Store c.month.new.store c.export.new.store ask before after (Err c.in-Err-export.stop) c.in-Err-export.ensures.exported))
-    before after c.in-Err-export.stop.written c.in-Err-export.ensures.stopped.part
+    before after c.in-Err-export.stop.written c.in-Err-export.ensures.stopped.exports_part

@@ -14,16 +14,16 @@ returns-in-Ok-import_withdraw_and_answer-clause-answered g c =
     subst
     (λ before. AnswersAfterWithdrawal g.R.Source g.W.Sink c.args.withdrawal.now c.args.policy.now c.args.day before c.args.first.now c.import_withdraw_and_answer.new.first
     c.args.second.now c.import_withdraw_and_answer.new.second c.in-Ok-import_withdraw_and_answer.report c.in-Ok-import_withdraw_and_answer.answered)
-    c.in-Ok.ensures.remembers
-    (c.in-Ok-import_withdraw_and_answer.ensures.answered (memory_is_clean (store_connection c.import_withdraw_and_answer.new.store)) c.in-Ok.ensures.ready)
+    c.in-Ok.ensures.archive_is
+    (c.in-Ok-import_withdraw_and_answer.ensures.answered (memory_is_clean (store_connection c.import_withdraw_and_answer.new.store)) c.in-Ok.ensures.is_ready)
 
 pub returns-in-Ok-import_withdraw_and_answer-clause-caused : goal.returns-in-Ok-import_withdraw_and_answer-clause-caused
 returns-in-Ok-import_withdraw_and_answer-clause-caused g c =
-    let write = c.what_commands_write_can_be_read.ensures in
-    wanting c.in_memory_503_means_that_memory_was_refused.ensures c.in_memory_each_request_is_followed_by_the_next.ensures write.taken write.step
-    c.divided_are_items.ensures g.R.Source g.W.Sink c.args.policy.now c.args.day c.in-Ok.store c.import_withdraw_and_answer.new.store c.args.withdrawal.now
+    let write = c.commands_write_readable_archives.ensures in
+    wanting c.in_memory_503_means_that_memory_was_refused.ensures c.in_memory_each_request_leaves_the_store_ready.ensures write.taken write.step
+    c.messages_of_a_division_are_items.ensures g.R.Source g.W.Sink c.args.policy.now c.args.day c.in-Ok.store c.import_withdraw_and_answer.new.store c.args.withdrawal.now
     c.args.first.now c.import_withdraw_and_answer.new.first c.args.second.now c.import_withdraw_and_answer.new.second
-    c.in-Ok-import_withdraw_and_answer.report c.in-Ok-import_withdraw_and_answer.answered c.in-Ok.ensures.ready c.in-Ok.ensures.unlimited
-    (subst CanBeRead (sym c.in-Ok.ensures.remembers)
-    (write.run empty_archive (map spec_command c.args.commands.now) c.the_commands_of_a_run_are_said.ensures write.empty))
+    c.in-Ok-import_withdraw_and_answer.report c.in-Ok-import_withdraw_and_answer.answered c.in-Ok.ensures.is_ready c.in-Ok.ensures.has_no_step_limit
+    (subst CanBeRead (sym c.in-Ok.ensures.archive_is)
+    (write.run empty_archive (map spec_command c.args.commands.now) c.commands_of_a_run_are_well_formed.ensures write.empty))
     c.in-Ok-import_withdraw_and_answer.ensures.ends

@@ -16,7 +16,7 @@ returns-in-Ok c =
     let commands = map spec_command c.args.commands.now in
     let is = ran.1 ∙ ap (λ archive. (run archive commands).archive) made.1 in
     record {
-      ready = ready_with over_memory c.run.new.self (run empty_archive commands).archive ran.0 is (run_right empty_archive commands empty_right);
-      remembers = is;
-      unlimited = c.in-Ok.ensures.ends.lasts.limit ∙ c.in_ok-store.ensures.unlimited;
+      is_ready = ready_with over_memory c.run.new.self (run empty_archive commands).archive ran.0 is (run_right empty_archive commands empty_right);
+      archive_is = is;
+      has_no_step_limit = c.in-Ok.ensures.ends.remains_open.step_limit_is_same ∙ c.in_ok-store.ensures.unlimited;
     }

@@ -7,21 +7,21 @@ pub returns-in-Ok-withdraw-clause-done : goal.returns-in-Ok-withdraw-clause-done
 returns-in-Ok-withdraw-clause-done g c =
     withdrawn g.S.Store c.args.store.now c.import.new.store c.withdraw.new.self c.args.withdrawal.now c.in-Ok.report
     (import_right g.S.Store c.args.store.now c.import.new.store c.args.withdrawal.now.list.now c.args.withdrawal.now.mbox.now (Ok c.in-Ok.report) c.in-Ok.ensures.imports)
-    c.in-Ok-withdraw.ensures.ends.lasts c.what_is_withdrawn_might_never_have_come.ensures c.in-Ok-withdraw.ensures.step
+    c.in-Ok-withdraw.ensures.ends.remains_open c.a_withdrawn_message_might_never_have_arrived.ensures c.in-Ok-withdraw.ensures.step
 
 pub returns-in-Err-withdraw-clause-stopped : goal.returns-in-Err-withdraw-clause-stopped
 returns-in-Err-withdraw-clause-stopped g c =
     not_withdrawn g.S.Store c.args.store.now c.import.new.store c.withdraw.new.self c.args.withdrawal.now c.in-Ok.report
     (import_right g.S.Store c.args.store.now c.import.new.store c.args.withdrawal.now.list.now c.args.withdrawal.now.mbox.now (Ok c.in-Ok.report) c.in-Ok.ensures.imports)
-    c.in-Err-withdraw.ensures.ends.lasts c.in-Err-withdraw.fault c.in-Err-withdraw.ensures.step
+    c.in-Err-withdraw.ensures.ends.remains_open c.in-Err-withdraw.fault c.in-Err-withdraw.ensures.step
 
 pub returns-in-Ok-withdraw-clause-counted : goal.returns-in-Ok-withdraw-clause-counted
-returns-in-Ok-withdraw-clause-counted g c = let first = c.in-Ok.ensures.ends.counted.0 in let then = c.in-Ok-withdraw.ensures.ends.counted.0 in (omega (arith, first, then), tt)
+returns-in-Ok-withdraw-clause-counted g c = let first = c.in-Ok.ensures.ends.refusals_counted.0 in let then = c.in-Ok-withdraw.ensures.ends.refusals_counted.0 in (omega (arith, first, then), tt)
 
 pub returns-in-Err-withdraw-clause-counted : goal.returns-in-Err-withdraw-clause-counted
 returns-in-Err-withdraw-clause-counted g c =
-    let first = c.in-Ok.ensures.ends.counted.0 in
-    let then = c.in-Err-withdraw.ensures.ends.counted in
+    let first = c.in-Ok.ensures.ends.refusals_counted.0 in
+    let then = c.in-Err-withdraw.ensures.ends.refusals_counted in
     let grown = then.0 in (omega (arith, first, grown), (λ want. let more = then.1 want in omega (arith, first, more)))
 
 pub returns-in-Err-clause-stopped : goal.returns-in-Err-clause-stopped
@@ -29,4 +29,4 @@ returns-in-Err-clause-stopped g c =
     import_right g.S.Store c.args.store.now c.import.new.store c.args.withdrawal.now.list.now c.args.withdrawal.now.mbox.now (Err c.in-Err.stop) c.in-Err.ensures.imports
 
 pub returns-in-Err-clause-counted : goal.returns-in-Err-clause-counted
-returns-in-Err-clause-counted g c = c.in-Err.ensures.ends.counted
+returns-in-Err-clause-counted g c = c.in-Err.ensures.ends.refusals_counted

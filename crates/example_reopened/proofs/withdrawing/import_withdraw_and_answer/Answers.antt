@@ -6,13 +6,13 @@ pub returns-clause-answered : goal.returns-clause-answered
 returns-clause-answered g c = λ returned ready.
     let found = c.import_and_withdraw.new.store in
     let ends = c.answer_both-answered.ensures.ends in
-    let was = ends.first_ends.stays.same.0.returned (ends.second_ends.stays.same.0.returned returned) in
+    let was = ends.first_ends.stays.archive_is_same.0.disk_was_clean (ends.second_ends.stays.archive_is_same.0.disk_was_clean returned) in
     let it = c.in_ok-report.ensures.done.1 was ready in
     record {
       archive = archive_in g.S.Store found;
       made = it.1;
-      first_sent = c.answer_both-answered.ensures.first returned it.0.held;
-      second_sent = c.answer_both-answered.ensures.second returned it.0.held;
+      first_sent = c.answer_both-answered.ensures.first returned it.0.is_archive_at_rest;
+      second_sent = c.answer_both-answered.ensures.second returned it.0.is_archive_at_rest;
     }
 
 pub returns-clause-ends : goal.returns-clause-ends

@@ -13,5 +13,5 @@ returns-in-Ok-stop_and_reopen-clause-stopped g c =
     let party = withdrawn_by_number c.args.by in
     stopped_in g.met.D.Disk.seen_may_stay c.args.files c.in-Ok.store c.withdraw-answer.new.self c.in-Ok-stop_and_reopen.again
     (λ a. step a (withdraw list key party)) (reply_if_done c.withdraw-answer.result) (λ a right. step_right (withdraw list key party) a right)
-    c.in-Ok.ensures.opened c.withdraw-answer.ensures.ends.lasts.returned c.withdraw-answer.ensures.step c.withdraw-answer.ensures.crash
+    c.in-Ok.ensures.opened c.withdraw-answer.ensures.ends.remains_open.disk_was_clean c.withdraw-answer.ensures.step c.withdraw-answer.ensures.crash
     c.in-Ok-stop_and_reopen.ensures.found

@@ -9,4 +9,4 @@ pub returns : goal.returns
 returns c = λ entries merge.
     rows_few (length entries) (threads_of entries merge)
     (c.dummies_have_two_children.ensures entries merge (container_count entries) (parent_of (links_of entries)))
-    (c.each_place_stands_in_one_row.ensures.step_one entries merge)
+    (c.each_message_is_in_one_row.ensures.step_one entries merge)

@@ -68,15 +68,16 @@ pub loop-at-preserved-in-Some-2 : goal.loop-at-preserved-in-Some-2
 loop-at-preserved-in-Some-2 c =
     let v = c.loop-at.invariant in
     let x = rw c.in-Some-2.is at c.in_ok-end-2.ensures.found in record {
-      place = omega (arith, x.inside);
-      few = omega (arith, ap length x.added, length-append c.loop-at.found (x.id ∷ []), c.if-len-most.true, c.len.ensures);
+      place = omega (arith, x.end_in_range);
+      few = omega (arith, ap length x.appends_id, length-append c.loop-at.found (x.id ∷ []), c.if-len-most.true, c.len.ensures);
       comments = v.comments;
       told =
-          ap (λ (l : List MessageId). l ++ ids_of (drop c.in-Some-2.end c.args.text.now)) x.added
+          ap (λ (l : List MessageId). l ++ ids_of (drop c.in-Some-2.end c.args.text.now)) x.appends_id
           ∙ append_assoc c.loop-at.found (x.id ∷ []) (ids_of (drop c.in-Some-2.end c.args.text.now))
-          ∙ ap (λ (l : List MessageId). c.loop-at.found ++ l) (sym (scan_id c.args.text.now c.loop-at.at c.in-Some-2.end x.id c.loop-at-test.true c.if-byte-eq60.true x.later x.inside x.is))
+          ∙ ap (λ (l : List MessageId). c.loop-at.found ++ l) (sym (scan_id c.args.text.now c.loop-at.at c.in-Some-2.end x.id c.loop-at-test.true c.if-byte-eq60.true x.from_before_end
+          x.end_in_range x.read_is))
           ∙ v.told;
-      open_quote = λ q. let w = v.open_quote q in (w.0, omega (arith, w.1, x.later), w.2);
+      open_quote = λ q. let w = v.open_quote q in (w.0, omega (arith, w.1, x.from_before_end), w.2);
     }
 
 pub loop-at-preserved-in-None-2 : goal.loop-at-preserved-in-None-2

@@ -34,8 +34,8 @@ returns-in-Faulty-clause-err c =
     let P : List ℕ → Type 0 = λ x. IsSettledPreamble x at in
     let p = subst P c.deref.ensures.value c.in-Faulty.ensures.faulty in
     let q = front_faulty stream window c.args.skipped at n c.requires p in (
-      sym (faulty_none stream (length c.requires.gone + at) q),
-      length c.requires.gone + at,
+      sym (faulty_none stream (length c.requires.bytes_before + at) q),
+      length c.requires.bytes_before + at,
       q,
       front_counted stream window c.args.skipped at n [] c.requires (settled_within window at p) c.saturating_add-in-Faulty.ensures,
     )

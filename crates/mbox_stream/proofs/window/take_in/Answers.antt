@@ -4,12 +4,12 @@ use Rattle.memchr.specs.Find.{Nowhere, Passes, is_byte}
 use Rattle.mbox_stream.specs.Stream.{settled_bytes}
 use Rattle.mbox_stream.specs.Kept.{IsWindowAtPlace}
 use Rattle.mbox_stream.specs.declared.window.Place.{Place}
-use Rattle.mbox_stream.proofs.WindowLemmas.{settled_none}
+use Rattle.mbox_stream.proofs.WindowLemmas.{no_item_is_settled_before_a_preamble}
 use Rattle.mbox_stream.proofs.KeptLemmas.{kept_short, kept_on, settled_on}
 use Rattle.mbox_stream.proofs.window.take_in.Goals as goal
 
 quiet : (piece : List ℕ) → Nowhere (Passes (is_byte 10) piece) 0 (length piece) → settled_bytes piece ≡ []
-quiet piece h = settled_none piece (λ k lt e. h k (omega arith) lt e)
+quiet piece h = no_item_is_settled_before_a_preamble piece (λ k lt e. h k (omega arith) lt e)
 
 pub returns-in-Err-clause-err : goal.returns-in-Err-clause-err
 returns-in-Err-clause-err c =

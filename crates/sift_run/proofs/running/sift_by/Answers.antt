@@ -13,7 +13,7 @@ returns-in-Err-Write g c =
       count = c.in-Err-Write.field-0-0;
       filters_transcript = rw (← c.asked.view_is) filters_transcript;
       no_read_failed = it.matches_read_failures;
-      failed = it.matches_write_failures.1;
+      output_failed = it.matches_write_failures.1;
     }
 
 pub returns-in-Err : goal.returns-in-Err
@@ -26,5 +26,5 @@ returns-in-Err g c =
       count = length done.filters_transcript.1;
       filters_transcript = rw (← c.asked.view_is) part;
       no_read_failed = done.no_read_failed;
-      failed = omega (arith, done.no_write_failed, c.in-Err.ensures.cause);
+      output_failed = omega (arith, done.no_write_failed, c.in-Err.ensures.cause);
     }

@@ -17,8 +17,8 @@ returns-in-Err-clause-stopped g c =
     let s = i.so_far in
     let r = c.read_from.ensures.read in
     record {
-      unread = unread_fault _ _ _ _ _ _ _ _ s _ r.0 _ r.1 r.2 c.in-Err.fault c.in-Err.ensures.fault.0
-          (λ h. c.read_from.ensures.closed.0 (c.in-Err.is ∙ ap Err h) s.goes_on)
+      filters_until_error = unread_fault _ _ _ _ _ _ _ _ s _ r.0 _ r.1 r.2 c.in-Err.fault c.in-Err.ensures.fault.0
+          (λ h. c.read_from.ensures.closed.0 (c.in-Err.is ∙ ap Err h) s.phase_is_open)
           (λ h. (c.read_from.ensures.none (inr (c.in-Err.is ∙ ap Err h))).0);
       matches_read_failures = of_read_fault c.read_from.result c.in-Err.fault _ _ _ c.in-Err.is i.no_read_failed c.read_from.ensures.faults;
       matches_write_failures = i.no_write_failed;
@@ -31,7 +31,7 @@ returns-in-Err-write_waiting-clause-stopped g c =
     let r = c.read_from.ensures.read in
     let w = c.in-Err-write_waiting.ensures in
     record {
-      unread = tt;
+      filters_until_error = tt;
       matches_read_failures = search rules;
       matches_write_failures = (
         part_open _ _ _ _ _ _ _ _ s _ r.0 _ r.1 r.2 c.read_from.new.self _ _ _ refl c.read_from.ensures.taken c.in-Ok-true.ensures.open c.read_from.ensures.given

@@ -7,9 +7,9 @@ returns-in-Err-finish-clause-stopped g c =
     let s = c.in-Ok.ensures.ok in
     let fault = c.in-Err-finish.fault in
     record {
-      unread = end_fault _ _ _ _ _ _ c.sift_settled.new.cutter _ s _ [] c.finish.new.self.stream (sym (append-nil _)) (c.finish.ensures.stream ∙ sym (append-nil _))
+      filters_until_error = end_fault _ _ _ _ _ _ c.sift_settled.new.cutter _ s _ [] c.finish.new.self.stream (sym (append-nil _)) (c.finish.ensures.stream ∙ sym (append-nil _))
           fault c.in-Err-finish.ensures.fault.0
-          (λ h. c.finish.ensures.closed.0 (c.in-Err-finish.is ∙ ap Err h) s.goes_on);
+          (λ h. c.finish.ensures.closed.0 (c.in-Err-finish.is ∙ ap Err h) s.phase_is_open);
       matches_read_failures = of_read_end _ fault _ _ c.in-Err-finish.ensures.fault.0 c.in-Ok.ensures.ended.1;
       matches_write_failures = c.in-Ok.ensures.ended.2;
     }
@@ -20,7 +20,7 @@ returns-in-Ok-write_waiting-clause-done g c =
     record {
       filters_transcript = told_end _ _ _ _ _ _ c.sift_settled.new.cutter _ s _ [] c.finish.new.self.stream (sym (append-nil _)) (c.finish.ensures.stream ∙ sym (append-nil _))
           c.finish.new.self _ refl c.finish.ensures.taken c.in-Ok-finish.ensures.finished c.finish.ensures.given c.in-Ok-write_waiting.ensures.ok;
-      ended = c.in-Ok.ensures.ended.0;
+      input_ended_once = c.in-Ok.ensures.ended.0;
       no_read_failed = c.in-Ok.ensures.ended.1;
       no_write_failed = c.in-Ok-write_waiting.ensures.quiet ∙ c.in-Ok.ensures.ended.2;
     }
@@ -30,7 +30,7 @@ returns-in-Err-write_waiting-clause-stopped g c =
     let s = c.in-Ok.ensures.ok in
     let w = c.in-Err-write_waiting.ensures in
     record {
-      unread = tt;
+      filters_until_error = tt;
       matches_read_failures = c.in-Ok.ensures.ended.1;
       matches_write_failures = (
         part_end _ _ _ _ _ _ c.sift_settled.new.cutter _ s _ [] c.finish.new.self.stream (sym (append-nil _)) (c.finish.ensures.stream ∙ sym (append-nil _))

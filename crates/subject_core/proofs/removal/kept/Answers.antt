@@ -18,7 +18,7 @@ returns-in_default-clause-same c =
     let q = c.without_fronts-begun.result.reply in
     let m = c.loop-inner.reply || (p || q) in
     turn_done t begun m (turn_same t rest ended begun c.loop-inner.reply p q c.loop-inner.invariant.same c.without_trailers-ended.ensures c.without_fronts-begun.ensures)
-    c.without_fronts-begun.ensures.no_trailer c.without_fronts-begun.ensures.none c.in_default.ensures
+    c.without_fronts-begun.ensures.no_trailer c.without_fronts-begun.ensures.no_front_piece_left c.in_default.ensures
     ∙ ap (stripped_subject m) (sym (part_is t begun (c.loop-inner.from + (length ended - length begun))
     (turn_part t rest ended begun c.loop-inner.from p q c.loop-inner.invariant.part c.without_trailers-ended.ensures c.without_fronts-begun.ensures)))
 
@@ -43,7 +43,7 @@ loop-inner-preserved c =
     record {
       same = turn_pair t begun c.in-Some.inner.now (c.loop-inner.reply || (p || q))
           (turn_same t rest ended begun c.loop-inner.reply p q c.loop-inner.invariant.same c.without_trailers-ended.ensures c.without_fronts-begun.ensures)
-          c.without_fronts-begun.ensures.no_trailer c.without_fronts-begun.ensures.none c.in-Some.ensures;
+          c.without_fronts-begun.ensures.no_trailer c.without_fronts-begun.ensures.no_front_piece_left c.in-Some.ensures;
       part = pair_part t begun c.in-Some.inner.now (c.loop-inner.from + (length ended - length begun))
           (turn_part t rest ended begun c.loop-inner.from p q c.loop-inner.invariant.part c.without_trailers-ended.ensures c.without_fronts-begun.ensures) c.in-Some.ensures;
     }

@@ -10,5 +10,5 @@ returns c = λ list lines rows are.
     let to = c.start-to.result in
     let upto : c.max.result ≡ max c.args.end c.args.first = search rules in
     c.elements_in_range.ensures ∙ ap (elements_in_range (from, to)) c.deref.ensures.value
-    ∙ run_is (λ row. tree_row list (tree_line lines row)) rows c.args.first c.args.end from to c.args.self.now.bytes.items are.whole (c.start-from.ensures ∙ are.each c.args.first)
-    (c.start-to.ensures ∙ are.each c.max.result ∙ ap (λ m. length (rows_text list lines (take m rows))) upto)
+    ∙ run_is (λ row. tree_row list (tree_line lines row)) rows c.args.first c.args.end from to c.args.self.now.bytes.items are.is_rows_text (c.start-from.ensures ∙ are.starts_are_lengths c.args.first)
+    (c.start-to.ensures ∙ are.starts_are_lengths c.max.result ∙ ap (λ m. length (rows_text list lines (take m rows))) upto)

@@ -24,16 +24,16 @@ pub loop-done-init : goal.loop-done-init
 loop-done-init g c = (
   omega arith,
   refl,
-  (λ clean. c.in-Ok.ensures.ends.lasts.returned clean),
+  (λ clean. c.in-Ok.ensures.ends.remains_open.disk_was_clean clean),
   (λ clean kept.
       let first = state g.S.Store c.args.self.now.conn in
       let now = state g.S.Store c.count.new.self.conn in
       let counted = c.in-Ok.ensures.answer clean kept in
       first_taken None now (archive_of first) c.args.list.now c.args.items.now c.in-Ok.count counted.0.0 counted.0.1
       (counted_at first now now c.args.list.now (c.in-Ok.ensures.same clean) c.in-Ok.count (is_listed c.args.list.now (archive_of first) counted.1) (sym counted.2))),
-  c.count.ensures.ends.lasts,
+  c.count.ensures.ends.remains_open,
   c.in-Ok.ensures.ends.was_open,
-  c.in-Ok.ensures.ends.counted.0,
+  c.in-Ok.ensures.ends.refusals_counted.0,
   (λ clean kept safe.
       let counted = c.in-Ok.ensures.answer clean kept in
       asked_safe g.S.Store c.args.self.now.conn c.count.new.self.conn c.count.ensures.quiet counted.0.1 clean safe),
@@ -43,55 +43,55 @@ pub loop-done-preserved : goal.loop-done-preserved
 loop-done-preserved g c = (
   omega (arith, c.in-Ok-add_batch.ensures.came.2, c.batch_end-to.ensures.within),
   c.in-Ok-add_batch.ensures.came.0,
-  (λ clean. c.loop-done.invariant.2 (c.add_batch.ensures.ends.lasts.returned clean)),
+  (λ clean. c.loop-done.invariant.2 (c.add_batch.ensures.ends.remains_open.disk_was_clean clean)),
   (λ clean kept.
-      let so_far = c.loop-done.invariant.3 (c.add_batch.ensures.ends.lasts.returned clean) kept in
+      let so_far = c.loop-done.invariant.3 (c.add_batch.ensures.ends.remains_open.disk_was_clean clean) kept in
       (c.in-Ok-add_batch.ensures.step clean (archive_of (state g.S.Store c.args.self.now.conn)) so_far).0),
-  lasts_then _ _ _ c.loop-done.invariant.4 c.add_batch.ensures.ends.lasts,
-  (λ clean. c.loop-done.invariant.5 (c.add_batch.ensures.ends.lasts.returned clean)),
-  omega (arith, c.loop-done.invariant.6, c.in-Ok-add_batch.ensures.ends.counted.0),
+  lasts_then _ _ _ c.loop-done.invariant.4 c.add_batch.ensures.ends.remains_open,
+  (λ clean. c.loop-done.invariant.5 (c.add_batch.ensures.ends.remains_open.disk_was_clean clean)),
+  omega (arith, c.loop-done.invariant.6, c.in-Ok-add_batch.ensures.ends.refusals_counted.0),
   (λ clean kept safe.
-      let was = c.add_batch.ensures.ends.lasts.returned clean in
+      let was = c.add_batch.ensures.ends.remains_open.disk_was_clean clean in
       let so_far = c.loop-done.invariant.3 was kept in
       let first = archive_of (state g.S.Store c.args.self.now.conn) in
       let step = c.in-Ok-add_batch.ensures.step clean first so_far in
-      stays_safe g.S.Store c.loop-done.self.conn c.add_batch.new.store.conn (λ db up may. g.met.S.Store.settled c.add_batch.new.store.conn.store db up may) step.0.held _
+      stays_safe g.S.Store c.loop-done.self.conn c.add_batch.new.store.conn (λ db up may. g.met.S.Store.settled c.add_batch.new.store.conn.store db up may) step.0.is_open_archive _
       (λ db it. ((taken first c.args.list.now (take it.0 c.args.items.now)).archive, it.2))
       (c.add_batch.ensures.crash first so_far) clean (c.loop-done.invariant.7 was kept safe)),
 )
 
 pub returns-in-Err-clause-ends : goal.returns-in-Err-clause-ends
 returns-in-Err-clause-ends g c = record {
-  lasts = c.count.ensures.ends.lasts;
+  remains_open = c.count.ensures.ends.remains_open;
   was_open = λ clean. tt;
-  kind = search rules;
-  counted = c.in-Err.ensures.ends.counted;
-  caused = λ clean kept free it. inl (c.in-Err.ensures.ends.caused clean kept free it);
+  refusal_is_possible = search rules;
+  refusals_counted = c.in-Err.ensures.ends.refusals_counted;
+  fault_has_cause = λ clean kept free it. inl (c.in-Err.ensures.ends.fault_has_cause clean kept free it);
 }
 
 pub returns-then-at-to-clause-ends : goal.returns-then-at-to-clause-ends
 returns-then-at-to-clause-ends g c = record {
-  lasts = lasts_then _ _ _ c.loop-done.invariant.4 c.add_batch.ensures.ends.lasts;
+  remains_open = lasts_then _ _ _ c.loop-done.invariant.4 c.add_batch.ensures.ends.remains_open;
   was_open = λ clean. tt;
-  kind = search rules;
-  counted = (omega (arith, c.loop-done.invariant.6, c.in-Ok-add_batch.ensures.ends.counted.0), (λ want. absurd cc));
-  caused = λ clean kept free it. absurd cc;
+  refusal_is_possible = search rules;
+  refusals_counted = (omega (arith, c.loop-done.invariant.6, c.in-Ok-add_batch.ensures.ends.refusals_counted.0), (λ want. absurd cc));
+  fault_has_cause = λ clean kept free it. absurd cc;
 }
 
 pub returns-in-Err-add_batch-clause-ends : goal.returns-in-Err-add_batch-clause-ends
 returns-in-Err-add_batch-clause-ends g c = record {
-  lasts = lasts_then _ _ _ c.loop-done.invariant.4 c.add_batch.ensures.ends.lasts;
+  remains_open = lasts_then _ _ _ c.loop-done.invariant.4 c.add_batch.ensures.ends.remains_open;
   was_open = λ clean. tt;
-  kind = search rules;
-  counted = (
-    omega (arith, c.loop-done.invariant.6, c.in-Err-add_batch.ensures.ends.counted.0),
-    (λ want. let more = c.in-Err-add_batch.ensures.ends.counted.1 want in omega (arith, c.loop-done.invariant.6, more)),
+  refusal_is_possible = search rules;
+  refusals_counted = (
+    omega (arith, c.loop-done.invariant.6, c.in-Err-add_batch.ensures.ends.refusals_counted.0),
+    (λ want. let more = c.in-Err-add_batch.ensures.ends.refusals_counted.1 want in omega (arith, c.loop-done.invariant.6, more)),
   );
-  caused = λ clean kept free it.
-      let was = c.add_batch.ensures.ends.lasts.returned clean in
+  fault_has_cause = λ clean kept free it.
+      let was = c.add_batch.ensures.ends.remains_open.disk_was_clean clean in
       let so_far = c.loop-done.invariant.3 was kept in
       let first = state g.S.Store c.args.self.now.conn in
-      elim (c.in-Err-add_batch.ensures.ends.caused clean (c.loop-done.invariant.4.limit ∙ free) (archive_of first) so_far it) [
+      elim (c.in-Err-add_batch.ensures.ends.fault_has_cause clean (c.loop-done.invariant.4.step_limit_is_same ∙ free) (archive_of first) so_far it) [
         | inl more ↦ inl (more_since first (state g.S.Store c.loop-done.self.conn) (state g.S.Store c.add_batch.new.store.conn) c.loop-done.invariant.4 more)
         | inr stops ↦ inr stops
       ];
@@ -99,11 +99,11 @@ returns-in-Err-add_batch-clause-ends g c = record {
 
 pub returns-clause-ends : goal.returns-clause-ends
 returns-clause-ends g c = record {
-  lasts = c.loop-done.invariant.4;
+  remains_open = c.loop-done.invariant.4;
   was_open = c.loop-done.invariant.5;
-  kind = search rules;
-  counted = search rules;
-  caused = λ clean kept free. tt;
+  refusal_is_possible = search rules;
+  refusals_counted = search rules;
+  fault_has_cause = λ clean kept free. tt;
 }
 
 -- ---- what a stop leaves
@@ -117,12 +117,12 @@ returns-in-Err-clause-crash g c = broken_crash g.S.Store c.args.self.now.conn c.
 pub returns-then-at-to-clause-crash : goal.returns-then-at-to-clause-crash
 returns-then-at-to-clause-crash g c = broken_crash g.S.Store c.args.self.now.conn c.add_batch.new.store.conn c.args.list.now c.args.items.now
     (record { done = c.in-Ok-add_batch.at; fault = faults.ListFull }) (λ clean kept safe.
-    let was = c.add_batch.ensures.ends.lasts.returned clean in
+    let was = c.add_batch.ensures.ends.remains_open.disk_was_clean clean in
     let so_far = c.loop-done.invariant.3 was kept in
     let first = archive_of (state g.S.Store c.args.self.now.conn) in
     let step = c.in-Ok-add_batch.ensures.step clean first so_far in
     let last = stays_safe g.S.Store c.loop-done.self.conn c.add_batch.new.store.conn (λ db up may. g.met.S.Store.settled c.add_batch.new.store.conn.store db up may)
-    step.0.held _ (λ db it. ((taken first c.args.list.now (take it.0 c.args.items.now)).archive, it.2))
+    step.0.is_open_archive _ (λ db it. ((taken first c.args.list.now (take it.0 c.args.items.now)).archive, it.2))
     (c.add_batch.ensures.crash first so_far) clean (c.loop-done.invariant.7 was kept safe) in
     λ db may. (
       archive_of (state g.S.Store c.add_batch.new.store.conn),
@@ -137,7 +137,7 @@ returns-then-at-to-clause-crash g c = broken_crash g.S.Store c.args.self.now.con
 pub returns-in-Err-add_batch-clause-crash : goal.returns-in-Err-add_batch-clause-crash
 returns-in-Err-add_batch-clause-crash g c = broken_crash g.S.Store c.args.self.now.conn c.add_batch.new.store.conn c.args.list.now c.args.items.now
     (record { done = c.loop-done.done; fault = c.in-Err-add_batch.fault }) (λ clean kept safe db may.
-    let was = c.add_batch.ensures.ends.lasts.returned clean in
+    let was = c.add_batch.ensures.ends.remains_open.disk_was_clean clean in
     let so_far = c.loop-done.invariant.3 was kept in
     let first = archive_of (state g.S.Store c.args.self.now.conn) in
     elim (c.add_batch.ensures.crash first so_far clean db may) [
@@ -146,7 +146,7 @@ returns-in-Err-add_batch-clause-crash g c = broken_crash g.S.Store c.args.self.n
         (c.loop-done.done, omega arith, (c.loop-done.invariant.0, so_far.archive_is)),
         c.loop-done.invariant.7 was kept safe db before,
       )
-      | inr it ↦ ((taken first c.args.list.now (take it.0 c.args.items.now)).archive, (it.0, it.1.least, (omega (arith, it.1.most, c.batch_end-to.ensures.within), refl)), it.2)
+      | inr it ↦ ((taken first c.args.list.now (take it.0 c.args.items.now)).archive, (it.0, it.1.at_least_from, (omega (arith, it.1.at_most_to, c.batch_end-to.ensures.within), refl)), it.2)
     ])
 
 pub returns-clause-crash : goal.returns-clause-crash

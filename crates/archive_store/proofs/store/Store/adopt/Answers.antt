@@ -15,30 +15,30 @@ pub returns-in-Ok-clause-adopted : goal.returns-in-Ok-clause-adopted
 returns-in-Ok-clause-adopted g c =
     elim c.if-is_empty_database.branch [
       | then-is_empty_database w ↦ record {
-        made = search rules;
-        found = search rules;
-        brought = search rules;
-        objects = inl (c.is_empty_database.ensures.0 w.if-is_empty_database.true);
+        makes_if_empty = search rules;
+        archive_at_rest_is_same = search rules;
+        migrates_older = search rules;
+        may_be_adopted = inl (c.is_empty_database.ensures.0 w.if-is_empty_database.true);
         version = search rules;
-        rows = search rules;
-        returned = search rules;
+        keeps_rows = search rules;
+        disk_was_clean = search rules;
         crash = adopts_as g.S.Store c.args.connection w.make_tables-done.new.conn c.if-is_empty_database.conn c.set_step_limit.new.self None w.conn-is c.set_step_limit.ensures
             (record {
-              made = w.make_tables-done.ensures.crash;
-              brought = λ number known held. absurd
+              makes_if_empty = w.make_tables-done.ensures.crash;
+              migrates_older = λ number known held. absurd
                   (none_held number (state g.S.Store c.args.connection) (c.is_empty_database.ensures.0 w.if-is_empty_database.true) held);
             });
-        lasts = search rules;
-        unlimited = search rules;
+        remains_open = search rules;
+        has_no_step_limit = search rules;
       }
       | else-is_empty_database w ↦ record {
-        made = search rules;
-        found = search rules;
-        brought = search rules;
-        objects = subst (λ r. OnOk r (MayBeAdopted (state g.S.Store c.args.connection).now.schema)) (sym w.done-is ∙ c.in-Ok.is) w.migrate_tables-done.ensures.objects;
+        makes_if_empty = search rules;
+        archive_at_rest_is_same = search rules;
+        migrates_older = search rules;
+        may_be_adopted = subst (λ r. OnOk r (MayBeAdopted (state g.S.Store c.args.connection).now.schema)) (sym w.done-is ∙ c.in-Ok.is) w.migrate_tables-done.ensures.objects;
         version = search rules;
-        rows = search rules;
-        returned = search rules;
+        keeps_rows = search rules;
+        disk_was_clean = search rules;
         crash = adopts_as g.S.Store c.args.connection w.migrate_tables-done.new.conn c.if-is_empty_database.conn c.set_step_limit.new.self None w.conn-is c.set_step_limit.ensures
             (record { made = λ empty. absurd (let is = c.is_empty_database.ensures.1 empty in let none = w.if-is_empty_database.false in cc); brought = w.migrate_tables-done.ensures.crash });
         lasts = search rules;
@@ -50,43 +50,43 @@ pub returns-in-Err-clause-refused : goal.returns-in-Err-clause-refused
 returns-in-Err-clause-refused g c =
     elim c.if-is_empty_database.branch [
       | then-is_empty_database w ↦ record {
-        left = search rules;
-        undone = search rules;
+        keeps_rows = search rules;
+        new_tables_are_undone = search rules;
         rows_restored = search rules;
-        foreign = search rules;
-        why = search rules;
-        caused = λ clean idle understood free store.
+        foreign_is_untouched = search rules;
+        foreign_fault_is_store = search rules;
+        fault_has_cause = λ clean idle understood free store.
             let old = state g.S.Store c.args.connection in
             let clean_1 = subst (λ h. HasCleanDisk (state g.S.Store h)) w.conn-is clean in
             let premise = c.is_empty_database.ensures.0 w.if-is_empty_database.true in
             let why = refused_by old (state g.S.Store w.make_tables-done.new.conn) _ c.in-Err.fault _ (sym w.done-is ∙ c.in-Err.is)
-            (w.make_tables-done.ensures.ends.caused clean_1 (idle, premise) free) (is_database _ (search rules)) in
+            (w.make_tables-done.ensures.ends.fault_has_cause clean_1 (idle, premise) free) (is_database _ (search rules)) in
             subst (λ h. MoreFaults old.faults (state g.S.Store h).faults ⊎ IsAdoptionRefused old.now) (sym w.conn-is) (elim why [ inl more ↦ inl more | inr refused ↦ absurd refused ]);
-        fault = search rules;
-        returned = search rules;
+        fault_is_no_refusal = search rules;
+        disk_was_clean = search rules;
         crash = adopts_at g.S.Store c.args.connection w.make_tables-done.new.conn c.if-is_empty_database.conn w.conn-is
             (record {
-              made = w.make_tables-done.ensures.crash;
-              brought = λ number known held. absurd
+              makes_if_empty = w.make_tables-done.ensures.crash;
+              migrates_older = λ number known held. absurd
                   (none_held number (state g.S.Store c.args.connection) (c.is_empty_database.ensures.0 w.if-is_empty_database.true) held);
             });
-        lasts = search rules;
+        remains_open = search rules;
       }
       | else-is_empty_database w ↦ record {
-        left = search rules;
-        undone = search rules;
+        keeps_rows = search rules;
+        new_tables_are_undone = search rules;
         rows_restored = search rules;
-        foreign = search rules;
-        why = search rules;
-        caused = λ clean idle understood free store.
+        foreign_is_untouched = search rules;
+        foreign_fault_is_store = search rules;
+        fault_has_cause = λ clean idle understood free store.
             let old = state g.S.Store c.args.connection in
             let clean_1 = subst (λ h. HasCleanDisk (state g.S.Store h)) w.conn-is clean in
             let premise = has_version (λ empty. let is = c.is_empty_database.ensures.1 empty in let none = w.if-is_empty_database.false in cc) understood in
             let why = refused_by old (state g.S.Store w.migrate_tables-done.new.conn) _ c.in-Err.fault _ (sym w.done-is ∙ c.in-Err.is)
-            (w.migrate_tables-done.ensures.ends.caused clean_1 (idle, premise) free) (is_database _ (search rules)) in
+            (w.migrate_tables-done.ensures.ends.fault_has_cause clean_1 (idle, premise) free) (is_database _ (search rules)) in
             subst (λ h. MoreFaults old.faults (state g.S.Store h).faults ⊎ IsAdoptionRefused old.now) (sym w.conn-is) why;
-        fault = search rules;
-        returned = search rules;
+        fault_is_no_refusal = search rules;
+        disk_was_clean = search rules;
         crash = adopts_at g.S.Store c.args.connection w.migrate_tables-done.new.conn c.if-is_empty_database.conn w.conn-is
             (record { made = λ empty. absurd (let is = c.is_empty_database.ensures.1 empty in let none = w.if-is_empty_database.false in cc); brought = w.migrate_tables-done.ensures.crash });
         lasts = search rules;

@@ -7,29 +7,29 @@ use Rattle.archive_store.proofs.store.Store.check.Goals as goal
 
 pub loop-place-init : goal.loop-place-init
 loop-place-init g c = (
-  c.in_ok-places.ensures.ends.lasts.returned,
+  c.in_ok-places.ensures.ends.remains_open.disk_was_clean,
   (λ returned held.
       let found = c.in_ok-places.ensures.found returned held in
       looks_first g.S.Store c.args.self.now c.find_all_places.new.store c.deref-place-items.result.now held (c.deref-place-items.ensures.value ∙ found.0) found.1),
-  c.in_ok-places.ensures.ends.lasts,
+  c.in_ok-places.ensures.ends.remains_open,
   c.in_ok-places.ensures.was_open,
-  c.in_ok-places.ensures.ends.counted.0,
+  c.in_ok-places.ensures.ends.refusals_counted.0,
 )
 
 pub loop-place-preserved : goal.loop-place-preserved
 loop-place-preserved g c =
     let it : to_z w64 (of_z w64 (get_or c.deref-place-items.result.now c.loop-place.place-index (pos 0))) ≡ get_or c.deref-place-items.result.now c.loop-place.place-index (pos 0) = search rules in
     let now = c.loop-place.self in (
-      (λ returned. c.loop-place.invariant.0 (c.damage_at.ensures.ends.lasts.returned returned)),
+      (λ returned. c.loop-place.invariant.0 (c.damage_at.ensures.ends.remains_open.disk_was_clean returned)),
       (λ returned held.
-          let so_far = c.loop-place.invariant.1 (c.damage_at.ensures.ends.lasts.returned returned) held in
+          let so_far = c.loop-place.invariant.1 (c.damage_at.ensures.ends.remains_open.disk_was_clean returned) held in
           let next = looks_next g.S.Store c.args.self.now now c.deref-place-items.result.now c.loop-place.place-index
           (to_z w64 (of_z w64 (get_or c.deref-place-items.result.now c.loop-place.place-index (pos 0)))) (pos 0) so_far (omega (arith, c.loop-place-test.true)) it in
           let looked = rw c.in_default.is at (c.in_ok-list.ensures.looked returned so_far.stays.1 next.it next.found) in
           next.goes_on c.damage_at.new.store looked.0 looked.1),
-      lasts_then _ _ _ c.loop-place.invariant.2 c.damage_at.ensures.ends.lasts,
-      (λ returned. c.loop-place.invariant.3 (c.damage_at.ensures.ends.lasts.returned returned)),
-      omega (arith, c.loop-place.invariant.4, c.in_ok-list.ensures.ends.counted.0),
+      lasts_then _ _ _ c.loop-place.invariant.2 c.damage_at.ensures.ends.remains_open,
+      (λ returned. c.loop-place.invariant.3 (c.damage_at.ensures.ends.remains_open.disk_was_clean returned)),
+      omega (arith, c.loop-place.invariant.4, c.in_ok-list.ensures.ends.refusals_counted.0),
     )
 
 pub returns-in_err-list-clause-checked : goal.returns-in_err-list-clause-checked
@@ -37,9 +37,9 @@ returns-in_err-list-clause-checked g c =
     let it : to_z w64 (of_z w64 (get_or c.deref-place-items.result.now c.loop-place.place-index (pos 0))) ≡ get_or c.deref-place-items.result.now c.loop-place.place-index (pos 0) = search rules in
     let now = c.loop-place.self in
     fails_to_check g.S.Store c.args.self.now c.damage_at.new.store c.from_residual-in_err-list.result _ c.from_residual-in_err-list.ensures.1
-    (lasts_then _ _ _ c.loop-place.invariant.2 c.damage_at.ensures.ends.lasts)
+    (lasts_then _ _ _ c.loop-place.invariant.2 c.damage_at.ensures.ends.remains_open)
     (λ returned held up.
-    let so_far = c.loop-place.invariant.1 (c.damage_at.ensures.ends.lasts.returned returned) held in
+    let so_far = c.loop-place.invariant.1 (c.damage_at.ensures.ends.remains_open.disk_was_clean returned) held in
     let next = looks_next g.S.Store c.args.self.now now c.deref-place-items.result.now c.loop-place.place-index
     (to_z w64 (of_z w64 (get_or c.deref-place-items.result.now c.loop-place.place-index (pos 0)))) (pos 0) so_far (omega (arith, c.loop-place-test.true)) it in
     both_stay g.S.Store c.args.self.now now c.damage_at.new.store so_far.stays (c.in_err-list.ensures.looked returned so_far.stays.1 next.it next.found up))
@@ -48,9 +48,9 @@ pub returns-in-Some-clause-checked : goal.returns-in-Some-clause-checked
 returns-in-Some-clause-checked g c =
     let it : to_z w64 (of_z w64 (get_or c.deref-place-items.result.now c.loop-place.place-index (pos 0))) ≡ get_or c.deref-place-items.result.now c.loop-place.place-index (pos 0) = search rules in
     let now = c.loop-place.self in (
-      lasts_then _ _ _ c.loop-place.invariant.2 c.damage_at.ensures.ends.lasts,
+      lasts_then _ _ _ c.loop-place.invariant.2 c.damage_at.ensures.ends.remains_open,
       (λ returned held.
-          let so_far = c.loop-place.invariant.1 (c.damage_at.ensures.ends.lasts.returned returned) held in
+          let so_far = c.loop-place.invariant.1 (c.damage_at.ensures.ends.remains_open.disk_was_clean returned) held in
           let next = looks_next g.S.Store c.args.self.now now c.deref-place-items.result.now c.loop-place.place-index
           (to_z w64 (of_z w64 (get_or c.deref-place-items.result.now c.loop-place.place-index (pos 0)))) (pos 0) so_far (omega (arith, c.loop-place-test.true)) it in
           let looked = rw c.in-Some.is at (c.in_ok-list.ensures.looked returned so_far.stays.1 next.it next.found) in
@@ -80,9 +80,9 @@ pub returns-in_err-list-clause-caused : goal.returns-in_err-list-clause-caused
 returns-in_err-list-clause-caused g c = λ returned held free.
     let it : to_z w64 (of_z w64 (get_or c.deref-place-items.result.now c.loop-place.place-index (pos 0))) ≡ get_or c.deref-place-items.result.now c.loop-place.place-index (pos 0) = search rules in
     let now = c.loop-place.self in
-    let so_far = c.loop-place.invariant.1 (c.damage_at.ensures.ends.lasts.returned returned) held in
+    let so_far = c.loop-place.invariant.1 (c.damage_at.ensures.ends.remains_open.disk_was_clean returned) held in
     let next = looks_next g.S.Store c.args.self.now now c.deref-place-items.result.now c.loop-place.place-index
     (to_z w64 (of_z w64 (get_or c.deref-place-items.result.now c.loop-place.place-index (pos 0)))) (pos 0) so_far (omega (arith, c.loop-place-test.true)) it in
     check_failed c.from_residual-in_err-list.result c.in_err-list.field-0.0 _ c.from_residual-in_err-list.ensures.1
     (λ is. more_since (state g.S.Store c.args.self.now.conn) (state g.S.Store now.conn) (state g.S.Store c.damage_at.new.store.conn) c.loop-place.invariant.2
-    (c.in_err-list.ensures.caused returned so_far.stays.1 (c.loop-place.invariant.2.limit ∙ free) next.it next.found is))
+    (c.in_err-list.ensures.caused returned so_far.stays.1 (c.loop-place.invariant.2.step_limit_is_same ∙ free) next.it next.found is))

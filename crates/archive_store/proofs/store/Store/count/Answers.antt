@@ -15,7 +15,7 @@ use Rattle.archive_store.proofs.store.Store.count.Goals as goal
 
 pub returns-in_err-has_list-clause-answer : goal.returns-in_err-has_list-clause-answer
 returns-in_err-has_list-clause-answer g c = λ clean kept.
-    let none = no_reason_of c.in_err-has_list.field-0.0 c.in_err-has_list.ensures.ends.kind in
+    let none = no_reason_of c.in_err-has_list.field-0.0 c.in_err-has_list.ensures.ends.refusal_is_possible in
     stops c.from_residual.result c.in_err-has_list.field-0.0 c.from_residual.ensures.1 none _ _ (rests_of c.in_err-has_list.field-0.0 _ none (c.in_err-has_list.ensures.answer clean kept))
 
 pub returns-then-not-branch-clause-answer : goal.returns-then-not-branch-clause-answer
@@ -26,7 +26,7 @@ returns-then-not-branch-clause-answer g c = λ clean kept.
 pub returns-clause-answer : goal.returns-clause-answer
 returns-clause-answer g c = λ clean kept.
     let list = c.args.list.now in
-    let has = c.in_ok-has_list.ensures.answer (c.count_messages-count.ensures.ends.lasts.returned clean) kept in
+    let has = c.in_ok-has_list.ensures.answer (c.count_messages-count.ensures.ends_call.remains_open.disk_was_clean clean) kept in
     answer_last g.S.Store c.args.self.now.conn c.has_list.new.self.conn c.count_messages-count.new.conn c.count_messages-count.result (λ a count. count ≡ length (messages_in a list))
     (λ a. list_refusal a list) c.pass.result c.pass.ensures.passed c.pass.ensures.kind c.count_messages-count.ensures clean has.0
     (is_there list (archive_of (state g.S.Store c.args.self.now.conn)) (sym c.if-not-branch.false ∙ has.2))
@@ -37,17 +37,17 @@ returns-in_err-has_list-clause-ends g c =
 
 pub returns-clause-ends : goal.returns-clause-ends
 returns-clause-ends g c = record {
-  lasts = search rules;
+  remains_open = search rules;
   was_open = search rules;
-  kind = search rules;
-  counted = raises_after IsMemoryRefusal _ _ _ c.pass.result c.in_ok-has_list.ensures.ends.counted.0 c.pass.ensures.counted.0;
-  caused = λ clean kept free.
-      let has = c.in_ok-has_list.ensures.answer (c.count_messages-count.ensures.ends.lasts.returned clean) kept in
+  refusal_is_possible = search rules;
+  refusals_counted = raises_after IsMemoryRefusal _ _ _ c.pass.result c.in_ok-has_list.ensures.ends.refusals_counted.0 c.pass.ensures.counted.0;
+  fault_has_cause = λ clean kept free.
+      let has = c.in_ok-has_list.ensures.answer (c.count_messages-count.ensures.ends_call.remains_open.disk_was_clean clean) kept in
       let old = state g.S.Store c.args.self.now.conn in
       let mid = state g.S.Store c.has_list.new.self.conn in
-      blames c.pass.result (more_since old mid (state g.S.Store c.count_messages-count.new.conn) c.has_list.ensures.ends.lasts)
+      blames c.pass.result (more_since old mid (state g.S.Store c.count_messages-count.new.conn) c.has_list.ensures.ends.remains_open)
       (blames_disk g.S.Store c.has_list.new.self.conn c.count_messages-count.new.conn c.count_messages-count.result c.pass.result c.pass.ensures.passed
-      c.count_messages-count.ensures.caused clean has.0.0 (c.has_list.ensures.ends.lasts.limit ∙ free));
+      c.count_messages-count.ensures.fault_has_cause clean has.0.0 (c.has_list.ensures.ends.remains_open.step_limit_is_same ∙ free));
 }
 
 -- ---- who is answered sees what was seen before
@@ -60,7 +60,7 @@ returns-then-not-branch-clause-same g c = λ clean kept up. ((c.in_ok-has_list.e
 
 pub returns-clause-same : goal.returns-clause-same
 returns-clause-same g c = λ clean.
-    let was = c.count_messages-count.ensures.ends.lasts.returned clean in
+    let was = c.count_messages-count.ensures.ends_call.remains_open.disk_was_clean clean in
     passes_same _ _ c.count_messages-count.result c.pass.result c.pass.ensures.passed
     (rows_asked (state g.S.Store c.args.self.now.conn) c.count_messages-count.result c.count_messages-count.ensures clean (c.in_ok-has_list.ensures.same was)
     (λ kept. (c.in_ok-has_list.ensures.answer was kept).0.0))
@@ -74,4 +74,5 @@ pub returns-then-not-branch-clause-quiet : goal.returns-then-not-branch-clause-q
 returns-then-not-branch-clause-quiet g c = c.has_list.ensures.quiet
 
 pub returns-clause-quiet : goal.returns-clause-quiet
-returns-clause-quiet g c = λ clean db may. c.has_list.ensures.quiet (c.count_messages-count.ensures.ends.lasts.returned clean) db (c.count_messages-count.ensures.quiet clean db may)
+returns-clause-quiet g c = λ clean db may. c.has_list.ensures.quiet
+    (c.count_messages-count.ensures.ends_call.remains_open.disk_was_clean clean) db (c.count_messages-count.ensures.crash_adds_nothing clean db may)

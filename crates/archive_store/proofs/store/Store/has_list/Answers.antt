@@ -12,17 +12,17 @@ returns-clause-answer g c =
 
 pub returns-clause-ends : goal.returns-clause-ends
 returns-clause-ends g c = record {
-  lasts = search rules;
+  remains_open = search rules;
   was_open = open_last g.S.Store c.args.self.now.conn c.args.self.now.conn c.has_list-listed.new.conn c.has_list-listed.result c.pass.result c.pass.ensures.passed
-      (lasts_same _) c.has_list-listed.ensures.ends.lasts c.has_list-listed.ensures.ends.was_open;
-  kind = search rules;
-  counted = search rules;
-  caused = blames_disk g.S.Store c.args.self.now.conn c.has_list-listed.new.conn c.has_list-listed.result c.pass.result c.pass.ensures.passed c.has_list-listed.ensures.caused;
+      (lasts_same _) c.has_list-listed.ensures.ends_call.remains_open c.has_list-listed.ensures.ends_call.was_open;
+  refusal_is_possible = search rules;
+  refusals_counted = search rules;
+  fault_has_cause = blames_disk g.S.Store c.args.self.now.conn c.has_list-listed.new.conn c.has_list-listed.result c.pass.result c.pass.ensures.passed c.has_list-listed.ensures.fault_has_cause;
 }
 
 pub returns-clause-was_open : goal.returns-clause-was_open
 returns-clause-was_open g c =
-    up_passed g.S.Store c.args.self.now.conn c.has_list-listed.new.conn c.has_list-listed.result c.pass.result c.pass.ensures.passed c.pass.ensures.kind c.has_list-listed.ensures.ends.was_open
+    up_passed g.S.Store c.args.self.now.conn c.has_list-listed.new.conn c.has_list-listed.result c.pass.result c.pass.ensures.passed c.pass.ensures.kind c.has_list-listed.ensures.ends_call.was_open
 
 pub returns-clause-same : goal.returns-clause-same
 returns-clause-same g c = λ clean.

@@ -22,29 +22,29 @@ returns-clause-answer g c = λ clean kept.
     (λ names read. (
       (q.1, q.2),
       refl,
-      read q.0.0 (c.deref.ensures.value ∙ q.0.1) ∙ names_are a q.0.0 (record { all = q.0.2; in_order = q.0.3 }),
+      read q.0.0 (c.deref.ensures.value ∙ q.0.1) ∙ names_are a q.0.0 (record { is_permutation = q.0.2; is_sorted = q.0.3 }),
     ))
     (λ up. (q.1, q.2))
 
 pub returns-in_err-shown-clause-ends : goal.returns-in_err-shown-clause-ends
 returns-in_err-shown-clause-ends g c = record {
-  lasts = search rules;
+  remains_open = search rules;
   was_open = search rules;
-  kind = search rules;
-  counted = search rules;
-  caused = λ clean kept free.
+  refusal_is_possible = search rules;
+  refusals_counted = search rules;
+  fault_has_cause = λ clean kept free.
       passed_on c.from_residual.result c.in_err-shown.field-0.0 _ c.from_residual.ensures.1
       (λ it. inl (blames_disk g.S.Store c.args.self.now.conn c.list_names.new.conn c.list_names.result (Err c.in_err-shown.field-0.0) c.in_err-shown.ensures.passed
-      c.list_names.ensures.caused clean kept free it));
+      c.list_names.ensures.fault_has_cause clean kept free it));
 }
 
 pub returns-clause-ends : goal.returns-clause-ends
 returns-clause-ends g c = record {
-  lasts = search rules;
+  remains_open = search rules;
   was_open = search rules;
-  kind = search rules;
-  counted = search rules;
-  caused = λ clean kept free.
+  refusal_is_possible = search rules;
+  refusals_counted = search rules;
+  fault_has_cause = λ clean kept free.
       let q = passed_answer c.list_names.ensures c.in_ok-shown.ensures.passed clean kept in
       blames_read c.read_names-names.result c.pass_fault.result _ c.pass_fault.ensures.passed c.read_names-names.ensures.unread
       (λ e unread is. inr (λ all. unread is q.0.0 (c.deref.ensures.value ∙ q.0.1) (All-permutation IsUtf8 _ _ q.0.2 all)));

@@ -16,11 +16,11 @@ returns-clause-answer g c =
     let list = c.args.list.now in
     let found = c.in_ok-pass-2.field-0 in
     let one = asks g.S.Store c.args.self.now.conn c.args.self.now.conn c.has_list-listed.new.conn (λ _. ⊤) (λ a. true ≡ has_list a list)
-    (begins g.S.Store c.args.self.now.conn) c.has_list-listed.ensures.ends.lasts.returned
+    (begins g.S.Store c.args.self.now.conn) c.has_list-listed.ensures.ends_call.remains_open.disk_was_clean
     (λ clean kept. let it = passed_over c.has_list-listed.ensures c.in_ok-pass.ensures.passed clean kept in (sym c.if-not-branch.false ∙ it.0, it.1)) in
     let two = asks g.S.Store c.args.self.now.conn c.has_list-listed.new.conn c.find_option-found.new.conn (λ a. ⊤ × (true ≡ has_list a list))
     (λ a. found ≡ option_map (λ (o : ListOption). o.merge) (find (is_option_of list) a.options))
-    one c.find_option-found.ensures.ends.lasts.returned
+    one c.find_option-found.ensures.ends_call.remains_open.disk_was_clean
     (λ clean kept. passed_over c.find_option-found.ensures c.in_ok-pass-2.ensures.passed clean kept) in
     λ clean kept.
     let q = two clean kept in
@@ -29,26 +29,26 @@ returns-clause-answer g c =
 
 pub returns-in_err-pass-clause-ends : goal.returns-in_err-pass-clause-ends
 returns-in_err-pass-clause-ends g c = record {
-  lasts = search rules;
+  remains_open = search rules;
   was_open = search rules;
-  kind = search rules;
-  counted = search rules;
-  caused = λ clean kept free.
+  refusal_is_possible = search rules;
+  refusals_counted = search rules;
+  fault_has_cause = λ clean kept free.
       blamed_on c.from_residual.result c.has_list-listed.result c.in_err-pass.field-0.0 _ _ c.from_residual.ensures.1 c.in_err-pass.ensures.passed
-      (c.has_list-listed.ensures.caused clean kept free) (by_error (state g.S.Store c.args.self.now.conn) (state g.S.Store c.has_list-listed.new.conn));
+      (c.has_list-listed.ensures.fault_has_cause clean kept free) (by_error (state g.S.Store c.args.self.now.conn) (state g.S.Store c.has_list-listed.new.conn));
 }
 
 pub returns-in_err-pass-2-clause-ends : goal.returns-in_err-pass-2-clause-ends
 returns-in_err-pass-2-clause-ends g c = record {
-  lasts = search rules;
+  remains_open = search rules;
   was_open = search rules;
-  kind = search rules;
-  counted = search rules;
-  caused = λ clean kept free.
-      let has = passed_over c.has_list-listed.ensures c.in_ok-pass.ensures.passed (c.find_option-found.ensures.ends.lasts.returned clean) kept in
-      let lasts = c.has_list-listed.ensures.ends.lasts in
+  refusal_is_possible = search rules;
+  refusals_counted = search rules;
+  fault_has_cause = λ clean kept free.
+      let has = passed_over c.has_list-listed.ensures c.in_ok-pass.ensures.passed (c.find_option-found.ensures.ends_call.remains_open.disk_was_clean clean) kept in
+      let lasts = c.has_list-listed.ensures.ends_call.remains_open in
       blamed_on c.from_residual-in_err-pass-2.result c.find_option-found.result c.in_err-pass-2.field-0.0 _ _ c.from_residual-in_err-pass-2.ensures.1 c.in_err-pass-2.ensures.passed
-      (c.find_option-found.ensures.caused clean has.1.0 (lasts.limit ∙ free))
+      (c.find_option-found.ensures.fault_has_cause clean has.1.0 (lasts.step_limit_is_same ∙ free))
       (λ e. by_later (state g.S.Store c.args.self.now.conn) (state g.S.Store c.has_list-listed.new.conn) (state g.S.Store c.find_option-found.new.conn) e lasts);
 }
 
@@ -66,7 +66,7 @@ returns-then-not-branch-clause-answer g c = λ clean kept.
 
 pub returns-in_err-pass-2-clause-answer : goal.returns-in_err-pass-2-clause-answer
 returns-in_err-pass-2-clause-answer g c = λ clean kept.
-    let clean_1 = c.find_option-found.ensures.ends.lasts.returned clean in
+    let clean_1 = c.find_option-found.ensures.ends_call.remains_open.disk_was_clean clean in
     let it_1 = passed_answer c.has_list-listed.ensures c.in_ok-pass.ensures.passed clean_1 kept in
     let rest = passed_unanswered _ _ c.find_option-found.ensures c.in_err-pass-2.ensures.passed clean it_1.1 in
     search rules

@@ -15,13 +15,13 @@ returns-clause-answer g c =
 
 pub returns-clause-ends : goal.returns-clause-ends
 returns-clause-ends g c = record {
-  lasts = search rules;
+  remains_open = search rules;
   was_open = open_last g.S.Store c.args.self.now.conn c.args.self.now.conn c.person_of_token-name.new.conn c.person_of_token-name.result c.pass.result c.pass.ensures.passed
-      (lasts_same _) c.person_of_token-name.ensures.ends.lasts c.person_of_token-name.ensures.ends.was_open;
-  kind = search rules;
-  counted = search rules;
-  caused = λ clean kept free.
+      (lasts_same _) c.person_of_token-name.ensures.ends_call.remains_open c.person_of_token-name.ensures.ends_call.was_open;
+  refusal_is_possible = search rules;
+  refusals_counted = search rules;
+  fault_has_cause = λ clean kept free.
       blames_person _ c.pass.result (find (λ (p : Person). bytes_eq p.token c.args.token.now) (archive_of (state g.S.Store c.args.self.now.conn)).persons)
       (blames_passed g.S.Store c.args.self.now.conn c.person_of_token-name.new.conn c.person_of_token-name.result c.pass.result _ c.pass.ensures.passed
-      c.person_of_token-name.ensures.caused clean kept free);
+      c.person_of_token-name.ensures.fault_has_cause clean kept free);
 }

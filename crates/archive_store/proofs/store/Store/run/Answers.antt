@@ -42,7 +42,7 @@ returns-clause-step g c = λ clean kept.
 pub returns-in-Err-carry_out-clause-step : goal.returns-in-Err-carry_out-clause-step
 returns-in-Err-carry_out-clause-step g c = λ clean kept up.
     let first = state g.S.Store c.args.self.now.conn in
-    let before = c.loop-command.invariant.2 (c.carry_out.ensures.ends.lasts.returned clean) kept in
+    let before = c.loop-command.invariant.2 (c.carry_out.ensures.ends.remains_open.disk_was_clean clean) kept in
     let at = c.loop-command.command-index in
     let stopped = ran_stop first (state g.S.Store c.loop-command.self.conn) (state g.S.Store c.carry_out.new.self.conn) (map spec_command (take at c.args.commands.now))
     c.loop-command.outcomes.items before (c.in-Err-carry_out.ensures.step clean before.0) up in
@@ -57,16 +57,16 @@ loop-command-preserved g c =
     let o = c.in-Ok-carry_out.outcome in
     let outcomes = c.loop-command.outcomes.items in (
       omega (arith, c.loop-command.invariant.0, ap length c.in-Ok-push.ensures.items, length-append outcomes (o ∷ [])),
-      (λ clean. c.loop-command.invariant.1 (c.carry_out.ensures.ends.lasts.returned clean)),
+      (λ clean. c.loop-command.invariant.1 (c.carry_out.ensures.ends.remains_open.disk_was_clean clean)),
       (λ clean kept.
-          let ran = c.loop-command.invariant.2 (c.carry_out.ensures.ends.lasts.returned clean) kept in
+          let ran = c.loop-command.invariant.2 (c.carry_out.ensures.ends.remains_open.disk_was_clean clean) kept in
           let steps = c.in-Ok-carry_out.ensures.step clean ran.0 in
           ran_next first mid new c.args.commands.now c.loop-command.command-index c.command-item.result outcomes c.push.new.self.items o ran
           c.in-Ok-carry_out.ensures.told steps (omega (arith, c.loop-command-test.true)) c.command-item.is c.in-Ok-push.ensures.items),
-      lasts_then _ _ _ c.loop-command.invariant.3 c.carry_out.ensures.ends.lasts,
-      omega (arith, c.loop-command.invariant.4, c.in-Ok-carry_out.ensures.ends.counted.0),
+      lasts_then _ _ _ c.loop-command.invariant.3 c.carry_out.ensures.ends.remains_open,
+      omega (arith, c.loop-command.invariant.4, c.in-Ok-carry_out.ensures.ends.refusals_counted.0),
       (λ clean kept safe.
-          let was = c.carry_out.ensures.ends.lasts.returned clean in
+          let was = c.carry_out.ensures.ends.remains_open.disk_was_clean clean in
           let ran = c.loop-command.invariant.2 was kept in
           answered_safe g.S.Store c.loop-command.self.conn c.carry_out.new.self.conn (λ db up may. g.met.S.Store.settled c.carry_out.new.self.conn.store db up may)
           (λ a. step a (spec_command c.command-item.result)) (outcome_reply o) c.in-Ok-carry_out.ensures.told (c.in-Ok-carry_out.ensures.step clean ran.0)
@@ -79,7 +79,7 @@ returns-in-Err-push-clause-step g c = λ clean kept up.
     let at = c.loop-command.command-index in
     let o = c.in-Ok-carry_out.outcome in
     let outcomes = c.loop-command.outcomes.items in
-    let before = c.loop-command.invariant.2 (c.carry_out.ensures.ends.lasts.returned clean) kept in
+    let before = c.loop-command.invariant.2 (c.carry_out.ensures.ends.remains_open.disk_was_clean clean) kept in
     let ran = ran_next first (state g.S.Store c.loop-command.self.conn) (state g.S.Store c.carry_out.new.self.conn) c.args.commands.now at c.command-item.result outcomes (outcomes ++ o ∷ []) o before
     c.in-Ok-carry_out.ensures.told (c.in-Ok-carry_out.ensures.step clean before.0) (omega (arith, c.loop-command-test.true)) c.command-item.is refl in
     let len : vec_len c.loop-command.outcomes ≡ length outcomes = search rules in (
@@ -102,42 +102,42 @@ returns-in-Err-push-clause-bound g c =
 
 pub returns-in-Err-clause-ends : goal.returns-in-Err-clause-ends
 returns-in-Err-clause-ends g c = record {
-  lasts = lasts_same _;
-  fault = search rules;
-  counted = search rules;
-  caused = λ clean kept free it. absurd (let bad : faults.Memory ≡ faults.Store = sym c.refuse-fault.ensures.fault ∙ it in cc);
+  remains_open = lasts_same _;
+  fault_is_no_refusal = search rules;
+  refusals_counted = search rules;
+  fault_has_cause = λ clean kept free it. absurd (let bad : faults.Memory ≡ faults.Store = sym c.refuse-fault.ensures.fault ∙ it in cc);
 }
 
 pub returns-in-Err-push-clause-ends : goal.returns-in-Err-push-clause-ends
 returns-in-Err-push-clause-ends g c = record {
-  lasts = lasts_then _ _ _ c.loop-command.invariant.3 c.carry_out.ensures.ends.lasts;
-  fault = search rules;
-  counted = search rules;
-  caused = λ clean kept free it. absurd (let bad : faults.Memory ≡ faults.Store = sym c.refuse-fault-in-Err-push.ensures.fault ∙ it in cc);
+  remains_open = lasts_then _ _ _ c.loop-command.invariant.3 c.carry_out.ensures.ends.remains_open;
+  fault_is_no_refusal = search rules;
+  refusals_counted = search rules;
+  fault_has_cause = λ clean kept free it. absurd (let bad : faults.Memory ≡ faults.Store = sym c.refuse-fault-in-Err-push.ensures.fault ∙ it in cc);
 }
 
 pub returns-clause-ends : goal.returns-clause-ends
 returns-clause-ends g c = record {
-  lasts = c.loop-command.invariant.3;
-  fault = tt;
-  counted = (c.loop-command.invariant.4, tt);
-  caused = λ clean kept free. tt;
+  remains_open = c.loop-command.invariant.3;
+  fault_is_no_refusal = tt;
+  refusals_counted = (c.loop-command.invariant.4, tt);
+  fault_has_cause = λ clean kept free. tt;
 }
 
 pub returns-in-Err-carry_out-clause-ends : goal.returns-in-Err-carry_out-clause-ends
 returns-in-Err-carry_out-clause-ends g c = record {
-  lasts = lasts_then _ _ _ c.loop-command.invariant.3 c.carry_out.ensures.ends.lasts;
-  fault = c.in-Err-carry_out.ensures.told;
-  counted = search rules;
-  caused = λ clean kept free it.
+  remains_open = lasts_then _ _ _ c.loop-command.invariant.3 c.carry_out.ensures.ends.remains_open;
+  fault_is_no_refusal = c.in-Err-carry_out.ensures.told;
+  refusals_counted = search rules;
+  fault_has_cause = λ clean kept free it.
       let first = state g.S.Store c.args.self.now.conn in
       let mid = state g.S.Store c.loop-command.self.conn in
       let new = state g.S.Store c.carry_out.new.self.conn in
-      let lasts = c.carry_out.ensures.ends.lasts in
-      let before = c.loop-command.invariant.2 (lasts.returned clean) kept in
+      let lasts = c.carry_out.ensures.ends.remains_open in
+      let before = c.loop-command.invariant.2 (lasts.disk_was_clean clean) kept in
       let len : vec_len c.loop-command.outcomes ≡ length c.loop-command.outcomes.items = search rules in
       let Stops : Database → Type 0 = RowsRefuseNextCommand (map spec_command c.args.commands.now) c.len.result in
-      let why : MoreFaults mid.faults new.faults ⊎ Stops new.now = elim (c.in-Err-carry_out.ensures.ends.caused clean before.0 (c.loop-command.invariant.3.limit ∙ free) it) [
+      let why : MoreFaults mid.faults new.faults ⊎ Stops new.now = elim (c.in-Err-carry_out.ensures.ends.fault_has_cause clean before.0 (c.loop-command.invariant.3.step_limit_is_same ∙ free) it) [
         | inl more ↦ inl more
         | inr refused ↦ left_or_failed mid new Stops lasts clean before.0.is_open (λ up. (c.in-Err-carry_out.ensures.step clean before.0 up).1)
             (stops_run c.args.commands.now c.len.result c.loop-command.command-index c.command-item.result mid.now (c.len.ensures ∙ len ∙ c.loop-command.invariant.0)
@@ -174,7 +174,7 @@ returns-in-Err-carry_out-clause-crash g c =
     let told = length-map c.args.commands.now spec_command in
     broken_run g.S.Store c.args.self.now.conn c.carry_out.new.self.conn (map spec_command c.args.commands.now) _ (done + 1) (omega arith)
     (omega (arith, done_is, told, c.loop-command-test.true)) (λ clean kept safe db may.
-    let was = c.carry_out.ensures.ends.lasts.returned clean in
+    let was = c.carry_out.ensures.ends.remains_open.disk_was_clean clean in
     let before = c.loop-command.invariant.2 was kept in
     elim (c.carry_out.ensures.crash before.0 clean db may) [
       | inl earlier ↦ (
@@ -209,7 +209,7 @@ returns-in-Err-push-clause-crash g c =
     let told = length-map c.args.commands.now spec_command in
     broken_run g.S.Store c.args.self.now.conn c.carry_out.new.self.conn (map spec_command c.args.commands.now) _ done (omega arith)
     (omega (arith, done_is, told, c.loop-command-test.true)) (λ clean kept safe db may.
-    let was = c.carry_out.ensures.ends.lasts.returned clean in
+    let was = c.carry_out.ensures.ends.remains_open.disk_was_clean clean in
     let before = c.loop-command.invariant.2 was kept in
     let steps = c.in-Ok-carry_out.ensures.step clean before.0 in
     let ran = ran_next first mid new c.args.commands.now at c.command-item.result outcomes (outcomes ++ o ∷ []) o before

@@ -30,8 +30,8 @@ returns-then-not-branch-clause-answer g c = λ clean kept.
 
 pub returns-in_err-has_list-clause-answer : goal.returns-in_err-has_list-clause-answer
 returns-in_err-has_list-clause-answer g c = λ clean kept.
-    let known = passed_answer c.has_person-known.ensures c.in_ok-pass.ensures.passed (c.has_list.ensures.ends.lasts.returned clean) kept in
-    let none = no_reason_of c.in_err-has_list.field-0.0 c.in_err-has_list.ensures.ends.kind in
+    let known = passed_answer c.has_person-known.ensures c.in_ok-pass.ensures.passed (c.has_list.ensures.ends.remains_open.disk_was_clean clean) kept in
+    let none = no_reason_of c.in_err-has_list.field-0.0 c.in_err-has_list.ensures.ends.refusal_is_possible in
     stops c.from_residual-in_err-has_list.result c.in_err-has_list.field-0.0 c.from_residual-in_err-has_list.ensures.1 none _ _
     (rests_later (state g.S.Store c.args.self.now.conn) (state g.S.Store c.has_person-known.new.conn) (state g.S.Store c.has_list.new.self.conn) known.2
     (rests_of c.in_err-has_list.field-0.0 _ none (c.in_err-has_list.ensures.answer clean known.1)))
@@ -39,7 +39,7 @@ returns-in_err-has_list-clause-answer g c = λ clean kept.
 pub returns-then-not-branch-2-clause-answer : goal.returns-then-not-branch-2-clause-answer
 returns-then-not-branch-2-clause-answer g c = λ clean kept.
     let list = c.args.list.now in
-    let known = passed_answer c.has_person-known.ensures c.in_ok-pass.ensures.passed (c.has_list.ensures.ends.lasts.returned clean) kept in
+    let known = passed_answer c.has_person-known.ensures c.in_ok-pass.ensures.passed (c.has_list.ensures.ends.remains_open.disk_was_clean clean) kept in
     let has = c.in_ok-has_list.ensures.answer clean known.1 in (
       (has.0.0, has.0.1 ∙ known.2),
       no_such_list c.args.person.now list (archive_of (state g.S.Store c.args.self.now.conn)) (sym c.if-not-branch.false ∙ known.0)
@@ -48,8 +48,8 @@ returns-then-not-branch-2-clause-answer g c = λ clean kept.
 
 pub returns-in_err-grants-clause-answer : goal.returns-in_err-grants-clause-answer
 returns-in_err-grants-clause-answer g c = λ clean kept.
-    let clean_2 = c.grants_of-grants.ensures.ends.lasts.returned clean in
-    let known = passed_answer c.has_person-known.ensures c.in_ok-pass.ensures.passed (c.has_list.ensures.ends.lasts.returned clean_2) kept in
+    let clean_2 = c.grants_of-grants.ensures.ends_call.remains_open.disk_was_clean clean in
+    let known = passed_answer c.has_person-known.ensures c.in_ok-pass.ensures.passed (c.has_list.ensures.ends.remains_open.disk_was_clean clean_2) kept in
     let has = c.in_ok-has_list.ensures.answer clean_2 known.1 in
     stops c.from_residual-in_err-grants.result c.in_err-grants.field-0.0 c.from_residual-in_err-grants.ensures.1 c.in_err-grants.ensures.kind _ _
     (rests_later (state g.S.Store c.args.self.now.conn) (state g.S.Store c.has_list.new.self.conn) (state g.S.Store c.grants_of-grants.new.conn) (has.0.1 ∙ known.2)
@@ -57,8 +57,8 @@ returns-in_err-grants-clause-answer g c = λ clean kept.
 
 pub returns-in_err-rank-clause-answer : goal.returns-in_err-rank-clause-answer
 returns-in_err-rank-clause-answer g c = λ clean kept.
-    let clean_2 = c.grants_of-grants.ensures.ends.lasts.returned clean in
-    let known = passed_answer c.has_person-known.ensures c.in_ok-pass.ensures.passed (c.has_list.ensures.ends.lasts.returned clean_2) kept in
+    let clean_2 = c.grants_of-grants.ensures.ends_call.remains_open.disk_was_clean clean in
+    let known = passed_answer c.has_person-known.ensures c.in_ok-pass.ensures.passed (c.has_list.ensures.ends.remains_open.disk_was_clean clean_2) kept in
     let has = c.in_ok-has_list.ensures.answer clean_2 known.1 in
     let found = passed_answer c.grants_of-grants.ensures c.in_ok-grants.ensures.passed clean has.0.0 in
     stops c.from_residual-in_err-rank.result c.in_err-rank.field-0.0 c.from_residual-in_err-rank.ensures.1 c.in_err-rank.ensures.kind _ _
@@ -68,8 +68,8 @@ pub returns-in-Some-clause-answer : goal.returns-in-Some-clause-answer
 returns-in-Some-clause-answer g c = λ clean kept.
     let person = c.args.person.now in
     let list = c.args.list.now in
-    let clean_2 = c.grants_of-grants.ensures.ends.lasts.returned clean in
-    let known = passed_answer c.has_person-known.ensures c.in_ok-pass.ensures.passed (c.has_list.ensures.ends.lasts.returned clean_2) kept in
+    let clean_2 = c.grants_of-grants.ensures.ends_call.remains_open.disk_was_clean clean in
+    let known = passed_answer c.has_person-known.ensures c.in_ok-pass.ensures.passed (c.has_list.ensures.ends.remains_open.disk_was_clean clean_2) kept in
     let has = c.in_ok-has_list.ensures.answer clean_2 known.1 in
     let found = passed_answer c.grants_of-grants.ensures c.in_ok-grants.ensures.passed clean has.0.0 in
     let same = has.0.1 ∙ known.2 in
@@ -86,8 +86,8 @@ returns-in-Some-clause-answer g c = λ clean kept.
 
 pub returns-clause-answer : goal.returns-clause-answer
 returns-clause-answer g c = λ clean kept.
-    let clean_2 = c.grants_of-grants.ensures.ends.lasts.returned clean in
-    let known = passed_answer c.has_person-known.ensures c.in_ok-pass.ensures.passed (c.has_list.ensures.ends.lasts.returned clean_2) kept in
+    let clean_2 = c.grants_of-grants.ensures.ends_call.remains_open.disk_was_clean clean in
+    let known = passed_answer c.has_person-known.ensures c.in_ok-pass.ensures.passed (c.has_list.ensures.ends.remains_open.disk_was_clean clean_2) kept in
     let has = c.in_ok-has_list.ensures.answer clean_2 known.1 in
     let found = passed_answer c.grants_of-grants.ensures c.in_ok-grants.ensures.passed clean has.0.0 in
     (λ up. (found.1, found.2 ∙ has.0.1 ∙ known.2))
@@ -96,58 +96,59 @@ returns-clause-answer g c = λ clean kept.
 
 pub returns-in_err-pass-clause-ends : goal.returns-in_err-pass-clause-ends
 returns-in_err-pass-clause-ends g c = record {
-  lasts = search rules;
+  remains_open = search rules;
   was_open = search rules;
-  kind = search rules;
-  counted = search rules;
-  caused = λ clean kept free.
+  refusal_is_possible = search rules;
+  refusals_counted = search rules;
+  fault_has_cause = λ clean kept free.
       passed_on c.from_residual.result c.in_err-pass.field-0.0 _ c.from_residual.ensures.1
       (λ it. inl (blames_disk g.S.Store c.args.self.now.conn c.has_person-known.new.conn c.has_person-known.result (Err c.in_err-pass.field-0.0) c.in_err-pass.ensures.passed
-      c.has_person-known.ensures.caused clean kept free it));
+      c.has_person-known.ensures.fault_has_cause clean kept free it));
 }
 
 pub returns-in_err-has_list-clause-ends : goal.returns-in_err-has_list-clause-ends
 returns-in_err-has_list-clause-ends g c = record {
-  lasts = search rules;
+  remains_open = search rules;
   was_open = search rules;
-  kind = stops_for c.from_residual-in_err-has_list.result c.in_err-has_list.field-0.0 c.from_residual-in_err-has_list.ensures.1
-      (no_reason_of c.in_err-has_list.field-0.0 c.in_err-has_list.ensures.ends.kind) (no_person ∷ no_list ∷ []);
-  counted = search rules;
-  caused = λ clean kept free.
-      let known = passed_answer c.has_person-known.ensures c.in_ok-pass.ensures.passed (c.has_list.ensures.ends.lasts.returned clean) kept in
+  refusal_is_possible = stops_for c.from_residual-in_err-has_list.result c.in_err-has_list.field-0.0 c.from_residual-in_err-has_list.ensures.1
+      (no_reason_of c.in_err-has_list.field-0.0 c.in_err-has_list.ensures.ends.refusal_is_possible) (no_person ∷ no_list ∷ []);
+  refusals_counted = search rules;
+  fault_has_cause = λ clean kept free.
+      let known = passed_answer c.has_person-known.ensures c.in_ok-pass.ensures.passed (c.has_list.ensures.ends.remains_open.disk_was_clean clean) kept in
       passed_on c.from_residual-in_err-has_list.result c.in_err-has_list.field-0.0 _ c.from_residual-in_err-has_list.ensures.1
-      (λ it. inl (more_since (state g.S.Store c.args.self.now.conn) (state g.S.Store c.has_person-known.new.conn) (state g.S.Store c.has_list.new.self.conn) c.has_person-known.ensures.ends.lasts
-      (c.in_err-has_list.ensures.ends.caused clean known.1 (c.has_person-known.ensures.ends.lasts.limit ∙ free) it)));
+      (λ it. inl (more_since (state g.S.Store c.args.self.now.conn) (state g.S.Store c.has_person-known.new.conn)
+      (state g.S.Store c.has_list.new.self.conn) c.has_person-known.ensures.ends_call.remains_open
+      (c.in_err-has_list.ensures.ends.fault_has_cause clean known.1 (c.has_person-known.ensures.ends_call.remains_open.step_limit_is_same ∙ free) it)));
 }
 
 pub returns-in_err-grants-clause-ends : goal.returns-in_err-grants-clause-ends
 returns-in_err-grants-clause-ends g c = record {
-  lasts = lasts_then _ _ _ (lasts_then _ _ _ c.has_person-known.ensures.ends.lasts c.has_list.ensures.ends.lasts) c.grants_of-grants.ensures.ends.lasts;
+  remains_open = lasts_then _ _ _ (lasts_then _ _ _ c.has_person-known.ensures.ends_call.remains_open c.has_list.ensures.ends.remains_open) c.grants_of-grants.ensures.ends_call.remains_open;
   was_open = search rules;
-  kind = search rules;
-  counted = search rules;
-  caused = λ clean kept free.
-      let clean_2 = c.grants_of-grants.ensures.ends.lasts.returned clean in
-      let known = passed_answer c.has_person-known.ensures c.in_ok-pass.ensures.passed (c.has_list.ensures.ends.lasts.returned clean_2) kept in
+  refusal_is_possible = search rules;
+  refusals_counted = search rules;
+  fault_has_cause = λ clean kept free.
+      let clean_2 = c.grants_of-grants.ensures.ends_call.remains_open.disk_was_clean clean in
+      let known = passed_answer c.has_person-known.ensures c.in_ok-pass.ensures.passed (c.has_list.ensures.ends.remains_open.disk_was_clean clean_2) kept in
       let has = c.in_ok-has_list.ensures.answer clean_2 known.1 in
-      let lasts = lasts_then _ _ _ c.has_person-known.ensures.ends.lasts c.has_list.ensures.ends.lasts in
+      let lasts = lasts_then _ _ _ c.has_person-known.ensures.ends_call.remains_open c.has_list.ensures.ends.remains_open in
       passed_on c.from_residual-in_err-grants.result c.in_err-grants.field-0.0 _ c.from_residual-in_err-grants.ensures.1
       (λ it. inl (more_since (state g.S.Store c.args.self.now.conn) (state g.S.Store c.has_list.new.self.conn) (state g.S.Store c.grants_of-grants.new.conn) lasts
       (blames_disk g.S.Store c.has_list.new.self.conn c.grants_of-grants.new.conn c.grants_of-grants.result (Err c.in_err-grants.field-0.0) c.in_err-grants.ensures.passed
-      c.grants_of-grants.ensures.caused clean has.0.0 (lasts.limit ∙ free) it)));
+      c.grants_of-grants.ensures.fault_has_cause clean has.0.0 (lasts.step_limit_is_same ∙ free) it)));
 }
 
 pub returns-in_err-rank-clause-ends : goal.returns-in_err-rank-clause-ends
 returns-in_err-rank-clause-ends g c = record {
-  lasts = lasts_then _ _ _ (lasts_then _ _ _ c.has_person-known.ensures.ends.lasts c.has_list.ensures.ends.lasts) c.grants_of-grants.ensures.ends.lasts;
+  remains_open = lasts_then _ _ _ (lasts_then _ _ _ c.has_person-known.ensures.ends_call.remains_open c.has_list.ensures.ends.remains_open) c.grants_of-grants.ensures.ends_call.remains_open;
   was_open = search rules;
-  kind = search rules;
-  counted = search rules;
-  caused = λ clean kept free.
+  refusal_is_possible = search rules;
+  refusals_counted = search rules;
+  fault_has_cause = λ clean kept free.
       let person = c.args.person.now in
       let list = c.args.list.now in
-      let clean_2 = c.grants_of-grants.ensures.ends.lasts.returned clean in
-      let known = passed_answer c.has_person-known.ensures c.in_ok-pass.ensures.passed (c.has_list.ensures.ends.lasts.returned clean_2) kept in
+      let clean_2 = c.grants_of-grants.ensures.ends_call.remains_open.disk_was_clean clean in
+      let known = passed_answer c.has_person-known.ensures c.in_ok-pass.ensures.passed (c.has_list.ensures.ends.remains_open.disk_was_clean clean_2) kept in
       let has = c.in_ok-has_list.ensures.answer clean_2 known.1 in
       let found = passed_answer c.grants_of-grants.ensures c.in_ok-grants.ensures.passed clean has.0.0 in
       let a = archive_of (state g.S.Store c.args.self.now.conn) in
@@ -159,15 +160,15 @@ returns-in_err-rank-clause-ends g c = record {
 
 pub returns-clause-ends : goal.returns-clause-ends
 returns-clause-ends g c = record {
-  lasts = lasts_then _ _ _ (lasts_then _ _ _ c.has_person-known.ensures.ends.lasts c.has_list.ensures.ends.lasts) c.grants_of-grants.ensures.ends.lasts;
+  remains_open = lasts_then _ _ _ (lasts_then _ _ _ c.has_person-known.ensures.ends_call.remains_open c.has_list.ensures.ends.remains_open) c.grants_of-grants.ensures.ends_call.remains_open;
   was_open = search rules;
-  kind = search rules;
-  counted = search rules;
-  caused = λ clean kept free it.
+  refusal_is_possible = search rules;
+  refusals_counted = search rules;
+  fault_has_cause = λ clean kept free it.
       let person = c.args.person.now in
       let list = c.args.list.now in
-      let clean_2 = c.grants_of-grants.ensures.ends.lasts.returned clean in
-      let known = passed_answer c.has_person-known.ensures c.in_ok-pass.ensures.passed (c.has_list.ensures.ends.lasts.returned clean_2) kept in
+      let clean_2 = c.grants_of-grants.ensures.ends_call.remains_open.disk_was_clean clean in
+      let known = passed_answer c.has_person-known.ensures c.in_ok-pass.ensures.passed (c.has_list.ensures.ends.remains_open.disk_was_clean clean_2) kept in
       let has = c.in_ok-has_list.ensures.answer clean_2 known.1 in
       let found = passed_answer c.grants_of-grants.ensures c.in_ok-grants.ensures.passed clean has.0.0 in
       let a = archive_of (state g.S.Store c.args.self.now.conn) in

@@ -36,7 +36,7 @@ returns-clause-given g c = λ returned list all a given w.
     let fits = rw c.in-Some.is at c.place_at.type_inv in
     let itself = to_z-of_z w64 place (record { sfits = assumption fits }) in
     let some : slice_get walk.places.items walk.at ≡ Some place = ap (λ l. slice_get l walk.at) (sym c.deref.ensures.value) ∙ sym c.place_at.ensures ∙ c.in-Some.is in
-    let shown = rw itself at (c.in_ok-message.ensures.shown returned w.held) in
+    let shown = rw itself at (c.in_ok-message.ensures.shown returned w.is_archive_at_rest) in
     further g.S.Store list all a given (walk_over_store c.args.store.now walk) c.message_at.new.store (walk.at + 1) walk.places.items place c.in_ok-message.message w
     (slice_get_within walk.places.items walk.at place some) refl refl shown.1 shown.2
     (shown.0.0, ap (message_at (current_rows g.S.Store c.args.store.now)) (get_or_from_slice_get walk.places.items walk.at place place some) ∙ shown.0.1, shown.0.2)
@@ -56,4 +56,4 @@ returns-in_err-message-clause-caused g c = λ returned list all a given w free.
     let itself = to_z-of_z w64 place (record { sfits = assumption fits }) in
     let some : slice_get walk.places.items walk.at ≡ Some place = ap (λ l. slice_get l walk.at) (sym c.deref.ensures.value) ∙ sym c.place_at.ensures ∙ c.in-Some.is in
     passed_on c.from_residual.result c.in_err-message.field-0.0 _ c.from_residual.ensures.1
-    (λ it. unread_next g.S.Store list all a given (walk_over_store c.args.store.now walk) place w some _ (rw itself at (c.in_err-message.ensures.caused returned w.held free it)))
+    (λ it. unread_next g.S.Store list all a given (walk_over_store c.args.store.now walk) place w some _ (rw itself at (c.in_err-message.ensures.caused returned w.is_archive_at_rest free it)))

@@ -10,7 +10,7 @@ use Rattle.archive_store.proofs.walking.MessageWalk.peek_marks.Goals as goal
 
 pub returns-in_default-clause-shown : goal.returns-in_default-clause-shown
 returns-in_default-clause-shown g c = record {
-  given = λ returned list all a given w.
+  gives_next_marks = λ returned list all a given w.
       let walk = c.args.self.now in
       let none : slice_get walk.places.items walk.at ≡ None = ap (λ l. slice_get l walk.at) (sym c.deref.ensures.value) ∙ sym c.place_at.ensures ∙ c.in_default.is in
       (w, all_given (message_at (current_rows g.S.Store c.args.store.now)) walk.places.items walk.at given w.left all w.ahead w.joined (past_end walk.places.items walk.at none));
@@ -21,23 +21,23 @@ returns-in_default-clause-shown g c = record {
 
 pub returns-clause-shown : goal.returns-clause-shown
 returns-clause-shown g c = record {
-  given = λ returned list all a given w.
+  gives_next_marks = λ returned list all a given w.
       let walk = c.args.self.now in
       let place = c.in-Some.place in
       let fits = rw c.in-Some.is at c.place_at.type_inv in
       let itself = to_z-of_z w64 place (record { sfits = assumption fits }) in
       let some : slice_get walk.places.items walk.at ≡ Some place = ap (λ l. slice_get l walk.at) (sym c.deref.ensures.value) ∙ sym c.place_at.ensures ∙ c.in-Some.is in
-      let shown = rw itself at (c.in_ok-marks_at.ensures.shown returned w.held) in
+      let shown = rw itself at (c.in_ok-marks_at.ensures.shown returned w.is_archive_at_rest) in
       seen_next g.S.Store list all a given (walk_over_store c.args.store.now walk) c.marks_at.new.store walk.at walk.places.items place c.in_ok-marks_at.field-0 w
       (slice_get_within walk.places.items walk.at place some) refl refl shown.1 shown.2
       (shown.0.0, ap (message_at (current_rows g.S.Store c.args.store.now)) (get_or_from_slice_get walk.places.items walk.at place place some) ∙ shown.0.1, shown.0.2);
-  left = refl;
-  ahead =
+  remaining_is_same = refl;
+  some_means_remaining =
       let walk = c.args.self.now in
       let some : slice_get walk.places.items walk.at ≡ Some c.in-Some.place = ap (λ l. slice_get l walk.at) (sym c.deref.ensures.value) ∙ sym c.place_at.ensures ∙ c.in-Some.is in
       let within = slice_get_within walk.places.items walk.at c.in-Some.place some in
       omega (arith, within);
-  fault = tt;
+  fault_is_no_refusal = tt;
 }
 
 pub returns-in_err-marks_at-clause-caused : goal.returns-in_err-marks_at-clause-caused
@@ -48,4 +48,4 @@ returns-in_err-marks_at-clause-caused g c = λ returned list all a given w free.
     let itself = to_z-of_z w64 place (record { sfits = assumption fits }) in
     let some : slice_get walk.places.items walk.at ≡ Some place = ap (λ l. slice_get l walk.at) (sym c.deref.ensures.value) ∙ sym c.place_at.ensures ∙ c.in-Some.is in
     passed_on c.from_residual.result c.in_err-marks_at.field-0.0 _ c.from_residual.ensures.1
-    (λ it. unread_next g.S.Store list all a given (walk_over_store c.args.store.now walk) place w some _ (rw itself at (c.in_err-marks_at.ensures.caused returned w.held free it)))
+    (λ it. unread_next g.S.Store list all a given (walk_over_store c.args.store.now walk) place w some _ (rw itself at (c.in_err-marks_at.ensures.caused returned w.is_archive_at_rest free it)))

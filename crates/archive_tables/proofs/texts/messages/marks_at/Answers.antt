@@ -42,8 +42,8 @@ returns-in_err-read_dated_marks-in-Some g c =
     (λ clean behind k. marks_at_rests old new k c.args.place rows (rw number at (c.in_ok-rows.ensures.ok clean)))
     (λ clean k free.
     let found = marks_found old new k c.args.place rows (rw number at (c.in_ok-rows.ensures.ok clean)) in
-    let it = first_found (is_at c.args.place) (λ (r : NumberedRecord IndexedMessage). dated_marks_result_row r.it.0) _ rows found.0 c.in-Some.row.now first in
-    inl (inl (c.in_err-read_dated_marks-in-Some.ensures.fault it.0.it.0 it.2)))
+    let it = first_found (is_at c.args.place) (λ (r : NumberedRecord IndexedMessage). dated_marks_result_row r.content.0) _ rows found.0 c.in-Some.row.now first in
+    inl (inl (c.in_err-read_dated_marks-in-Some.ensures.fault it.0.content.0 it.2)))
 
 pub returns-in-Some : goal.returns-in-Some
 returns-in-Some g c =
@@ -55,8 +55,8 @@ returns-in-Some g c =
     asks_rows_answers _ _ asks c.query_all.result c.query_all.ensures.survives c.query_all.ensures.ok c.query_all.ensures.err _ rows c.in_ok-rows.ensures.ok
     (λ clean behind k.
     let found = marks_found old new k c.args.place rows (rw number at (c.in_ok-rows.ensures.ok clean)) in
-    let it = first_found (is_at c.args.place) (λ (r : NumberedRecord IndexedMessage). dated_marks_result_row r.it.0) _ rows found.0 c.in-Some.row.now first in (
-      ap Some (c.in_ok-read_dated_marks-in-Some.ensures.read it.0.it.0 it.2) ∙ sym (ap (λ o. option_map decoded_dated_marks (option_map (λ (r : NumberedRecord IndexedMessage). r.it.0) o))
+    let it = first_found (is_at c.args.place) (λ (r : NumberedRecord IndexedMessage). dated_marks_result_row r.content.0) _ rows found.0 c.in-Some.row.now first in (
+      ap Some (c.in_ok-read_dated_marks-in-Some.ensures.read it.0.content.0 it.2) ∙ sym (ap (λ o. option_map decoded_dated_marks (option_map (λ (r : NumberedRecord IndexedMessage). r.content.0) o))
           it.1),
       found.1,
     ))
@@ -71,7 +71,7 @@ returns g c =
     asks_rows_answers _ _ asks c.query_all.result c.query_all.ensures.survives c.query_all.ensures.ok c.query_all.ensures.err _ rows c.in_ok-rows.ensures.ok
     (λ clean behind k.
     let found = marks_found old new k c.args.place rows (rw number at (c.in_ok-rows.ensures.ok clean)) in (
-      sym (ap (λ o. option_map decoded_dated_marks (option_map (λ (r : NumberedRecord IndexedMessage). r.it.0) o))
-          (none_found (is_at c.args.place) (λ (r : NumberedRecord IndexedMessage). dated_marks_result_row r.it.0) _ rows found.0 first)),
+      sym (ap (λ o. option_map decoded_dated_marks (option_map (λ (r : NumberedRecord IndexedMessage). r.content.0) o))
+          (none_found (is_at c.args.place) (λ (r : NumberedRecord IndexedMessage). dated_marks_result_row r.content.0) _ rows found.0 first)),
       found.1,
     ))

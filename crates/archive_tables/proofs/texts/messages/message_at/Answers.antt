@@ -44,9 +44,9 @@ returns-in_err-read_message-in-Some g c =
     (λ clean behind k. at_rests old new k c.args.place rows (rw number at (c.in_ok-rows.ensures.ok clean)))
     (λ clean k free.
     let found = at_found old new k c.args.place rows (rw number at (c.in_ok-rows.ensures.ok clean)) in
-    let it = first_found (is_at c.args.place) (λ (r : NumberedRecord IndexedMessage). message_result_row r.it.0) _ rows found.0 c.in-Some.row.now first in
-    read_fails_by old new (λ (m : Message). m.key) (message_at old.now.trees c.args.place) it.0.it.0 error
-    (ap (option_map (λ (r : NumberedRecord IndexedMessage). r.it.0)) it.1) (c.in_err-read_message-in-Some.ensures.fault it.0.it.0 it.2))
+    let it = first_found (is_at c.args.place) (λ (r : NumberedRecord IndexedMessage). message_result_row r.content.0) _ rows found.0 c.in-Some.row.now first in
+    read_fails_by old new (λ (m : Message). m.key) (message_at old.now.trees c.args.place) it.0.content.0 error
+    (ap (option_map (λ (r : NumberedRecord IndexedMessage). r.content.0)) it.1) (c.in_err-read_message-in-Some.ensures.fault it.0.content.0 it.2))
 
 pub returns-in-Some : goal.returns-in-Some
 returns-in-Some g c =
@@ -58,8 +58,8 @@ returns-in-Some g c =
     asks_rows_answers _ _ asks c.query_all.result c.query_all.ensures.survives c.query_all.ensures.ok c.query_all.ensures.err _ rows c.in_ok-rows.ensures.ok
     (λ clean behind k.
     let found = at_found old new k c.args.place rows (rw number at (c.in_ok-rows.ensures.ok clean)) in
-    let it = first_found (is_at c.args.place) (λ (r : NumberedRecord IndexedMessage). message_result_row r.it.0) _ rows found.0 c.in-Some.row.now first in
-    ((it.0.it.0, ap (option_map (λ (r : NumberedRecord IndexedMessage). r.it.0)) it.1, c.in_ok-read_message-in-Some.ensures.read it.0.it.0 it.2), found.1))
+    let it = first_found (is_at c.args.place) (λ (r : NumberedRecord IndexedMessage). message_result_row r.content.0) _ rows found.0 c.in-Some.row.now first in
+    ((it.0.content.0, ap (option_map (λ (r : NumberedRecord IndexedMessage). r.content.0)) it.1, c.in_ok-read_message-in-Some.ensures.read it.0.content.0 it.2), found.1))
 
 pub returns : goal.returns
 returns g c =
@@ -71,7 +71,7 @@ returns g c =
     asks_rows_answers _ _ asks c.query_all.result c.query_all.ensures.survives c.query_all.ensures.ok c.query_all.ensures.err _ rows c.in_ok-rows.ensures.ok
     (λ clean behind k.
     let found = at_found old new k c.args.place rows (rw number at (c.in_ok-rows.ensures.ok clean)) in (
-      ap (option_map (λ (r : NumberedRecord IndexedMessage). r.it.0)) (none_found (is_at c.args.place) (λ (r : NumberedRecord IndexedMessage). message_result_row r.it.0) _ rows found.0
+      ap (option_map (λ (r : NumberedRecord IndexedMessage). r.content.0)) (none_found (is_at c.args.place) (λ (r : NumberedRecord IndexedMessage). message_result_row r.content.0) _ rows found.0
           first),
       found.1,
     ))

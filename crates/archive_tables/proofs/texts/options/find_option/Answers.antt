@@ -27,20 +27,20 @@ returns-in_err-rows g c =
     (λ clean behind k. not_found c.args.list.now old new k error (rw c.params-to_sql.ensures at (c.in_err-rows.ensures.err clean)))
     (λ clean k free. inl (not_found_caused c.args.list.now old new k error (rw c.params-to_sql.ensures at (c.in_err-rows.ensures.err clean)) free))
 
-pub returns-in_err-read_merge-in-Some : goal.returns-in_err-read_merge-in-Some
-returns-in_err-read_merge-in-Some g c =
+pub returns-in_err-read_merges_by_subject-in-Some : goal.returns-in_err-read_merges_by_subject-in-Some
+returns-in_err-read_merges_by_subject-in-Some g c =
     let old = state g.S.Store c.args.conn.now in
     let new = state g.S.Store c.query_all.new.self in
     let rows = c.in_ok-rows.rows.items in
-    let error = c.in_err-read_merge-in-Some.field-0.0 in
-    let last = c.from_residual-in_err-read_merge-in-Some in
+    let error = c.in_err-read_merges_by_subject-in-Some.field-0.0 in
+    let last = c.from_residual-in_err-read_merges_by_subject-in-Some in
     let first : slice_get rows 0 ≡ Some c.in-Some.row.now = search rules in
     asks_fails _ _ asks c.query_all.result c.query_all.ensures.survives c.query_all.ensures.ok c.query_all.ensures.err last.result error last.ensures.1
     (λ clean behind k. stays_rests behind old new (found c.args.list.now old new k rows (rw c.params-to_sql.ensures at (c.in_ok-rows.ensures.ok clean))).1)
     (λ clean k free.
     let found = found c.args.list.now old new k rows (rw c.params-to_sql.ensures at (c.in_ok-rows.ensures.ok clean)) in
     let it = first_found (is_option_of c.args.list.now) merge_result_row _ rows found.0 c.in-Some.row.now first in
-    inl (inl (c.in_err-read_merge-in-Some.ensures.fault it.0 it.2)))
+    inl (inl (c.in_err-read_merges_by_subject-in-Some.ensures.fault it.0 it.2)))
 
 pub returns-in-Some : goal.returns-in-Some
 returns-in-Some g c =
@@ -52,7 +52,7 @@ returns-in-Some g c =
     (λ clean behind k.
     let found = found c.args.list.now old new k rows (rw c.params-to_sql.ensures at (c.in_ok-rows.ensures.ok clean)) in
     let it = first_found (is_option_of c.args.list.now) merge_result_row _ rows found.0 c.in-Some.row.now first in
-    (ap Some (c.in_ok-read_merge-in-Some.ensures.read it.0 it.2) ∙ sym (ap (option_map (λ (o : ListOption). o.merge)) it.1), found.1))
+    (ap Some (c.in_ok-read_merges_by_subject-in-Some.ensures.read it.0 it.2) ∙ sym (ap (option_map (λ (o : ListOption). o.merge)) it.1), found.1))
 
 pub returns : goal.returns
 returns g c =

@@ -70,10 +70,10 @@ returns-clause-ends g c =
     let new = state g.S.Store c.execute.new.self in
     let ends : EndsConnectionCall g.S.Store c.args.conn.now c.execute.new.self c.execute.result = execute_ends _ _ _ c.execute.result ours c.execute.ensures.survives c.execute.ensures.runs in
     record {
-      lasts = ends.lasts;
+      remains_open = ends.remains_open;
       was_open = ends.was_open;
-      stopped = λ clean. statement_stops old new begin_text [] c.execute.result (c.execute.ensures.runs clean);
-      caused = λ clean up outside. transaction_fails begin_text Begin begin_is begin_plain any_fits tt old new up (placed old outside) c.execute.result (c.execute.ensures.runs clean);
-      same = λ clean. same old new c.execute.result (c.execute.ensures.runs clean);
-      quiet = λ clean db may. transaction_adds begin_text Begin begin_is begin_plain tt [] old new tt c.execute.ensures.survives clean db may;
+      failure_keeps_or_rolls_back = λ clean. statement_stops old new begin_text [] c.execute.result (c.execute.ensures.runs clean);
+      fault_has_cause = λ clean up outside. transaction_fails begin_text Begin begin_is begin_plain any_fits tt old new up (placed old outside) c.execute.result (c.execute.ensures.runs clean);
+      same_database = λ clean. same old new c.execute.result (c.execute.ensures.runs clean);
+      crash_adds_nothing = λ clean db may. transaction_adds begin_text Begin begin_is begin_plain tt [] old new tt c.execute.ensures.survives clean db may;
     }

@@ -64,10 +64,10 @@ returns-clause-ends g c =
     let new = state g.S.Store c.execute.new.self in
     let ends : EndsConnectionCall g.S.Store c.args.conn.now c.execute.new.self c.execute.result = execute_ends _ _ _ c.execute.result ours c.execute.ensures.survives c.execute.ensures.runs in
     record {
-      lasts = ends.lasts;
+      remains_open = ends.remains_open;
       was_open = ends.was_open;
-      stopped = λ clean. statement_stops old new commit_text [] c.execute.result (c.execute.ensures.runs clean);
-      caused = λ clean up within. transaction_fails commit_text Commit any_is any_plain any_fits tt old new up (placed old within) c.execute.result (c.execute.ensures.runs clean);
-      same = λ clean. same old new c.execute.result (c.execute.ensures.runs clean);
+      failure_keeps_or_rolls_back = λ clean. statement_stops old new commit_text [] c.execute.result (c.execute.ensures.runs clean);
+      fault_has_cause = λ clean up within. transaction_fails commit_text Commit any_is any_plain any_fits tt old new up (placed old within) c.execute.result (c.execute.ensures.runs clean);
+      same_database = λ clean. same old new c.execute.result (c.execute.ensures.runs clean);
       crash = λ clean db may. commit_adds commit_text Commit any_is any_plain tt [] old new c.schema-schema.ensures.live c.execute.ensures.survives clean db may;
     }

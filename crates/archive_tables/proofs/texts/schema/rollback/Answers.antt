@@ -42,9 +42,10 @@ returns-clause-ends g c =
     let old = state g.S.Store c.args.conn.now in
     let new = state g.S.Store c.execute.new.self in
     record {
-      stopped = λ clean. stops old new c.execute.result (c.execute.ensures.runs clean);
-      caused = λ clean up within. transaction_fails rollback_text Rollback rollback_is rollback_plain any_fits tt old new up (placed old within) c.execute.result (c.execute.ensures.runs clean);
-      quiet = λ clean db may. transaction_adds rollback_text Rollback rollback_is rollback_plain tt [] old new tt c.execute.ensures.survives clean db may;
+      failure_keeps_or_rolls_back = λ clean. stops old new c.execute.result (c.execute.ensures.runs clean);
+      fault_has_cause = λ clean up within. transaction_fails rollback_text Rollback rollback_is rollback_plain any_fits tt old new up (placed old within) c.execute.result
+          (c.execute.ensures.runs clean);
+      crash_adds_nothing = λ clean db may. transaction_adds rollback_text Rollback rollback_is rollback_plain tt [] old new tt c.execute.ensures.survives clean db may;
     }
 
 pub returns-clause-left : goal.returns-clause-left

@@ -1,8 +1,0 @@
-use Rattle.archive_desk.proofs.RepeatLemmas.{again_added, again_imported}
-use Rattle.archive_desk.proofs.laws.what_is_repeated_is_known.Goals as goal
-
-pub returns-clause-added : goal.returns-clause-added
-returns-clause-added c = again_added
-
-pub returns-clause-imported : goal.returns-clause-imported
-returns-clause-imported c = again_imported

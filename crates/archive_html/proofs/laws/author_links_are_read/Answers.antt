@@ -1,5 +1,0 @@
-use Rattle.archive_html.proofs.LawLemmas.{escapes_are_read}
-use Rattle.archive_html.proofs.laws.author_links_are_read.Goals as goal
-
-pub returns : goal.returns
-returns c = escapes_are_read

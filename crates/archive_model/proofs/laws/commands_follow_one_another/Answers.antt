@@ -1,8 +1,0 @@
-use Rattle.archive_model.proofs.RunLemmas as laws
-use Rattle.archive_model.proofs.laws.commands_follow_one_another.Goals as goal
-
-pub returns-clause-archive : goal.returns-clause-archive
-returns-clause-archive c = laws.archive_of_both
-
-pub returns-clause-replies : goal.returns-clause-replies
-returns-clause-replies c = laws.replies_of_both

@@ -1,6 +1,0 @@
-use Rattle.archive_pages.proofs.StopLemmas.{answers_behind}
-use Rattle.archive_pages.proofs.laws.a_file_opened_after_a_stop_is_answered_for_one_of_the_two.Goals as goal
-
-pub returns : goal.returns
-returns g c = λ old cut opened files store step reply. answers_behind old cut opened files store step reply
-    (c.a_crash_leaves_the_archive_before_a_command_or_after_it.ensures old cut step reply)

@@ -1,5 +1,0 @@
-use Rattle.archive_pages.proofs.RunningLemmas.{answers_reopened}
-use Rattle.archive_pages.proofs.laws.a_file_opened_again_is_answered_alike.Goals as goal
-
-pub returns : goal.returns
-returns g c = λ closed opened files store new archive. answers_reopened closed opened files store new archive (c.a_file_opened_again_holds_the_same_archive.ensures closed opened files archive)

@@ -1,5 +1,0 @@
-use Rattle.archive_results.proofs.HoldLemmas.{thread_missing}
-use Rattle.archive_results.proofs.laws.a_thread_is_missing_where_its_message_is.Goals as goal
-
-pub returns : goal.returns
-returns c = λ merge key view. thread_missing c.each_place_stands_in_one_row.ensures.step_one merge key view

@@ -1,8 +1,0 @@
-use Rattle.archive_results.proofs.FiledLemmas as lemmas
-use Rattle.archive_results.proofs.laws.what_is_filed_right_is_found_by_its_text.Goals as goal
-
-pub returns-clause-month : goal.returns-clause-month
-returns-clause-month c = lemmas.month_is_filed
-
-pub returns-clause-author : goal.returns-clause-author
-returns-clause-author c = lemmas.author_is_filed

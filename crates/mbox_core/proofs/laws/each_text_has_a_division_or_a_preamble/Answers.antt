@@ -1,0 +1,5 @@
+use Rattle.mbox_core.proofs.DivisionLaws as laws
+use Rattle.mbox_core.proofs.laws.each_text_has_a_division_or_a_preamble.Goals as goal
+
+pub returns : goal.returns
+returns c = laws.each_text_has_a_division_or_a_preamble

@@ -1,5 +1,0 @@
-use Rattle.mbox_stream.proofs.StreamLaws as laws
-use Rattle.mbox_stream.proofs.laws.settled_none.Goals as goal
-
-pub returns : goal.returns
-returns c = laws.settled_none

@@ -1,5 +1,0 @@
-use Rattle.mbox_stream.proofs.StreamLaws as laws
-use Rattle.mbox_stream.proofs.laws.whole_lines_settle_all_but_the_last.Goals as goal
-
-pub returns : goal.returns
-returns c = laws.settled_all
