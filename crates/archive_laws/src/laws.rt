@@ -9,8 +9,10 @@ ghost use Rattle.archive_tables.specs.Making.{empty_archive};
 ghost use Rattle.archive_laws.specs.Seen.{RepliesDependOnVisibleOnly};
 ghost use Rattle.archive_laws.specs.Telling.{IsWellFormedArchive, RepliesRevealAllVisible};
 
-use archive_model::laws::{commands_keep_soundness, names_and_tokens_are_such, names_stay_unique};
-use thread_core::laws::each_place_stands_in_one_row;
+use archive_model::laws::{
+    commands_keep_soundness, names_and_tokens_stay_valid, names_stay_unique,
+};
+use thread_core::laws::each_message_is_in_one_row;
 
 /// The reply to a request is a function of what its reader sees: nothing else of an archive turns up in any reply.
 #[tactic(auto, using(crate::proofs::SeenLemmas::of_what_is_seen))]

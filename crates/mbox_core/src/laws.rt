@@ -5,7 +5,8 @@ ghost use Rattle.mbox_items.specs.Division.{Item, DividesIntoItems, IsPreamble};
 ghost use Rattle.mbox_items.specs.Written.{IsItem, written, whole_item};
 
 pub use mbox_items::laws::{
-    one_envelope, whole_is_whole, whole_items_are_items, whole_separates_alike,
+    a_whole_text_has_the_same_separators, a_whole_text_is_its_own_whole_text,
+    each_line_has_at_most_one_envelope, whole_items_stay_items,
 };
 
 /// No bytes have two divisions.

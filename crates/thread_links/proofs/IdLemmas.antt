@@ -261,7 +261,11 @@ noted_more entries refs r added count next get get' noted was now counts =
         }
 
 pub noted_none : (entries : List Entry) (get : MessageId → Option ℕ) → ((id : MessageId) → get id ≡ place_of_container (owner entries id)) → NumbersContainers entries [] (length entries) get
-noted_none entries get was = record { as_many = (let z : length entries ≡ length entries + 0 = omega arith in z); each = λ id. was id ∙ sym (some_map (place_of_container (owner entries id))) }
+noted_none entries get was = record {
+  count_is_total = (let z : length entries ≡ length entries + 0 = omega arith in z);
+  number_is = λ id. was id ∙ sym
+      (some_map (place_of_container (owner entries id)));
+}
 
 index-least : (ids : List MessageId) (id : MessageId) → index_of ids id < length ids → list_any (same_id id) ids ≡ true
 index-least [] id h = absurd (let bad : 0 < 0 = h in omega (arith, bad))

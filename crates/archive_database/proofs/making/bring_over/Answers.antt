@@ -84,4 +84,8 @@ returns-in-Err-clause-ends g c =
     }
 
 pub returns-clause-ends : goal.returns-clause-ends
-returns-clause-ends g c = record { lasts = lasts_then _ _ _ c.begin.ensures.ends.lasts c.move_tables.ensures.ends.lasts; was_open = λ clean. search rules; caused = λ clean it free. tt }
+returns-clause-ends g c = record {
+  remains_open = lasts_then _ _ _ c.begin.ensures.ends.remains_open c.move_tables.ensures.ends.remains_open;
+  was_open = λ clean. search rules;
+  fault_has_cause = λ clean it free. tt;
+}

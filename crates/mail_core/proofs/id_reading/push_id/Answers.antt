@@ -9,7 +9,14 @@ use Rattle.mail_core.proofs.id_reading.push_id.Goals as goal
 later : (r : Result (Option ℕ) Memory) (low high : ℕ) (x y : Option (MessageId × List ℕ)) (before after : List MessageId) (text : List ℕ) → low ≤ high → y ≡ x
     → IfOk r (λ read. IfSome read (λ end. AppendsReadId before after x text high end))
     → IfOk r (λ read. IfSome read (λ end. AppendsReadId before after y text low end))
-later (Ok (Some end)) low high x y before after text le e h = record { id = h.id; later = omega (arith, h.later, le); inside = h.inside; is = e ∙ h.is; added = h.added }
+later (Ok (Some end)) low high x y before after text le e h = record {
+  id = h.id;
+  from_before_end = omega (arith, h.from_before_end, le);
+  end_in_range = h.end_in_range;
+  read_is = e
+      ∙ h.read_is;
+  appends_id = h.appends_id;
+}
 later (Ok None) low high x y before after text le e h = tt
 later (Err f) low high x y before after text le e h = tt
 
