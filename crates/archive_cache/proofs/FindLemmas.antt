@@ -128,7 +128,12 @@ module _ {S : Type 0} (g : Ghosts S) (ask : Ask) (reader : ReaderFacts) where
   -- the whole cannot be found
   pub finds_no_whole : (old new : Store S) (kept later : CacheState) (fault : DeskError) (one other : ViewPart) → FindsListIndex g old new ask reader one kept later (Err fault)
       → FindsListIndex g old new ask reader other kept later (Err fault)
-  finds_no_whole old new kept later fault one other finds = record { found = finds.found; held = finds.held; most = finds.most; bounded = finds.bounded }
+  finds_no_whole old new kept later fault one other finds = record {
+    calls_store = finds.calls_store;
+    finds_index = finds.finds_index;
+    capacity_is_same = finds.capacity_is_same;
+    cache_stays_bounded = finds.cache_stays_bounded;
+  }
 
   -- ---- once the reader is known
 

@@ -10,7 +10,8 @@ use Rattle.archive_model.specs.Questions.{message_of}
 use Rattle.archive_store.specs.Held.{memory_refusal_count}
 use Rattle.archive_store.specs.Told.{AnswersFromStoreUnder, StoreHasCleanDisk, HoldsTables, IsOpen, StaysOpenUnlessDiskFails, archive_in}
 use Rattle.archive_store.specs.declared.store.Store.{Store}
-use Rattle.archive_results.specs.Access.{Ask, Asked, MessageFacts, ReaderFacts, asked_under_ruling, asked_for_key, asked_of_message, denied_by, message_facts, reader_facts, ruling_on}
+use Rattle.archive_store.proofs.Joins.{goes_in_as}
+use Rattle.archive_results.specs.Access.{Ask, Asked, MessageFacts, ReaderFacts, absent, asked_under_ruling, asked_for_key, asked_of_message, denied_by, message_facts, reader_facts, ruling_on}
 use Rattle.archive_desk.specs.Asking.{DeterminesVerdicts}
 use Rattle.archive_desk.specs.Causes.{IsMessageUnreadable, IsReaderUnreadable}
 use Rattle.archive_desk.specs.Ending.{EndsDeskCall, EndsDeskQuestion}
@@ -42,11 +43,6 @@ module _ (a : Archive) where
   marked_on old new w (n, inl more) is h = subst (AreWithheldCoherent a) (sym more) (marked_more (drop n old) w (marked_later n old h) is)
   marked_on old new w (n, inr same) is h = subst (AreWithheldCoherent a) (sym same) (marked_later n old h)
 
-  -- of a message that the list holds
-  pub marked_held : {X : Type 0} (say : X → Message) (held : Option X) (x : X) (list key : List ℕ) (marks : MessageFacts) → held ≡ Some x
-      → option_map say held ≡ message_of a list key → marks ≡ message_facts None (say x) → IsWithheldCoherent a (record { list = list; key = key; marks = marks })
-  marked_held say held x list key marks there is same = (say x, sym is ∙ ap (option_map say) there, same)
-
   -- those that a search gives are the marks of the message
   pub marked_found : (list key : List ℕ) (marks : MessageFacts) (ws : List WithheldMessage) → AreWithheldCoherent a ws
       → Some marks ≡ option_map (λ (w : WithheldMessage). w.marks) (find (is_withheld_message list key) ws)
@@ -73,15 +69,57 @@ unowned : (m : Message) → record (message_facts None m) { own = false } ≡ me
 unfolding message_facts
 unowned m = refl
 
+-- one that the list holds
+pub denied_there : (ask : Ask) (reader : ReaderFacts) (rule : List ℕ) (marks : MessageFacts)
+    → ((m : Message) → ruling_on ask reader (record (message_facts None m) { own = false }) ≡ ruling_on ask reader (message_facts reader.address m))
+    → denied rule ≡ ruling_on ask reader marks → (held : Option Message) (m : Message) → held ≡ Some m → marks ≡ message_facts None m → denied_by rule ≡ asked_of_message ask reader held
+denied_there ask reader rule marks alike says held m is same =
+    ap (asked_under_ruling m) (says ∙ ap (ruling_on ask reader) (same ∙ sym (unowned m)) ∙ alike m) ∙ ap (asked_of_message ask reader) (sym is)
+
 pub denied_again : (a : Archive) (ask : Ask) (reader : ReaderFacts) (key rule : List ℕ) (kept : CacheState) (marks : MessageFacts) → Some marks ≡ cached_message_facts kept ask.list key
     → ((m : Message) → ruling_on ask reader (record (message_facts None m) { own = false }) ≡ ruling_on ask reader (message_facts reader.address m))
     → denied rule ≡ ruling_on ask reader marks → AreWithheldCoherent a kept.withheld → DeterminesVerdicts a ask reader → denied_by rule ≡ asked_for_key a ask key
 denied_again a ask reader key rule kept marks found alike says each enough =
     let it = marked_found a ask.list key marks kept.withheld each found in
-    let m = it.0 in
-    let same : denied rule ≡ ruling_on ask (reader_facts a ask) (message_facts (reader_facts a ask).address m) =
-    says ∙ ap (ruling_on ask reader) (it.2 ∙ sym (unowned m)) ∙ alike m ∙ enough m in
-    ap (asked_under_ruling m) same ∙ ap (asked_of_message ask (reader_facts a ask)) (sym it.1)
+    denied_there ask reader rule marks alike says (message_of a ask.list key) it.0 it.1 it.2 ∙ asked_alike a ask reader enough (message_of a ask.list key)
+
+-- the message whose marks a store found, and none where it found none
+pub facts_held : (held : Option Message) (marks : MessageFacts) → Some marks ≡ option_map (message_facts None) held → (m : Message) × (held ≡ Some m) × (marks ≡ message_facts None m)
+facts_held None marks is = absurd (cc)
+facts_held (Some m) marks is = (m, refl, cc)
+
+pub none_held : (ask : Ask) (reader : ReaderFacts) (held : Option Message) → None ≡ option_map (message_facts None) held → absent ≡ asked_of_message ask reader held
+none_held ask reader None is = refl
+none_held ask reader (Some m) is = absurd (cc)
+
+-- ---- a message that is read
+
+module _ {S : Type 0} (g : Ghosts S) (ask : Ask) (reader : ReaderFacts) (key : List ℕ) {X : Type 0} (say : X → Asked) where
+  abbrev Says : Archive → X → Type 0
+  Says a answer = say answer ≡ asked_of_message ask reader (message_of a ask.list key)
+
+  -- what is kept is as it was
+  pub read_kept : (old new : Store S) (kept : List WithheldMessage) (result : Result X DeskError)
+      → AnswersFromStoreUnder g (HoldsTables g) old new refusal_reason result (λ a. missing_list_reason a ask) Says
+      → AnswersFromStoreUnder g (HoldsTables g) old new refusal_reason result (λ a. missing_list_reason a ask) (λ a answer. Says a answer × (AreWithheldCoherent a kept → AreWithheldCoherent a kept))
+  read_kept old new kept (Ok answer) it =
+      goes_in_as g (HoldsTables g) old new (λ a b. (b ≡ a) × (missing_list_reason a ask ≡ None) × Says a answer)
+      (λ a b. (b ≡ a) × (missing_list_reason a ask ≡ None) × (Says a answer × (AreWithheldCoherent a kept → AreWithheldCoherent a kept)))
+      (λ a b h. (h.0, h.1, (h.2, (λ are. are)))) it
+  read_kept old new kept (Err fault) it = it
+
+  -- behind its marks
+  pub read_behind : (old mid new : Store S) (found : Option MessageFacts)
+      → RelatesTableArchives g old mid (λ a b. (b ≡ a) × (missing_list_reason a ask ≡ None) × (found ≡ option_map (message_facts None) (message_of a ask.list key))) → (result : Result X DeskError)
+      → AnswersFromStoreUnder g (HoldsTables g) mid new refusal_reason result (λ a. missing_list_reason a ask) Says
+      → AnswersFromStoreUnder g (HoldsTables g) old new refusal_reason result (λ a. missing_list_reason a ask) Says
+  read_behind old mid new found first result read = calls_after g (HoldsTables g) old mid new refusal_reason
+      (λ a b. (b ≡ a) × (missing_list_reason a ask ≡ None) × (found ≡ option_map (message_facts None) (message_of a ask.list key)))
+      (λ a b answer. (b ≡ a) × (missing_list_reason a ask ≡ None) × Says a answer) (λ a b answer. (b ≡ a) × (missing_list_reason a ask ≡ None) × Says a answer)
+      (λ a b why. (b ≡ a) × (missing_list_reason a ask ≡ Some why)) (λ a b why. (b ≡ a) × (missing_list_reason a ask ≡ Some why)) (λ a b _. b ≡ a) (λ a b _. b ≡ a)
+      (λ a b c answer before it. (it.0 ∙ before.0, before.1, it.2 ∙ ap (λ x. asked_of_message ask reader (message_of x ask.list key)) before.0))
+      (λ a b c why before it. (it.0 ∙ before.0, subst (λ x. missing_list_reason x ask ≡ Some why) before.0 it.1))
+      (λ a b c fault before it. it ∙ before.0) result first read
 
 -- ---- behind the reader, who was found
 

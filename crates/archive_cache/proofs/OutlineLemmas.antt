@@ -1,13 +1,15 @@
 -- Outlines of views, and the texts of their rows.
-use Rattle.std.proofs.Common.{◌≡◌, refl, sym, ap, ◌∙◌, ℕ, Bool, List, [], ◌∷◌, ◌++◌, map, Option, Some, None, option_map, Result, Ok, Err}
+use Rattle.std.proofs.Common.{◌≡◌, refl, sym, ap, ◌∙◌, ℕ, suc, ◌+◌, arith, Bool, List, [], ◌∷◌, ◌++◌, length, map, slice_get, Option, Some, None, option_map, Result, Ok, Err}
 use Rattle.std.specs.Prelude.{IfOk, flat_map}
+use Rattle.std.specs.List.{range_with_len}
 use Rattle.std.specs.Option.{option_and_then}
 use Rattle.thread_core.specs.TopThread.{top_thread_of}
 use Rattle.thread_core.specs.declared.row.Row.{Row}
-use Rattle.archive_html.specs.Rows.{rows_text, tree_row}
+use Rattle.archive_html.specs.Rows.{message_row, rows_text, tree_row}
+use Rattle.archive_html.proofs.RowLemmas.{tree_row_some}
 use Rattle.archive_results.specs.Results.{TreeLine, lines_of, place_of_key, thread_rows_of, thread_lines, tree_line, elements_in_range}
 use Rattle.archive_results.specs.Shown.{Line, ShownMessage}
-use Rattle.archive_cache.specs.ListIndexes.{ListIndex, index_of_view, rendered_rows, thread_rows_of_key}
+use Rattle.archive_cache.specs.ListIndexes.{ListIndex, index_of_view, rendered_rows, thread_rows_of_key, top_row, top_rows_of}
 
 pub made_of : (list : List ℕ) (merge : Bool) (view : List ShownMessage) (lines : List Line) (rows : List Row) → lines ≡ lines_of view → rows ≡ thread_rows_of merge view
     → (◌≡◌ {A = ListIndex} (record { list = list; lines = lines; rows = rows }) (index_of_view list merge view))
@@ -34,6 +36,30 @@ pub text_shown : (outline : ListIndex) (key : List ℕ) (list : List ℕ) (merge
 text_shown outline key list merge view is =
     ap (λ (o : ListIndex). option_map (rendered_rows o) (thread_rows_of_key o key)) is
     ∙ text_of_range list (lines_of view) (thread_rows_of merge view) (option_and_then (top_thread_of (thread_rows_of merge view)) (place_of_key key (lines_of view)))
+
+-- ---- a row for each line
+
+module _ (list : List ℕ) (lines : List Line) where
+  top_row_text : (place : ℕ) (line : Line) → slice_get lines place ≡ Some line → tree_row list (tree_line lines (top_row place)) ≡ message_row list 0 line
+  top_row_text place line there = tree_row_some list (tree_line lines (top_row place)) 0 (slice_get lines place) line refl there
+
+  -- the last lines, from a place on
+  text_from : (from : ℕ) (last : List Line) → ((i : ℕ) → slice_get lines (from + i) ≡ slice_get last i)
+      → rows_text list lines (map top_row (range_with_len from (length last))) ≡ flat_map (message_row list 0) last
+  text_from from [] same = refl
+  text_from from (line ∷ rest) same =
+      let here : from + 0 ≡ from = omega arith in
+      ap (λ (xs : List ℕ). xs ++ rows_text list lines (map top_row (range_with_len (from + 1) (length rest))))
+      (top_row_text from line (ap (slice_get lines) (sym here) ∙ same 0))
+      ∙ ap (λ (xs : List ℕ). message_row list 0 line ++ xs)
+      (text_from (from + 1) rest (λ i.
+      let next : from + 1 + i ≡ from + suc i = omega arith in
+      ap (slice_get lines) next ∙ same (suc i)))
+
+  pub top_rows_text : rows_text list lines (top_rows_of lines) ≡ flat_map (message_row list 0) lines
+  top_rows_text = text_from 0 lines (λ i.
+      let same : 0 + i ≡ i = omega arith in
+      ap (slice_get lines) same)
 
 -- ---- the text of a thread
 

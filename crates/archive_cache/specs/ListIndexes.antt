@@ -1,5 +1,6 @@
--- A view without the texts of its messages: the pages of threads are made of it.
-use Rattle.std.specs.Prelude.{ℕ, Bool, true, List, [], filter, map, Option, option_map}
+-- A view without the texts of its messages: the pages of threads, months and authors are made of it.
+use Rattle.std.specs.Prelude.{ℕ, Bool, true, List, filter, length, map, Option, Some, option_map}
+use Rattle.std.specs.List.{range_with_len}
 use Rattle.std.specs.Option.{option_and_then}
 use Rattle.thread_core.specs.TopThread.{top_thread_of}
 use Rattle.thread_core.specs.declared.row.Row.{Row}
@@ -11,7 +12,7 @@ use Rattle.archive_results.specs.Results.{lines_of, thread_rows_of, sort_lines_b
 use Rattle.archive_results.specs.Shown.{ShownMessage, Line, shown_message}
 use Rattle.archive_cache.specs.Parts.{ViewPart, whole, month, author}
 
--- the list, the line of each message, in mailbox order or by sent date, and the rows of the threads, each with the place of its message
+-- the list, the line of each message, in mailbox order or by sent date, and rows, each with the place of its message's line
 pub record ListIndex : Type 0 where
   pub list : List ℕ
   pub lines : List Line
@@ -21,12 +22,20 @@ pub record ListIndex : Type 0 where
 abbrev pub index_of_view : (list : List ℕ) → (merge : Bool) → List ShownMessage → ListIndex
 index_of_view list merge view = record { list = list; lines = lines_of view; rows = thread_rows_of merge view }
 
--- lines alone, without threads
+-- a row of depth 0, with the place of its line
+abbrev pub top_row : (place : ℕ) → Row
+top_row place = record { depth = 0; place = Some place }
+
+-- a row of depth 0 for each line, in their order
+abbrev pub top_rows_of : List Line → List Row
+top_rows_of lines = map top_row (range_with_len 0 (length lines))
+
+-- the outline of lines that are not threaded
 abbrev pub index_of_lines : (list : List ℕ) → List Line → ListIndex
-index_of_lines list lines = record { list = list; lines = lines; rows = [] }
+index_of_lines list lines = record { list = list; lines = lines; rows = top_rows_of lines }
 
 -- The outline of a part of a view: of all messages, in mailbox order, with their threads; of those of a month or of an author, by
--- sent date and then in mailbox order, without.
+-- sent date and then in mailbox order, with a row of depth 0 for each.
 abbrev pub index_of_view_part : (list : List ℕ) → (merge : Bool) → List ShownMessage → ViewPart → ListIndex
 index_of_view_part list merge view whole = index_of_view list merge view
 index_of_view_part list merge view (month m) = index_of_lines list (month_lines m view)
@@ -46,7 +55,7 @@ is_line_in_part (author key) = is_of_author key
 abbrev pub lines_in_part : ViewPart → List Line → List Line
 lines_in_part part lines = sort_lines_by_date (filter (is_line_in_part part) lines)
 
--- The outline of a month or an author, out of that of the whole view: its lines under it, by sent date, without threads.
+-- The outline of a month or an author, out of that of the whole view: its lines under it, by sent date, and a row of depth 0 for each.
 abbrev pub index_restricted_to : ViewPart → ListIndex → ListIndex
 index_restricted_to part outline = index_of_lines outline.list (lines_in_part part outline.lines)
 

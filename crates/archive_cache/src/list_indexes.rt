@@ -4,7 +4,7 @@ ghost use Rattle.archive_html.specs.Rows.{tree_row};
 ghost use Rattle.archive_results.specs.Index.{HoldsForEachView};
 ghost use Rattle.archive_results.specs.Results.{thread_lines};
 ghost use Rattle.archive_results.specs.Shown.{ShownMessage as Seen, shown_message};
-ghost use Rattle.archive_cache.specs.ListIndexes.{index_of_lines, index_of_view, rendered_rows, thread_rows_of_key};
+ghost use Rattle.archive_cache.specs.ListIndexes.{index_of_lines, index_of_view, rendered_rows, thread_rows_of_key, top_rows_of};
 
 use crate::keyed::KeyedLines;
 use crate::threaded::ThreadedRows;
@@ -18,7 +18,7 @@ use thread_core::{Row, Threader, threads};
 
 /// A view without the texts of its messages: the line of each message, in mailbox order, and the rows of the threads, each with the
 /// place of its message and its text, as the pages of the list have it. A message is found by its key, and its thread by its place,
-/// without a look at the others. Of a month or an author it has the lines by sent date, and no row.
+/// without a look at the others. Of a month or an author it has the lines by sent date, and a row of depth 0 for each.
 #[derive(Drop)]
 pub struct ListIndex {
     list: String,
@@ -54,14 +54,14 @@ impl ListIndex {
         self.lines.as_slice()
     }
 
-    /// The rows of the threads, in preorder, each with the place of its message's line.
+    /// The rows of the threads, in preorder, or of a month or an author, each with the place of its message's line.
     pub fn rows(&self) -> &[Row]
         ensures { result.now ≡ self.entry.now.rows }
     {
         self.rows.as_slice()
     }
 
-    /// The texts of the rows of all threads, one after the other, as a page of the list has them.
+    /// The texts of all rows, one after the other, as a page of the list has them.
     pub fn text(&self) -> &[u8]
         ensures { result.now ≡ rendered_rows self.entry.now self.entry.now.rows }
     {
@@ -83,7 +83,7 @@ impl ListIndex {
     }
 }
 
-/// The outline of lines and of the rows of their threads. `Memory` where no memory is left.
+/// The outline of lines and of their rows. `Memory` where no memory is left.
 fn outline_with(
     alloc: Global,
     list: &str,
@@ -122,9 +122,25 @@ pub(crate) fn outline_of<T: Threader>(
     outline_with(alloc, list, columns.lines, rows)
 }
 
-/// The outline of lines alone. `Memory` where no memory is left.
+/// A row of depth 0 for each line, in their order.
+fn top_rows(alloc: Global, lines: &[Line]) -> Result<Vec<Row>, Memory>
+    ensures { IfOk result (λ rows. rows.items ≡ top_rows_of lines.now) }
+{
+    let count = lines.len();
+    let mut rows = Vec::with_capacity(alloc, count)?;
+    for place in 0..count {
+        rows.push(Row {
+            depth: 0,
+            place: Some(place),
+        })?;
+    }
+    Ok(rows)
+}
+
+/// The outline of lines that are not threaded. `Memory` where no memory is left.
 pub(crate) fn outline_by(alloc: Global, list: &str, lines: Vec<Line>) -> Result<ListIndex, Memory>
     ensures { IfOk result (λ outline. outline ≡ index_of_lines list.now lines.items) }
 {
-    outline_with(alloc, list, lines, Vec::new(alloc))
+    let rows = top_rows(alloc, &lines)?;
+    outline_with(alloc, list, lines, rows)
 }

@@ -1,7 +1,6 @@
-//! A message, asked for by its key: withheld by the marks that are kept of it, or read of a store.
-ghost use Rattle.std.specs.Prelude.{◌≡◌, ◌⊎◌, IfErr, IfSome, option_map};
+//! A message, asked for by its key: withheld by its marks, which are kept or a store has, or read of a store.
+ghost use Rattle.std.specs.Prelude.{◌≡◌, ◌⊎◌, IfErr, IfSome};
 ghost use Rattle.archive_model.specs.Records.{Archive};
-ghost use Rattle.archive_model.specs.Messages.{archived_message};
 ghost use Rattle.archive_model.specs.Questions.{message_of};
 ghost use Rattle.archive_results.specs.Access.{asked_for_key, asked_of_message, denied_by, spec_asked};
 ghost use Rattle.archive_store.specs.Told.{AnswersFromStoreUnder, HoldsTables};
@@ -14,19 +13,17 @@ ghost use Rattle.archive_cache.specs.Coherence.{IsCacheCoherent, AreWithheldCohe
 ghost use Rattle.archive_cache.specs.Views.{IsCacheBounded};
 
 use crate::cache::Cache;
-use archive_desk::{DeskError, find_row, resolve_reader};
-use archive_model::{Key, Message};
-use archive_results::{
-    Ask, Asked, ReaderFacts, asks_author, lookup_message, message_facts, verdict,
-};
+use archive_desk::{DeskError, find_message_facts, find_row, resolve_reader};
+use archive_model::Key;
+use archive_results::{Ask, Asked, ReaderFacts, asks_author, lookup_message, verdict};
 use archive_store::Store;
 use policy_core::Verdict;
 use sqlite::Alter;
 use std::alloc::Global;
 
-/// The message of a key, as far as the policy lets the reader see it on the day. A message that was withheld is withheld again by the
-/// marks that are kept of it, without a look at its text; where who wrote it matters to the reader, it is read. The store is asked for
-/// the list and the reader each time. Where what was kept is of the archive that the store remembers, this is the answer of
+/// The message of a key, as far as the policy lets the reader see it on the day. A message that the policy withholds is withheld by its
+/// marks, without a look at its text, and they are kept; where who wrote it matters to the reader, it is read. The store is asked for the
+/// list and the reader each time. Where what was kept is of the archive that the store remembers, this is the answer of
 /// `archive_desk::message`, and what is kept then is of that archive too. The refusals are those of `archive_desk::message`.
 pub fn find_message<'p, S: Alter>(
     store: &mut Store<S>,
@@ -69,8 +66,9 @@ fn denial<'p>(kept: &Cache, ask: &Ask<'p>, reader: &ReaderFacts, key: &Key) -> O
     }
 }
 
-/// What a reader of these marks gets who asks for a message, which is read. Of one that is withheld the marks are kept.
-fn read_message<'p, S: Alter>(
+/// What a reader of these marks gets who asks for a message that no kept marks withhold. Where who wrote it does not matter, the store is
+/// asked for its marks: if the policy denies it by these, they are kept and it is not read. Each other message is read.
+fn judge_message<'p, S: Alter>(
     store: &mut Store<S>,
     kept: &mut Cache,
     alloc: Global,
@@ -89,42 +87,49 @@ fn read_message<'p, S: Alter>(
     ensures ends { EndsDeskCall S.Store store.old store.new IsAskFault result
         (λ a. IsMessageUnreadable a ask.entry.now key.now) }
 {
+    if asks_author(ask, reader) {
+        return read_message(store, alloc, ask, reader, key);
+    }
+    let found = match find_message_facts(store, ask, key) {
+        Ok(found) => found,
+        Err(fault) => return Err(fault),
+    };
+    let Some(marks) = found else {
+        return Ok(Asked::Absent);
+    };
+    match verdict(ask, reader, marks) {
+        Verdict::Allowed(_) => read_message(store, alloc, ask, reader, key),
+        Verdict::Denied(rule) => {
+            kept.put_marks(alloc, ask.list, key, marks);
+            Ok(Asked::Denied(rule))
+        }
+    }
+}
+
+/// What a reader of these marks gets who asks for a message, which is read.
+fn read_message<'p, S: Alter>(
+    store: &mut Store<S>,
+    alloc: Global,
+    ask: &Ask<'p>,
+    reader: &ReaderFacts,
+    key: &Key,
+) -> Result<Asked<'p>, DeskError>
+    ensures asked { AnswersFromStoreUnder S.Store (HoldsTables S.Store) store.old store.new refusal_reason result
+        (λ a. missing_list_reason a ask.entry.now)
+        (λ a answer. spec_asked answer ≡ asked_of_message ask.entry.now reader.now
+        (message_of a ask.entry.now.list key.now)) }
+    ensures ends { EndsDeskCall S.Store store.old store.new IsAskFault result
+        (λ a. IsMessageUnreadable a ask.entry.now key.now) }
+{
     let held = match find_row(store, ask, key) {
         Ok(held) => held,
         Err(fault) => return Err(fault),
     };
     match lookup_message(alloc, ask, reader, &held) {
-        Ok(answer) => {
-            keep_denied(kept, alloc, ask.list, key, &held, &answer);
-            Ok(answer)
-        }
+        Ok(answer) => Ok(answer),
         Err(refused) => {
             store.wants.increment(refused.into());
             Err(DeskError::Memory)
         }
     }
-}
-
-/// Keeps the marks of a message that was withheld, as far as memory goes.
-fn keep_denied(
-    kept: &mut Cache,
-    alloc: Global,
-    list: &str,
-    key: &Key,
-    held: &Option<Message>,
-    answer: &Asked<'_>,
-)
-    ensures marked { (a : Archive)
-        → option_map (archived_message list.now) held.now ≡ message_of a list.now key.now
-        → AreWithheldCoherent a kept.old.withheld → AreWithheldCoherent a kept.new.withheld }
-    ensures rest { kept.new ≡ record kept.old { withheld = kept.new.withheld } }
-    ensures bounded { IsCacheBounded kept.old → IsCacheBounded kept.new }
-{
-    let (Asked::Denied(_), Some(message)) = (answer, held) else {
-        return;
-    };
-    let Ok(marks) = message_facts(alloc, &None, message) else {
-        return;
-    };
-    kept.put_marks(alloc, list, key, marks);
 }

@@ -1,4 +1,4 @@
-//! What is kept of messages that were withheld, so that their texts are not read again to withhold them again.
+//! What is kept of messages that were withheld by their marks, so that the store is not asked again to withhold them again.
 ghost use Rattle.std.specs.Prelude.{◌≡◌, ◌≤◌, ◌-◌, drop, find, length, option_map};
 ghost use Rattle.archive_cache.specs.Views.{CachesWithheldMessage, WithheldMessage, is_withheld_message};
 

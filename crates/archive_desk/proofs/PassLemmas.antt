@@ -1,6 +1,7 @@
 -- Messages that a walk passes by.
-use Rattle.std.proofs.Common.{◌≡◌, ◌⊎◌, ◌≤◌, arith, inl, inr, refl, sym, ap, subst, ◌∙◌, append_assoc, cond, Bool, true, false, List, [], ◌∷◌, ◌++◌, drop, filter, Some, None, Result, Ok, Err}
-use Rattle.std.specs.Prelude.{not, ◌&&◌, ◌-◌, IsErrAnd}
+use Rattle.std.proofs.Common.{◌≡◌, ◌⊎◌, ◌≤◌, arith, inl, inr, refl, sym, ap, subst, ◌∙◌, append_assoc, cond, Bool, true, false, List, [], ◌∷◌, ◌++◌, drop, filter, Option, Some, None, Result, Ok, Err}
+use Rattle.std.specs.Prelude.{not, ◌&&◌, ◌-◌, option_map, IsErrAnd}
+use Rattle.std.specs.Option.{IsSomeAnd}
 use Rattle.std.proofs.lemmas.List.{append-nil}
 use Rattle.std.proofs.lemmas.List.Elements.{filter-append}
 use Rattle.std.specs.List.{All}
@@ -35,7 +36,18 @@ pub weighed_marks : (marks : DatedMarks) (m : Remembered) → AreDatedMarksOf ma
     → record { arrival = marks.arrival; withdrawn = marks.withdrawn; embargo_until = marks.embargo_until; own = false } ≡ record (message_facts None m) { own = false }
 unfolding message_facts
 weighed_marks marks m are =
-    rw (sym are.arrival, sym are.withdrawn, sym are.embargo, numbered_back marks.withdrawn) refl
+    rw (sym are.arrival_is, sym are.withdrawal_is, sym are.embargo_is, numbered_back marks.withdrawn) refl
+
+-- without an address no message is the reader's own
+unowned : (m : Remembered) → record (message_facts None m) { own = false } ≡ message_facts None m
+unfolding message_facts
+unowned m = refl
+
+pub weighed_held : (marks : DatedMarks) (weighs : MessageFacts) (held : Option Remembered)
+    → ((m : Remembered) → AreDatedMarksOf marks m → weighs ≡ record (message_facts None m) { own = false }) → IsSomeAnd held (AreDatedMarksOf marks)
+    → Some weighs ≡ option_map (message_facts None) held
+weighed_held marks weighs (Some m) weigh are = ap Some (weigh m are ∙ unowned m)
+weighed_held marks weighs None weigh are = absurd are
 
 -- ---- what was passed by
 

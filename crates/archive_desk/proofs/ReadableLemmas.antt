@@ -99,7 +99,12 @@ withdrawal_is_readable : (party : ℤ) → ((by : Withdrawn) × (withdrawal_numb
 withdrawal_is_readable party by m readable = record { key_is_valid = readable.key_is_valid; item_is_writable = readable.item_is_writable; withdrawal_is_known = by; embargo = readable.embargo }
 
 embargo_is_readable : (until : Option ℤ) → IfSome until (λ day. is_day day ≡ true) → (m : Message) → IsReadable m → IsReadable (with_embargo until m)
-embargo_is_readable until day m readable = record { key = readable.key; item = readable.item; withdrawn = readable.withdrawn; embargo = day }
+embargo_is_readable until day m readable = record {
+  key_is_valid = readable.key_is_valid;
+  item_is_writable = readable.item_is_writable;
+  withdrawal_is_known = readable.withdrawal_is_known;
+  embargo = day;
+}
 
 of_party : (party : ℤ) → ((by : WithdrawnBy) × (withdrawn_by_number by ≡ party)) → (by : Withdrawn) × (withdrawal_number by ≡ party)
 of_party party (Author, e) = (withdrawn.Author, e)

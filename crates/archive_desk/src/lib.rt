@@ -15,5 +15,5 @@ pub use exporting::{ExportStop, export, export_after};
 pub use faults::DeskError;
 pub use importing::{ImportError, ImportStop, Report, check_list_exists, import};
 pub use listing::{ViewSummaries, author, month, read_view_summaries, thread, threads};
-pub use messages::{find_row, message};
+pub use messages::{find_message_facts, find_row, message};
 pub use viewing::{resolve_reader, view};

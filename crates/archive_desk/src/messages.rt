@@ -1,8 +1,8 @@
 //! One message, asked for by its key.
-ghost use Rattle.std.specs.Prelude.{◌≡◌, ◌⊎◌, option_map};
+ghost use Rattle.std.specs.Prelude.{◌≡◌, ◌⊎◌, None, option_map};
 ghost use Rattle.archive_model.specs.Questions.{message_of};
 ghost use Rattle.archive_model.specs.Messages.{archived_message};
-ghost use Rattle.archive_results.specs.Access.{asked_for_key, asked_of_message, reader_facts, spec_asked};
+ghost use Rattle.archive_results.specs.Access.{asked_for_key, asked_of_message, message_facts, reader_facts, spec_asked};
 ghost use Rattle.archive_store.specs.Told.{AnswersFromStoreUnder, HoldsTables};
 ghost use Rattle.archive_desk.specs.Asking.{standing_reason};
 ghost use Rattle.archive_desk.specs.Causes.{IsMessageUnreadable, IsReaderUnreadable};
@@ -11,8 +11,9 @@ ghost use Rattle.archive_desk.specs.Faults.{IsAskFault, ask_reason, missing_list
 ghost use Rattle.archive_desk.specs.Holding.{AnswersFromStoreTables};
 
 use crate::faults::DeskError;
+use crate::passing::weighed_found;
 use crate::viewing::find_marks;
-use archive_results::{Ask, Asked, lookup_message};
+use archive_results::{Ask, Asked, MessageFacts, lookup_message};
 use archive_store::{Key, Message, Store};
 use sqlite::Alter;
 use std::alloc::Global;
@@ -51,6 +52,23 @@ pub fn find_row<S: Alter>(
         (λ a. IsMessageUnreadable a ask.now key.now) }
 {
     Ok(store.row(ask.list, key)?)
+}
+
+/// What a policy weighs of the message of a key where it is not the reader's own, if the list holds the message: its text is not read.
+/// G1 where there is no such list; G4 where the store has no memory or fails.
+pub fn find_message_facts<S: Alter>(
+    store: &mut Store<S>,
+    ask: &Ask<'_>,
+    key: &Key,
+) -> Result<Option<MessageFacts>, DeskError>
+    ensures held { AnswersFromStoreUnder S.Store (HoldsTables S.Store) store.old store.new refusal_reason result
+        (λ a. missing_list_reason a ask.now)
+        (λ a found. found ≡ option_map (message_facts None) (message_of a ask.now.list key.now)) }
+    ensures ends { EndsDeskQuestion S.Store store.old store.new IsAskFault result
+        (λ a. IsMessageUnreadable a ask.now key.now) }
+{
+    let found = store.marks(ask.list, key)?;
+    Ok(weighed_found(found))
 }
 
 /// What the reader gets of a message that the list holds, or of one that it does not hold.

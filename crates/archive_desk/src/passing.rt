@@ -1,5 +1,7 @@
-//! Messages that a walk passes by: those that the policy withholds whatever their texts are. Their texts are not read.
-ghost use Rattle.std.specs.Prelude.{◌≡◌, None, false};
+//! Messages that a walk passes by: those that the policy withholds whatever their texts are. Their texts are not read. What it weighs
+//! of a message without its text.
+ghost use Rattle.std.specs.Prelude.{◌≡◌, Option, None, false, option_map, MatchOption};
+ghost use Rattle.std.specs.Option.{IsSomeAnd};
 ghost use Rattle.archive_model.specs.Records.{Message as Remembered};
 ghost use Rattle.archive_port.specs.Messages.{AreDatedMarksOf};
 ghost use Rattle.archive_results.specs.Access.{message_facts};
@@ -52,6 +54,18 @@ fn pass_next<S: Alter>(
     }
     walk.pass();
     Ok(true)
+}
+
+/// What a policy weighs of the marks that a store found, of a message that is not the reader's own.
+pub(crate) fn weighed_found(found: Option<DatedMarks>) -> Option<MessageFacts>
+    ensures { (held : Option Remembered)
+        → MatchOption found (held ≡ None) (λ marks. IsSomeAnd held (AreDatedMarksOf marks))
+        → result ≡ option_map (message_facts None) held }
+{
+    match found {
+        Some(marks) => Some(weighed(marks)),
+        None => None,
+    }
 }
 
 /// What a policy weighs of these marks, of a message that is not the reader's own.

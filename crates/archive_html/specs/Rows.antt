@@ -26,11 +26,11 @@ message_row list depth line = page_row depth (
 unfoldable pub missing_row : List ℕ
 missing_row = page_row 0 (codes "(missing)" ∷ [])
 
--- a row of a thread
+-- the row of a line at its depth, or of a missing message
 unfoldable pub tree_row : (list : List ℕ) → TreeLine → List ℕ
 tree_row list tree = option_map_or (message_row list tree.depth) tree.line missing_row
 
--- the rows of threads, one after the other, each of which names its message by the place of the line
+-- rows, one after the other, each of which names its message by the place of the line
 abbrev pub rows_text : (list : List ℕ) → List Line → List Row → List ℕ
 rows_text list lines rows = flat_map (λ page_row. tree_row list (tree_line lines page_row)) rows
 

@@ -1,4 +1,4 @@
-//! Pages of threads, and the texts of their rows, which stand apart from the pages so that each is written once.
+//! Pages of threads, and the texts of rows, which stand apart from the pages so that each is written once.
 ghost use Rattle.std.specs.Prelude.{◌≡◌, ◌++◌, ℕ, List, IfOk, OnOk, codes, length, slice_index_or};
 ghost use Rattle.thread_core.specs.declared.row.Row.{Row as Placed};
 ghost use Rattle.archive_html.specs.Pages.{page, list_title};
@@ -6,7 +6,7 @@ ghost use Rattle.archive_html.specs.Rows.{AreRenderedRows, rows_text, tree_row};
 ghost use Rattle.archive_results.specs.Results.{tree_line, elements_in_range};
 ghost use Rattle.archive_results.specs.Shown.{Line as Shown};
 
-use crate::pages::{push_foot, started, titled};
+use crate::pages::{rows_page, titled};
 use crate::rows::{push_message, push_missing};
 use archive_results::{Line, elements_in_range, line_at};
 use mail_core::Memory;
@@ -16,10 +16,7 @@ use thread_core::Row;
 /// How many bytes a row takes, or some more: so a long page seldom grows.
 const ROW_BYTES: usize = 384;
 
-/// How many bytes stand behind the rows, or some more: so a page is not copied for them.
-const FOOT_BYTES: usize = 64;
-
-/// Adds a row of a thread with the line at its place, or the row of a message that is not there.
+/// Adds a row with the line at its place, or the row of a message that is not there.
 fn push_row(page: &mut Vec<u8>, list: &str, lines: &[Line], row: &Row) -> Result<(), AllocError>
     ensures { OnOk result (page.new.items ≡ page.old.items
         ++ tree_row list.now (tree_line lines.now row.now)) }
@@ -30,7 +27,7 @@ fn push_row(page: &mut Vec<u8>, list: &str, lines: &[Line], row: &Row) -> Result
     }
 }
 
-/// The rows of threads as a page of their list has them, one after the other, and where each begins.
+/// Rows as a page of their list has them, one after the other, and where each begins.
 #[derive(Drop)]
 pub struct RenderedRows {
     bytes: Vec<u8>,
@@ -84,17 +81,6 @@ impl RenderedRows {
         let to = self.start(end.max(first));
         elements_in_range(&self.bytes, from, to)
     }
-}
-
-/// A page of threads.
-fn rows_page(alloc: Global, title: &[u8], rows: &[u8]) -> Result<Vec<u8>, AllocError>
-    ensures { IfOk result (λ made. made.items ≡ page title.now rows.now) }
-{
-    let mut page = started(alloc, title)?;
-    page.reserve(rows.len().saturating_add(FOOT_BYTES))?;
-    page.extend_from_slice(rows)?;
-    push_foot(&mut page)?;
-    Ok(page)
 }
 
 /// The page of all threads of a list, from the texts of their rows.

@@ -40,7 +40,17 @@ undecided (q ∷ rules) f none = rw none.0 (undecided rules f none.1)
 
 later : (q : Rule) (rules : List Rule) (f : Facts) → fits q f ≡ false → Decision rules f → Decision (q ∷ rules) f
 later q rules f none (inl (r, it)) =
-    inl (r, record { before = q ∷ it.before; after = it.after; stand = ap (λ (rest : List Rule). q ∷ rest) it.stand; none = (none, it.none); fit = it.fit })
+    inl (
+      r,
+      record {
+        rules_before = q ∷ it.rules_before;
+        rules_after = it.rules_after;
+        rules_are = ap (λ (rest : List Rule). q ∷ rest) it.rules_are;
+        none_fits_before =
+            (none, it.none_fits_before);
+        fits_facts = it.fits_facts;
+      },
+    )
 later q rules f none (inr all) = inr (none, all)
 
 decide_by : (q : Rule) (rules : List Rule) (f : Facts) (b : Bool) → fits q f ≡ b → Decision rules f → Decision (q ∷ rules) f

@@ -17,7 +17,11 @@ use Rattle.archive_pages.proofs.ServingLemmas.{sends_as, broken_as, breaks_as, f
 
 -- pages that nothing was done to
 pub keeps_still : {S T : Type 0} (g : Ghosts S) (old new : Store S) (pages : Pages T) → ChangesOnlyPagesCache g old new pages pages
-keeps_still g old new pages = record { same = refl; keeps = record { held = λ returned held of. of; shut = λ returned shut. refl; most = refl; bounded = λ within. within } }
+keeps_still g old new pages = record {
+  only_cache_differs = refl;
+  cache_stays_coherent = record
+      { keeps_coherent = λ returned held of. of; when_store_closed = λ returned shut. refl; capacity_is_same = refl; cache_stays_bounded = λ within. within };
+}
 
 module _ {S : Type 0} (g : Ghosts S) (before after : List ℕ) (result : Result ℕ ServeFault) where
   module _ (old new : Store S) where
@@ -42,7 +46,11 @@ module _ {S : Type 0} (g : Ghosts S) (before after : List ℕ) (result : Result 
     module _ (If : Archive → Type 0) (Says : Archive → Reply → Type 0) where
       -- one of which it holds whatever is kept
       pub serves_whatever : ServesFromArchive g old new Says before after result → ServesFromArchiveIf g old new If Says before after result
-      serves_whatever serves = record { sent = sent_as Says (λ a r. If a → Says a r) (λ returned held r it is. it) serves.sent; shut = serves.shut }
+      serves_whatever serves = record {
+        sends_from_archive = sent_as Says (λ a r. If a → Says a r)
+            (λ returned held r it is. it) serves.sends_from_archive;
+        when_store_closed = serves.when_store_closed;
+      }
 
       -- and one of which nothing is said
       pub serves_some : ServesFromArchiveIf g old new If Says before after result → ServesFromArchive g old new (λ a r. ⊤) before after result

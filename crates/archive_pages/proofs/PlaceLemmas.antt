@@ -1,9 +1,10 @@
 -- A page out of the outline at a place of what is kept.
-use Rattle.std.proofs.Common.{◌≡◌, ◌∙◌, refl, sym, ap, subst, cond, pos, ℕ, Bool, true, false, List, Option, Some, None, codes}
+use Rattle.std.proofs.Common.{◌≡◌, ◌∙◌, ◌++◌, refl, sym, ap, subst, cond, pos, ℕ, Bool, true, false, List, Option, Some, None, codes}
 use Rattle.std.specs.Prelude.{flat_map, option_map}
 use Rattle.std.specs.Option.{option_map_or}
 use Rattle.sqlite.specs.Store.{Ghosts}
 use Rattle.civil_time.specs.Calendar.{month_of_text}
+use Rattle.civil_time.specs.Texts.{month_text}
 use Rattle.archive_model.specs.Records.{Archive}
 use Rattle.archive_model.specs.Questions.{merge_of}
 use Rattle.archive_model.specs.Keys.{is_key}
@@ -14,10 +15,11 @@ use Rattle.archive_store.proofs.Joins.{goes_in_as}
 use Rattle.archive_results.specs.Access.{Ask}
 use Rattle.archive_results.specs.Results.{TreeLine, author_lines, month_lines, tree_lines, thread_lines, lines_of, thread_rows_of}
 use Rattle.archive_results.specs.Shown.{Line, ShownMessage}
+use Rattle.archive_html.specs.Texts.{html_escaped_text}
 use Rattle.archive_html.specs.Pages.{author_page, month_page, page, threads_page, thread_page, list_title}
-use Rattle.archive_html.specs.Rows.{tree_row}
-use Rattle.archive_cache.specs.ListIndexes.{ListIndex, index_for_ask, rendered_rows}
-use Rattle.archive_cache.proofs.OutlineLemmas.{text_is}
+use Rattle.archive_html.specs.Rows.{message_row, tree_row}
+use Rattle.archive_cache.specs.ListIndexes.{ListIndex, index_for_ask, index_of_lines, rendered_rows}
+use Rattle.archive_cache.proofs.OutlineLemmas.{text_is, top_rows_text}
 use Rattle.archive_cache.specs.Parts.{ViewPart, whole, month, author}
 use Rattle.archive_cache.specs.Views.{CacheState, cached_index_at}
 use Rattle.archive_pages.specs.Answers.{reply_if_list_exists, month_reply, shown_view, thread_reply}
@@ -84,18 +86,24 @@ module _ (a : Archive) (ask : Ask) (outline : ListIndex) (list : List ℕ) (same
       ap page_reply (is ∙ ap (λ l. page (list_title l (codes "thread")) text) same_list) ∙ thread_by text (thread_lines (merge_of a ask.list) key view) same
       ∙ ap (λ b. option_map_or shown (cond b (thread_lines (merge_of a ask.list) key view) None) not_found) (sym keyed)
 
--- the lines of a month, and those of an author
-module _ (a : Archive) (ask : Ask) (outline : ListIndex) (list : List ℕ) (lines : List Line) (same_list : list ≡ ask.list) (same_lines : lines ≡ outline.lines) where
-  pub month_placed : (m : ℕ) (text page : List ℕ) → outline ≡ index_for_ask a ask (month m) → Some m ≡ month_of_text text → page ≡ month_page list m lines
-      → page_reply page ≡ month_reply ask.list text (shown_view a ask)
-  month_placed m text page of read made =
-      ap page_reply (made ∙ (ap (λ l. month_page l m lines) same_list ∙ ap (λ ls. month_page ask.list m ls) (same_lines ∙ ap (λ (x : ListIndex). x.lines) of)))
+-- the rows of a month, and those of an author
+module _ (a : Archive) (ask : Ask) (outline : ListIndex) (list text : List ℕ) (same_list : list ≡ ask.list) (same_text : text ≡ rendered_rows outline outline.rows) where
+  lines_placed : (rest made : List ℕ) (lines : List Line) → outline ≡ index_of_lines ask.list lines → made ≡ page (list_title list rest) text
+      → made ≡ page (list_title ask.list rest) (flat_map (message_row ask.list 0) lines)
+  lines_placed rest made lines of is =
+      is ∙ (ap (λ l. page (list_title l rest) text) same_list
+      ∙ ap (λ rows. page (list_title ask.list rest) rows)
+      (same_text ∙ (ap (λ (o : ListIndex). rendered_rows o o.rows) of ∙ top_rows_text ask.list lines)))
+
+  pub month_placed : (m : ℕ) (path made : List ℕ) → outline ≡ index_for_ask a ask (month m) → Some m ≡ month_of_text path → made ≡ page (list_title list (month_text m)) text
+      → page_reply made ≡ month_reply ask.list path (shown_view a ask)
+  month_placed m path made of read is =
+      ap page_reply (lines_placed (month_text m) made (month_lines m (shown_view a ask)) of is)
       ∙ ap (λ o. option_map_or (λ n. page_reply (month_page ask.list n (month_lines n (shown_view a ask)))) o not_found) read
 
-  pub author_placed : (key page : List ℕ) → outline ≡ index_for_ask a ask (author key) → page ≡ author_page list key lines
-      → page_reply page ≡ page_reply (author_page ask.list key (author_lines key (shown_view a ask)))
-  author_placed key page of made =
-      ap page_reply (made ∙ (ap (λ l. author_page l key lines) same_list ∙ ap (λ ls. author_page ask.list key ls) (same_lines ∙ ap (λ (x : ListIndex). x.lines) of)))
+  pub author_placed : (key made : List ℕ) → outline ≡ index_for_ask a ask (author key) → made ≡ page (list_title list (codes "by " ++ html_escaped_text key)) text
+      → page_reply made ≡ page_reply (author_page ask.list key (author_lines key (shown_view a ask)))
+  author_placed key made of is = ap page_reply (lines_placed (codes "by " ++ html_escaped_text key) made (author_lines key (shown_view a ask)) of is)
 
 module _ (ask : Ask) where
   none_by : (b : Bool) (x : Option (List TreeLine)) → None ≡ option_map (flat_map (tree_row ask.list)) x → not_found ≡ option_map_or (λ trees. page_reply (thread_page ask.list trees))

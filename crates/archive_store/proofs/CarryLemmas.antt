@@ -587,12 +587,25 @@ module _ {S : Type 0} (g : Ghosts S) where
           performs_step = subst (λ (r : CommandReply). PerformsModelStep g (store_connection old) (store_connection new) (λ a. step_within_limit limit a command) (Some r))
               (sym (same found)) it.performs_step;
           crash = it.crash;
-          ends = record { lasts = it.ends.lasts; was_open = it.ends.was_open; kind = tt; counted = it.ends.counted; caused = λ clean kept free. tt };
+          ends_write = record {
+            remains_open = it.ends_write.remains_open;
+            was_open = it.ends_write.was_open;
+            refusal_is_possible = tt;
+            refusals_counted = it.ends_write.refusals_counted;
+            fault_has_cause = λ clean kept free. tt;
+          };
         }
         go (Err fault) it = record {
           performs_step = it.performs_step;
           crash = it.crash;
-          ends = record { lasts = it.ends.lasts; was_open = it.ends.was_open; kind = it.ends.kind; counted = it.ends.counted; caused = it.ends.caused };
+          ends_write = record {
+            remains_open = it.ends_write.remains_open;
+            was_open = it.ends_write.was_open;
+            refusal_is_possible = it.ends_write.refusal_is_possible;
+            refusals_counted =
+                it.ends_write.refusals_counted;
+            fault_has_cause = it.ends_write.fault_has_cause;
+          };
         }
 
 -- ---- what is found

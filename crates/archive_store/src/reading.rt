@@ -1,22 +1,22 @@
 //! Questions on lists and their messages.
 
 use crate::store::Store;
-use archive_database::reading::{checked_message, read_names};
+use archive_database::reading::{checked_dated_marks, checked_message, read_names};
 use archive_model::{Key, Message};
-use archive_port::StoreFault;
+use archive_port::{DatedMarks, StoreFault};
 use archive_tables::texts;
 use sqlite::Alter;
 use std::alloc::Global;
 
 impl<S: Alter> Store<S> {
-    ghost use Rattle.std.specs.Prelude.{◌≡◌, [], ◌∷◌, None, length, map, option_map, string_bytes, IsUtf8};
+    ghost use Rattle.std.specs.Prelude.{◌≡◌, [], ◌∷◌, None, length, map, option_map, string_bytes, IsUtf8, MatchOption};
     ghost use Rattle.std.specs.List.{All};
     ghost use Rattle.std.specs.Option.{IsSomeAnd};
     ghost use Rattle.archive_model.specs.Questions.{has_list, list_names, list_refusal, message_of, messages_in};
     ghost use Rattle.archive_tables.specs.Crashes.{CrashAddsNothing};
     ghost use Rattle.archive_store.specs.Held.{store_connection};
     ghost use Rattle.archive_store.specs.Told.{EndsQuestion, EndsQuestionOrUnreadable, SeesSameDatabase, WasOpen};
-    ghost use Rattle.archive_port.specs.Messages.{IsReadable};
+    ghost use Rattle.archive_port.specs.Messages.{AreDatedMarksOf, IsReadable};
     ghost use Rattle.archive_port.specs.Replies.{refusal_of_fault};
     ghost use Rattle.archive_store.specs.Replies.{AnswersStoreQuestion};
     ghost use Rattle.archive_model.specs.Commands.{no_list};
@@ -79,5 +79,25 @@ impl<S: Alter> Store<S> {
             Some(row) => Ok(Some(self.wants.pass_fault(checked_message(row))?)),
             None => Ok(None),
         }
+    }
+
+    /// The arrival and the marks of that message: its text is not read. E4 where there is no such list.
+    pub fn marks(&mut self, list: &str, key: &Key) -> Result<Option<DatedMarks>, StoreFault>
+        ensures answer { AnswersStoreQuestion S.Store (store_connection self.old) (store_connection self.new) result
+            (λ a. list_refusal a list.now)
+            (λ a found. MatchOption found (message_of a list.now key.now ≡ None)
+            (λ marks. IsSomeAnd (message_of a list.now key.now) (AreDatedMarksOf marks))) }
+        ensures ends { EndsQuestionOrUnreadable S.Store self.old self.new result (no_list ∷ [])
+            (λ a. IsSomeAnd (message_of a list.now key.now) (λ m. ¬ IsReadable m)) }
+        ensures was_open { WasOpen S.Store self.old self.new refusal_of_fault result }
+    {
+        if !self.has_list(list)? {
+            return Err(StoreFault::NoList);
+        }
+        let found = texts::messages::marks(&mut self.conn, list, key.as_str());
+        let Some(row) = self.wants.pass(found)? else {
+            return Ok(None);
+        };
+        Ok(Some(self.wants.pass_fault(checked_dated_marks(row))?))
     }
 }

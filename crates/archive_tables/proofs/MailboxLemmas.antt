@@ -66,15 +66,18 @@ one_typed : (list : List ℕ) (key : List ℕ) → accepts_program archive_schem
 unfolding everything
 one_typed list key = refl
 
--- ---- its marks
+-- ---- its arrival and marks
 
 abbrev pub marks_text : List ℕ
-marks_text = codes "SELECT withdrawn, embargo FROM message WHERE list = ?1 AND key = ?2 ORDER BY pos"
+marks_text = codes "SELECT arrival, withdrawn, embargo FROM message WHERE list = ?1 AND key = ?2 ORDER BY pos"
 
 abbrev mark_cells : List Term
-mark_cells = col 1 7 ∷ col 1 8 ∷ []
+mark_cells = col 1 5 ∷ col 1 7 ∷ col 1 8 ∷ []
 
-marks_is : (command_of (understood archive_schema marks_text) ≡ Select (record { lets = []; body = plain_query 8 at_key mark_cells by_number }) (codes "withdrawn" ∷ codes "embargo" ∷ []))
+abbrev mark_names : List (List ℕ)
+mark_names = codes "arrival" ∷ codes "withdrawn" ∷ codes "embargo" ∷ []
+
+marks_is : (command_of (understood archive_schema marks_text) ≡ Select (record { lets = []; body = plain_query 8 at_key mark_cells by_number }) mark_names)
     × (reads_listing archive_schema marks_text ≡ false)
 unfolding understood everything
 marks_is = (refl, refl)

@@ -41,8 +41,9 @@ use Rattle.sqlite_trees.specs.View.{IsStorableRow}
 use Rattle.sqlite_value.specs.Order.{value_cmp}
 use Rattle.archive_tables.specs.Schema.{empty_schema, schema_with_version_table, schema_with_lists, schema_with_persons, schema_with_grants}
 use Rattle.archive_tables.specs.Schema.{schema_with_messages, schema_with_month_index, schema_1, schema_2, archive_schema}
-use Rattle.archive_tables.specs.Schema.{create_version, create_list, create_person, create_grant, create_message, create_month_index, create_author_index, create_option}
-use Rattle.archive_tables.specs.Schema.{create_address, version_table, list_table, person_table, grant_table, message_table, sequence_table, option_table, address_table, month_index}
+use Rattle.archive_tables.specs.Schema.{create_version_table, create_list_table, create_person_table, create_grant_table}
+use Rattle.archive_tables.specs.Schema.{create_message_table, create_month_index, create_author_index, create_option_table}
+use Rattle.archive_tables.specs.Schema.{create_address_table, version_table, list_table, person_table, grant_table, message_table, sequence_table, option_table, address_table, month_index}
 use Rattle.archive_tables.specs.Schema.{author_index}
 use Rattle.archive_tables.specs.Statements.{Statement, StatementMayEndIn, IsAnyStatementRefused, create_version_statement}
 use Rattle.archive_tables.specs.Statements.{create_list_statement, create_person_statement, create_grant_statement, create_message_statement}

@@ -4,8 +4,9 @@ use Rattle.sqlite.specs.Compile.{table_defined_by, index_defined_by}
 use Rattle.sqlite.specs.Does.{sequence_text}
 use Rattle.sqlite.specs.Table.{Table}
 use Rattle.sqlite_tied.specs.Compute.{everything}
-use Rattle.archive_tables.specs.Schema.{create_version, create_list, create_person, create_grant, create_message, create_month_index, create_author_index, create_option}
-use Rattle.archive_tables.specs.Schema.{create_address, version_table, list_table, person_table, grant_table, message_table, sequence_table, option_table, address_table, month_index}
+use Rattle.archive_tables.specs.Schema.{create_version_table, create_list_table, create_person_table, create_grant_table}
+use Rattle.archive_tables.specs.Schema.{create_message_table, create_month_index, create_author_index, create_option_table}
+use Rattle.archive_tables.specs.Schema.{create_address_table, version_table, list_table, person_table, grant_table, message_table, sequence_table, option_table, address_table, month_index}
 use Rattle.archive_tables.specs.Schema.{author_index}
 
 -- as a text defines it, a table has no place yet

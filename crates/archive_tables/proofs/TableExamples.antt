@@ -45,7 +45,8 @@ no_embargo_is_null : message_result_row (unmarked_message (codes "soc") (codes "
     ≡ Text (codes "e3b0") ∷ Blob (codes "-") ∷ Int (pos 0) ∷ Blob [] ∷ Int (pos 0) ∷ Null ∷ []
 no_embargo_is_null = refl
 
-its_marks : (marks_result_row hello ≡ Int (pos 2) ∷ Int (pos 12131) ∷ []) × (decoded_marks hello ≡ record { withdrawn = pos 2; embargo = Some (pos 12131) })
+its_marks : (dated_marks_result_row hello ≡ Int (pos 1046772000) ∷ Int (pos 2) ∷ Int (pos 12131) ∷ [])
+    × (decoded_dated_marks hello ≡ record { arrival = pos 1046772000; withdrawn = pos 2; embargo = Some (pos 12131) })
 its_marks = (refl, refl)
 
 abbrev moderator : Grant

@@ -202,14 +202,33 @@ withdrawn_puts : (db : Trees) (r : NumberedRecord IndexedMessage) (by : ℤ) (gi
     r.content.0.embargo ∷ Int r.content.1.sent ∷ Int r.content.1.month ∷ Blob r.content.1.author ∷ []) ∷ []
     → edited db (edit_of db message_table (ids_of given) Given 1 given) ≡ put_row (numbered_row indexed_message_cells (record r { content = (record r.content.0 { withdrawn = by }, r.content.1) }))
     (without_rowid r.number (db 8))
-withdrawn_puts db r by given from = rw (from, cast_null, cast_int r.number, cast_int r.it.0.arrival, cast_int by, cast_or_null r.it.0.embargo, cast_int r.it.1.sent, cast_int r.it.1.month)
+withdrawn_puts db r by given from = rw (
+  from,
+  cast_null,
+  cast_int r.number,
+  cast_int r.content.0.arrival,
+  cast_int by,
+  cast_or_null r.content.0.embargo,
+  cast_int r.content.1.sent,
+  cast_int
+      r.content.1.month,
+)
 
 embargo_puts : (db : Trees) (r : NumberedRecord IndexedMessage) (until : Option ℤ) (given : List Row)
     → given ≡ (Int r.number ∷ Int r.number ∷ Null ∷ Text r.content.0.list ∷ Text r.content.0.key ∷ Blob r.content.0.sender ∷ Int r.content.0.arrival ∷ Blob r.content.0.text ∷ Int
     r.content.0.withdrawn ∷ int_or_null_value until ∷ Int r.content.1.sent ∷ Int r.content.1.month ∷ Blob r.content.1.author ∷ []) ∷ []
     → edited db (edit_of db message_table (ids_of given) Given 1 given) ≡ put_row (numbered_row indexed_message_cells (record r { content = (record r.content.0 { embargo = until }, r.content.1) }))
     (without_rowid r.number (db 8))
-embargo_puts db r until given from = rw (from, cast_null, cast_int r.number, cast_int r.it.0.arrival, cast_int r.it.0.withdrawn, cast_or_null until, cast_int r.it.1.sent, cast_int r.it.1.month)
+embargo_puts db r until given from = rw (
+  from,
+  cast_null,
+  cast_int r.number,
+  cast_int r.content.0.arrival,
+  cast_int r.content.0.withdrawn,
+  cast_or_null until,
+  cast_int r.content.1.sent,
+  cast_int r.content.1.month,
+)
 
 pub tries_withdrawn : (list key : List ℕ) (by : ℤ) (behind : Option Database) (old new : State) (r : Result ℕ Error) → IsOpenArchive behind old → Executes withdrawn_text
     (Text list ∷ Text key ∷ Int by ∷ []) old new r

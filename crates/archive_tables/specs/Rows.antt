@@ -11,7 +11,6 @@ use Rattle.archive_model.specs.Records.{Grant, Message, ListOption}
 use Rattle.archive_model.specs.Filing.{IndexedMessage, is_indexed_in_month, is_indexed_by_author, is_sent_before}
 use Rattle.archive_tables.specs.Tables.{int_or_null_value, merge_flag, NumberedRecord, numbered_from_row, indexed_message_from_row}
 use Rattle.archive_tables.specs.declared.rows.MessageRow.{MessageRow}
-use Rattle.archive_tables.specs.declared.rows.MarksRow.{MarksRow}
 use Rattle.archive_tables.specs.declared.rows.DatedMarksRow.{DatedMarksRow}
 use Rattle.archive_tables.specs.declared.rows.GrantRow.{GrantRow}
 
@@ -43,15 +42,7 @@ message_from_result_row list r = record {
   embargo = r.embargo;
 }
 
--- the two marks of a message: who withdrew it, and the day up to which it is held back
-abbrev pub marks_result_row : Message → Row
-marks_result_row m = Int m.withdrawn ∷ int_or_null_value m.embargo ∷ []
-
--- the two marks of a message as they are read: who withdrew it (0 nobody, 1 its author, 2 the board), and the embargo's day
-abbrev pub decoded_marks : Message → MarksRow
-decoded_marks m = record { withdrawn = m.withdrawn; embargo = m.embargo }
-
--- when a message came, and its two marks
+-- when a message came, and its two marks: who withdrew it, and the day up to which it is held back
 abbrev pub dated_marks_result_row : Message → Row
 dated_marks_result_row m = Int m.arrival ∷ Int m.withdrawn ∷ int_or_null_value m.embargo ∷ []
 

@@ -12,7 +12,8 @@ use Rattle.sqlite_resolve.specs.declared.compiled.Compiled.{Compiled}
 use Rattle.sqlite_resolve.specs.declared.error.CompileError.{CompileError}
 use Rattle.sqlite_schema.specs.declared.schema.Keys.TheVariants.{Enforced}
 use Rattle.archive_model.specs.Records.{Person, Grant, Message, IndexColumns, ListOption, Address}
-use Rattle.archive_tables.specs.Schema.{create_version, create_list, create_person, create_grant, create_message, create_month_index, create_author_index, create_option, create_address}
+use Rattle.archive_tables.specs.Schema.{create_version_table, create_list_table, create_person_table, create_grant_table}
+use Rattle.archive_tables.specs.Schema.{create_message_table, create_month_index, create_author_index, create_option_table, create_address_table}
 use Rattle.archive_tables.specs.Tables.{newest_version, person_cells, grant_cells, option_cells, address_cells}
 
 -- the text of a statement, and what is put in for its parameters

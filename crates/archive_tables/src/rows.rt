@@ -2,7 +2,7 @@
 
 ghost use Rattle.std.specs.Prelude.{◌≡◌, ◌∷◌, string_bytes, IfOk, IfErr};
 ghost use Rattle.archive_model.specs.Records.{Grant, Message, ListOption};
-ghost use Rattle.archive_tables.specs.Rows.{name_result_row, rowid_result_row, message_result_row, message_from_result_row, marks_result_row, decoded_marks, dated_marks_result_row};
+ghost use Rattle.archive_tables.specs.Rows.{name_result_row, rowid_result_row, message_result_row, message_from_result_row, dated_marks_result_row};
 ghost use Rattle.archive_tables.specs.Rows.{decoded_dated_marks, merge_result_row, grant_result_row, grant_from_result_row, out_of_memory_error, IsTextReadError};
 
 use sqlite::{Error, Row};
@@ -22,15 +22,6 @@ pub struct MessageRow {
     /// 0, 1 or 2.
     pub withdrawn: i64,
     /// A day; `None` where nothing holds it back.
-    pub embargo: Option<i64>,
-}
-
-/// The two marks of a message, as in `MessageRow`.
-#[derive(Clone, Copy, Debug, PartialEq, Eq)]
-pub struct MarksRow {
-    /// 0, 1 or 2.
-    pub withdrawn: i64,
-    /// A day; `None` where nothing holds the message back.
     pub embargo: Option<i64>,
 }
 
@@ -87,17 +78,6 @@ pub fn read_message(row: &Row) -> Result<MessageRow, Error>
         text: row.get(3)?,
         withdrawn: row.get(4)?,
         embargo: row.get(5)?,
-    })
-}
-
-/// The marks in a row that shows those of a message.
-pub fn read_marks(row: &Row) -> Result<MarksRow, Error>
-    ensures read { IfOk result (λ r. (m : Message) → row.now ≡ marks_result_row m → r ≡ decoded_marks m) }
-    ensures fault { IfErr result (λ e. (m : Message) → row.now ≡ marks_result_row m → e ≡ out_of_memory_error) }
-{
-    Ok(MarksRow {
-        withdrawn: row.get(0)?,
-        embargo: row.get(1)?,
     })
 }
 

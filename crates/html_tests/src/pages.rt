@@ -71,7 +71,7 @@ static PAGES: [(Ask, &[Row], &[u8]); 7] = [
     ),
     (
         Ask::Month(b"1900-01"),
-        &[(9, Some((K2, -2_208_988_800, b"\xff\x7f\x1f", b"a\tb>")))],
+        &[(0, Some((K2, -2_208_988_800, b"\xff\x7f\x1f", b"a\tb>")))],
         b"<!DOCTYPE html>\n\
           <html><head><title>soc: 1900-01</title></head><body>\n\
           <h1>soc: 1900-01</h1>\n\
@@ -142,16 +142,6 @@ fn line_of(
     })
 }
 
-fn lines_of(alloc: Global, rows: &[Row]) -> Result<Vec<Line>, Fail> {
-    let mut lines = Vec::new(alloc);
-    for (_, message) in rows {
-        if let Some((key, second, author, subject)) = message {
-            lines.push(line_of(alloc, key, *second, author, subject)?)?;
-        }
-    }
-    Ok(lines)
-}
-
 /// The lines of rows, and the rows with the places of their lines.
 #[derive(Drop)]
 struct Placed {
@@ -183,15 +173,14 @@ fn placed_of(alloc: Global, rows: &[Row], missing: Option<usize>) -> Result<Plac
 
 /// The page that is asked for, of these rows.
 fn page_of(alloc: Global, ask: Ask, rows: &[Row], missing: Option<usize>) -> Result<Vec<u8>, Fail> {
-    let lines = lines_of(alloc, rows)?;
     let placed = placed_of(alloc, rows, missing)?;
     let texts = RenderedRows::new(alloc, "soc", &placed.lines, &placed.rows)?;
     Ok(match ask {
         Ask::Month(text) => {
             let month = Month::read(text).ok_or("a month")?;
-            month_page(alloc, "soc", month, &lines)?
+            month_page(alloc, "soc", month, texts.all())?
         }
-        Ask::Author(key) => author_page(alloc, "soc", key, &lines)?,
+        Ask::Author(key) => author_page(alloc, "soc", key, texts.all())?,
         Ask::Threads => threads_page(alloc, "soc", texts.all())?,
         Ask::Thread => thread_page(alloc, "soc", texts.run(0, rows.len()))?,
     })

@@ -1,7 +1,8 @@
 //! Threads, months and authors that are asked for again and again, out of what is kept.
 use crate::cases::{TWO, today};
 use crate::links::{
-    FIRST, PAGES, POLICY, Past, WITHDRAWN, fill, first_key, reply, request_for, thread_path,
+    FIRST, PAGES, POLICY, Past, WITHDRAWN, fill, first_key, message_path, reply, request_for,
+    thread_path,
 };
 use archive_cache::Cache;
 use archive_desk::import;
@@ -33,8 +34,8 @@ const LISTED: [&[u8]; 11] = [
     b"/l/none/by/anna%40example.org",
 ];
 
-/// The threads of two lists and of one that is not there, those of a message and of one that not everybody is shown, and months and
-/// authors.
+/// The threads of two lists and of one that is not there, those of a message and of one that not everybody is shown, these two, and
+/// months and authors.
 fn paths(alloc: Global) -> Result<Vec<Vec<u8>>, Fail> {
     let mut paths = Vec::new(alloc);
     paths.push(b"/l/soc/threads".to_vec(alloc)?)?;
@@ -42,6 +43,8 @@ fn paths(alloc: Global) -> Result<Vec<Vec<u8>>, Fail> {
     paths.push(b"/l/none/threads".to_vec(alloc)?)?;
     paths.push(thread_path(alloc, &first_key(FIRST)?)?)?;
     paths.push(thread_path(alloc, &first_key(WITHDRAWN)?)?)?;
+    paths.push(message_path(alloc, &first_key(FIRST)?)?)?;
+    paths.push(message_path(alloc, &first_key(WITHDRAWN)?)?)?;
     for path in LISTED {
         paths.push(path.to_vec(alloc)?)?;
     }

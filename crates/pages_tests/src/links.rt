@@ -295,8 +295,17 @@ pub fn asking<S: Alter>(rt: &impl Abort, alloc: Global, store: &mut Store<S>) ->
 
 /// The path of the thread of a message.
 pub fn thread_path(alloc: Global, key: &Key) -> Result<Vec<u8>, Fail> {
+    path_of(alloc, b"/l/soc/t/", key)
+}
+
+/// The path of a message.
+pub fn message_path(alloc: Global, key: &Key) -> Result<Vec<u8>, Fail> {
+    path_of(alloc, b"/l/soc/m/", key)
+}
+
+fn path_of(alloc: Global, route: &[u8], key: &Key) -> Result<Vec<u8>, Fail> {
     let mut path = Vec::new(alloc);
-    path.extend_from_slice(b"/l/soc/t/")?;
+    path.extend_from_slice(route)?;
     path.extend_from_slice(key.as_str().as_bytes())?;
     Ok(path)
 }

@@ -133,6 +133,7 @@ pub fn is_as_filled<S: Alter>(
     assert_eq!(rt; second.withdrawn, Withdrawn::No);
     assert_eq!(rt; second.embargo_until, Some(day("2003-04-01")?));
     messages_by_key(rt, store)?;
+    marks_by_key(rt, store, &rows)?;
     a_walk_that_is_dropped(rt, alloc, store)?;
     a_walk_to_the_end(rt, alloc, store, &rows)?;
     a_walk_that_passes_by(rt, alloc, store, &rows)?;
@@ -225,6 +226,26 @@ fn messages_by_key<S: Alter>(rt: &impl Abort, store: &mut Store<S>) -> Result<()
     let other = Key::of(&item("a at b", b"two")?);
     assert!(rt; store.row("other", &key)?.is_none() && store.row("other", &other)?.is_some());
     assert!(rt; matches!(store.row("xyz", &key), Err(StoreFault::NoList)));
+    Ok(())
+}
+
+/// The arrival and the marks of these messages by their keys, of one that is not there, and of a list that is not there.
+fn marks_by_key<S: Alter>(
+    rt: &impl Abort,
+    store: &mut Store<S>,
+    rows: &[Message],
+) -> Result<(), Fail> {
+    for row in rows.iter() {
+        let marks = store.marks("soc", &row.key)?.ok_or("marks")?;
+        assert_eq!(rt; marks.arrival, row.item.arrival());
+        assert_eq!(rt;
+            (marks.withdrawn, marks.embargo_until),
+            (row.withdrawn, row.embargo_until)
+        );
+    }
+    let other = Key::of(&item("a at b", b"three")?);
+    assert!(rt; store.marks("soc", &other)?.is_none());
+    assert!(rt; matches!(store.marks("xyz", &other), Err(StoreFault::NoList)));
     Ok(())
 }
 

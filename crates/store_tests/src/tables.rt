@@ -1,6 +1,6 @@
 //! What each statement does, and what is read of its rows.
 use archive_tables::rows::{
-    GrantRow, MarksRow, read_grant, read_marks, read_message, read_name, read_place,
+    DatedMarksRow, GrantRow, read_dated_marks, read_grant, read_message, read_name, read_rowid,
 };
 use archive_tables::texts::{addresses, grants, lists, messages, options, persons, schema};
 use sqlite::{Alter, Connection, Error, ErrorCode, Row};
@@ -183,13 +183,17 @@ fn a_row_of_other_cells_is_not_read<S: Alter>(
     assert!(rt; read_message(&number).is_err());
     let fault = read_grant(&number).err();
     assert_eq!(rt; fault, Some(Error::InvalidColumnIndex(1)));
-    let row = conn.query_row("SELECT 2, NULL", &[])?;
-    assert_eq!(rt; read_marks(&row)?, marks_row(2, None));
+    let row = conn.query_row("SELECT 7, 2, NULL", &[])?;
+    assert_eq!(rt; read_dated_marks(&row)?, marks_row(7, 2, None));
     Ok(())
 }
 
-fn marks_row(withdrawn: i64, embargo: Option<i64>) -> MarksRow {
-    MarksRow { withdrawn, embargo }
+fn marks_row(arrival: i64, withdrawn: i64, embargo: Option<i64>) -> DatedMarksRow {
+    DatedMarksRow {
+        arrival,
+        withdrawn,
+        embargo,
+    }
 }
 
 fn a_token_leads_to_its_person<S: Alter>(
@@ -358,8 +362,8 @@ fn marks_are_those_of_the_message<S: Alter>(
     messages::set_withdrawn(conn, "news", KEY, 1)?;
     messages::set_embargo(conn, "news", KEY, -25567)?;
     for (list, key, want) in [
-        ("news", KEY, Some(marks_row(1, Some(-25567)))),
-        ("soc", KEY, Some(marks_row(0, None))),
+        ("news", KEY, Some(marks_row(1, 1, Some(-25567)))),
+        ("soc", KEY, Some(marks_row(1_046_772_000, 0, None))),
         ("news", OTHER, None),
     ] {
         assert_eq!(rt; messages::marks(conn, list, key)?, want, "{list}");

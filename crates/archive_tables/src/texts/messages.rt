@@ -7,14 +7,12 @@ ghost use Rattle.archive_model.specs.Questions.{is_message_at_key};
 ghost use Rattle.sqlite.specs.Held.{state};
 ghost use Rattle.sqlite.specs.State.{HasCleanDisk};
 ghost use Rattle.archive_tables.specs.Tables.{IsArchiveAtRest, has_rowid_at_least};
-ghost use Rattle.archive_tables.specs.Rows.{unmarked_message, message_from_result_row, decoded_marks, decoded_dated_marks};
+ghost use Rattle.archive_tables.specs.Rows.{unmarked_message, message_from_result_row, decoded_dated_marks};
 ghost use Rattle.archive_tables.specs.Rows.{message_rowids_in, month_rowids, author_rowids, message_at, rowid_result_row};
 ghost use Rattle.archive_tables.specs.Statements.{insert_message_statement, set_withdrawn_statement, set_embargo_statement, clear_embargo_statement};
 ghost use Rattle.archive_tables.specs.Calls.{AnswersFromDatabase, AnswersOrFailsByFault, AnswersFromRows, WritesByStatement};
 
-use crate::rows::{
-    DatedMarksRow, MarksRow, MessageRow, read_dated_marks, read_marks, read_message,
-};
+use crate::rows::{DatedMarksRow, MessageRow, read_dated_marks, read_message};
 use sqlite::{Alter, Connection, Error, Row, params};
 
 /// Adds a message after the others, neither withdrawn nor under embargo, and files it under a sent date, a month and an author
@@ -77,7 +75,7 @@ pub fn message<S: Alter>(
     }
 }
 
-/// The marks of the message of the list and key, without its text.
+/// When the message of the list and key came, and its marks, without its text.
 pub fn marks<S: Alter>(
     conn: &mut Connection<S>,
     list: &str,
@@ -88,7 +86,7 @@ pub fn marks<S: Alter>(
         (find (is_message_at_key list.now key.now) a.messages)) ⊥ }
 {
     let rows = conn.query_all(
-        "SELECT withdrawn, embargo FROM message WHERE list = ?1 AND key = ?2 ORDER BY pos",
+        "SELECT arrival, withdrawn, embargo FROM message WHERE list = ?1 AND key = ?2 ORDER BY pos",
         params![list, key],
     )?;
     match rows.first() {

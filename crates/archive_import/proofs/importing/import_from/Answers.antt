@@ -99,7 +99,10 @@ returns-in-Err-add_settled-clause-ends g c =
 
 pub returns-in-Ok-add_last-clause-ends : goal.returns-in-Ok-add_last-clause-ends
 returns-in-Ok-add_last-clause-ends g c =
-    record { caused = tt; counted = (omega (arith, c.in_default.ensures.ends.counted.0, c.in-Ok.ensures.ends.counted.0, c.in-Ok-add_last.ensures.ends.counted.0), tt) }
+    record {
+      fault_has_cause = tt;
+      refusals_counted = (omega (arith, c.in_default.ensures.ends.refusals_counted.0, c.in-Ok.ensures.ends.refusals_counted.0, c.in-Ok-add_last.ensures.ends.refusals_counted.0), tt);
+    }
 
 pub returns-clause-ends : goal.returns-clause-ends
 returns-clause-ends g c =

@@ -58,4 +58,9 @@ returns-in-TooLarge-clause-unrouted g c = with_any c.args.pages.now.routes
 
 pub returns-in-Whole-clause-ends : goal.returns-in-Whole-clause-ends
 returns-in-Whole-clause-ends g c = rw c.in-Whole.is (
-    record { reply = c.answer_request.ensures.ends.reply; caused = c.answer_request.ensures.ends.caused; keeps = c.answer_request.ensures.ends.keeps })
+    record {
+      ends_reply = c.answer_request.ensures.ends.ends_reply;
+      fault_has_cause = c.answer_request.ensures.ends.fault_has_cause;
+      changes_only_cache =
+          c.answer_request.ensures.ends.changes_only_cache;
+    })

@@ -1,6 +1,7 @@
-use Rattle.std.proofs.Common.{◌≡◌, ◌∙◌, ◌<◌, IfSome, ap, length, subst, sym}
+use Rattle.std.proofs.Common.{◌≡◌, ◌∙◌, ◌<◌, ◌++◌, IfSome, ap, codes, length, subst, sym}
 use Rattle.percent_encoding.specs.Percent.{percent_decode}
-use Rattle.archive_html.specs.Pages.{author_page}
+use Rattle.archive_html.specs.Pages.{author_page, list_title, page}
+use Rattle.archive_html.specs.Texts.{html_escaped_text}
 use Rattle.archive_cache.specs.ListIndexes.{index_for_ask}
 use Rattle.archive_cache.specs.Parts.{author}
 use Rattle.archive_results.specs.Access.{Ask}
@@ -34,6 +35,7 @@ returns-in-Ok-author_page-clause-found g c =
     let made = c.in-Ok-author_page.page.items in
     found_at g.S.Store c.args.store.now c.find_place.new.store (IsCacheCoherentForAsk ask c.args.kept.now) ask c.find_place.new.kept (author c.deref.result.now) c.in_ok-place.field-0
     (λ a. page_reply (author_page ask.list key (author_lines key (shown_view a ask)))) c.in_ok-place.ensures.found
-    c.in-Some.place outline (page_reply page) c.in-Some.is c.in-Some-outline.ensures.outline
-    (λ a of. author_placed a ask outline c.ask.inside.list.now c.lines.result.now (ap (λ (q : Ask). q.list) c.ask.view_is) c.lines.ensures key page
-    (subst (λ k. outline ≡ index_for_ask a ask (author k)) asked of) (subst (λ k. page ≡ author_page c.ask.inside.list.now k c.lines.result.now) shown c.in-Ok-author_page.ensures))
+    c.in-Some.place outline (page_reply made) c.in-Some.is c.in-Some-outline.ensures.outline
+    (λ a of. author_placed a ask outline c.ask.inside.list.now c.text.result.now (ap (λ (q : Ask). q.list) c.ask.view_is) c.text.ensures key made
+    (subst (λ k. outline ≡ index_for_ask a ask (author k)) asked of)
+    (subst (λ k. made ≡ page (list_title c.ask.inside.list.now (codes "by " ++ html_escaped_text k)) c.text.result.now) shown c.in-Ok-author_page.ensures))

@@ -89,8 +89,14 @@ returns-in-Err-pass-clause-ends g c = record {
       let there = stays_taken None (Some first.now) first (state g.S.Store c.begin-begun.new.conn) a list (take c.args.from items) c.args.count.now c.args.report.now t begun in
       let added = c.in-Ok.ensures.step clean_2 first.now a there in
       let more = blame_disk (state g.S.Store c.add_some.new.store.conn) (state g.S.Store c.commit-committed.new.conn) c.commit-committed.result _ c.in-Err-pass.ensures.passed
-      (c.commit-committed.ensures.ends.caused clean_3 added.0.held.is_open added.0.held.autocommit) it in
-      inl (omega (arith, more, c.begin-begun.ensures.ends.lasts.shut.faults, c.add_some.ensures.ends.lasts.shut.faults, c.rollback-undone.ensures.lasts.shut.faults));
+      (c.commit-committed.ensures.ends.fault_has_cause clean_3 added.0.is_open_archive.is_open added.0.is_open_archive.autocommit) it in
+      inl (omega (
+        arith,
+        more,
+        c.begin-begun.ensures.ends.remains_open.closes_only_by_fault.faults_never_fall,
+        c.add_some.ensures.ends.remains_open.closes_only_by_fault.faults_never_fall,
+        c.rollback-undone.ensures.lasts.closes_only_by_fault.faults_never_fall,
+      ));
 }
 
 pub returns-in-Err-clause-ends : goal.returns-in-Err-clause-ends
@@ -110,9 +116,14 @@ returns-in-Err-clause-ends g c = record {
       let last = state g.S.Store c.rollback-undone-in-Err.new.conn in
       let whole = lasts_then _ _ _ (lasts_then _ _ _ c.begin-begun.ensures.ends.remains_open c.add_some.ensures.ends.remains_open) c.rollback-undone-in-Err.ensures.lasts in
       let back = c.rollback-undone-in-Err.ensures.left clean first.now (c.in-Err.ensures.step clean_2 first.now a there) in
-      elim (c.in-Err.ensures.ends.caused first.now clean_2 limit a there it) [
-        | inl more ↦ inl (omega (arith, more, c.begin-begun.ensures.ends.lasts.shut.faults, c.rollback-undone-in-Err.ensures.lasts.shut.faults))
-        | inr stops ↦ left_or_failed first last (RowsRefuseAnItem list (drop c.args.from items)) whole clean t.held.is_open (λ up. (back up).1)
+      elim (c.in-Err.ensures.ends.fault_has_cause first.now clean_2 limit a there it) [
+        | inl more ↦ inl (omega (
+          arith,
+          more,
+          c.begin-begun.ensures.ends.remains_open.closes_only_by_fault.faults_never_fall,
+          c.rollback-undone-in-Err.ensures.lasts.closes_only_by_fault.faults_never_fall,
+        ))
+        | inr stops ↦ left_or_failed first last (RowsRefuseAnItem list (drop c.args.from items)) whole clean t.is_open_archive.is_open (λ up. (back up).1)
             (subst (RowsRefuseAnItem list (drop c.args.from items)) same stops)
       ];
 }
@@ -136,7 +147,12 @@ returns-in-Ok-pass-clause-crash g c = λ a t clean db may.
     let added = c.in-Ok.ensures.step clean_2 first.now a there in
     elim (commit_over g.S.Store c.add_some.new.store.conn c.commit-committed.new.conn first.now added.0.is_open_archive c.commit-committed.ensures.ends.crash clean db may) [
       | inl earlier ↦ inl (quiet clean_2 db earlier)
-      | inr it ↦ inr (c.in-Ok.at, record { least = c.in-Ok.ensures.came.1; most = c.in-Ok.ensures.came.2; whole = added.1 }, subst (λ x. IsArchiveStored x db) added.0.archive_is it)
+      | inr it ↦ inr (
+        c.in-Ok.at,
+        record { at_least_from = c.in-Ok.ensures.came.1; at_most_to = c.in-Ok.ensures.came.2; reaches_end_or_limit = added.1 },
+        subst
+            (λ x. IsArchiveStored x db) added.0.archive_is it,
+      )
     ]
 
 pub returns-in-Err-pass-clause-crash : goal.returns-in-Err-pass-clause-crash
@@ -154,7 +170,12 @@ returns-in-Err-pass-clause-crash g c = λ a t clean db may.
     elim (commit_over g.S.Store c.add_some.new.store.conn c.commit-committed.new.conn first.now added.0.is_open_archive c.commit-committed.ensures.ends.crash
     (c.rollback-undone.ensures.lasts.disk_was_clean clean) db (c.rollback-undone.ensures.ends.crash_adds_nothing clean db may)) [
       | inl earlier ↦ inl (quiet clean_2 db earlier)
-      | inr it ↦ inr (c.in-Ok.at, record { least = c.in-Ok.ensures.came.1; most = c.in-Ok.ensures.came.2; whole = added.1 }, subst (λ x. IsArchiveStored x db) added.0.archive_is it)
+      | inr it ↦ inr (
+        c.in-Ok.at,
+        record { at_least_from = c.in-Ok.ensures.came.1; at_most_to = c.in-Ok.ensures.came.2; reaches_end_or_limit = added.1 },
+        subst
+            (λ x. IsArchiveStored x db) added.0.archive_is it,
+      )
     ]
 
 pub returns-in-Err-clause-crash : goal.returns-in-Err-clause-crash

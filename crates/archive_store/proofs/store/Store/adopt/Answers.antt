@@ -40,9 +40,13 @@ returns-in-Ok-clause-adopted g c =
         keeps_rows = search rules;
         disk_was_clean = search rules;
         crash = adopts_as g.S.Store c.args.connection w.migrate_tables-done.new.conn c.if-is_empty_database.conn c.set_step_limit.new.self None w.conn-is c.set_step_limit.ensures
-            (record { made = λ empty. absurd (let is = c.is_empty_database.ensures.1 empty in let none = w.if-is_empty_database.false in cc); brought = w.migrate_tables-done.ensures.crash });
-        lasts = search rules;
-        unlimited = search rules;
+            (record {
+              makes_if_empty = λ empty. absurd (let is = c.is_empty_database.ensures.1 empty in let none = w.if-is_empty_database.false
+                  in cc);
+              migrates_older = w.migrate_tables-done.ensures.crash;
+            });
+        remains_open = search rules;
+        has_no_step_limit = search rules;
       }
     ]
 
@@ -88,7 +92,11 @@ returns-in-Err-clause-refused g c =
         fault_is_no_refusal = search rules;
         disk_was_clean = search rules;
         crash = adopts_at g.S.Store c.args.connection w.migrate_tables-done.new.conn c.if-is_empty_database.conn w.conn-is
-            (record { made = λ empty. absurd (let is = c.is_empty_database.ensures.1 empty in let none = w.if-is_empty_database.false in cc); brought = w.migrate_tables-done.ensures.crash });
-        lasts = search rules;
+            (record {
+              makes_if_empty = λ empty. absurd (let is = c.is_empty_database.ensures.1 empty in let none = w.if-is_empty_database.false
+                  in cc);
+              migrates_older = w.migrate_tables-done.ensures.crash;
+            });
+        remains_open = search rules;
       }
     ]

@@ -11,8 +11,11 @@ use Rattle.archive_store.proofs.walking.MessageWalk.next.Goals as goal
 pub returns-in_default-clause-given : goal.returns-in_default-clause-given
 returns-in_default-clause-given g c = λ returned list all a given w.
     let walk = c.args.self.now in
-    let none : slice_get walk.places.items walk.at ≡ None = ap (λ l. slice_get l walk.at) (sym c.deref.ensures.value) ∙ sym c.place_at.ensures ∙ c.in_default.is in
-    (w, all_given (message_at (current_rows g.S.Store c.args.store.now)) walk.places.items walk.at given w.left all w.ahead w.joined (past_end walk.places.items walk.at none))
+    let none : slice_get walk.places.items walk.at ≡ None = ap (λ l. slice_get l walk.at) (sym c.deref.ensures.value) ∙ sym c.place_at.ensures ∙ c.in_default.is in (
+      w,
+      all_given (message_at (current_rows g.S.Store c.args.store.now)) walk.places.items walk.at given w.remaining all w.numbers_give_remaining w.given_and_remaining
+          (past_end walk.places.items walk.at none),
+    )
 
 pub returns-in_default-clause-left : goal.returns-in_default-clause-left
 returns-in_default-clause-left g c =

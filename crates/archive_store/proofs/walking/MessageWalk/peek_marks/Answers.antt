@@ -12,11 +12,14 @@ pub returns-in_default-clause-shown : goal.returns-in_default-clause-shown
 returns-in_default-clause-shown g c = record {
   gives_next_marks = λ returned list all a given w.
       let walk = c.args.self.now in
-      let none : slice_get walk.places.items walk.at ≡ None = ap (λ l. slice_get l walk.at) (sym c.deref.ensures.value) ∙ sym c.place_at.ensures ∙ c.in_default.is in
-      (w, all_given (message_at (current_rows g.S.Store c.args.store.now)) walk.places.items walk.at given w.left all w.ahead w.joined (past_end walk.places.items walk.at none));
-  left = refl;
-  ahead = tt;
-  fault = tt;
+      let none : slice_get walk.places.items walk.at ≡ None = ap (λ l. slice_get l walk.at) (sym c.deref.ensures.value) ∙ sym c.place_at.ensures ∙ c.in_default.is in (
+        w,
+        all_given (message_at (current_rows g.S.Store c.args.store.now)) walk.places.items walk.at given w.remaining all w.numbers_give_remaining w.given_and_remaining
+            (past_end walk.places.items walk.at none),
+      );
+  remaining_is_same = refl;
+  some_means_remaining = tt;
+  fault_is_no_refusal = tt;
 }
 
 pub returns-clause-shown : goal.returns-clause-shown

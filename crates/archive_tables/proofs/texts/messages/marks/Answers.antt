@@ -13,7 +13,7 @@ use Rattle.archive_tables.proofs.CrashLemmas.{IsQuestionText}
 use Rattle.std.specs.Prelude.{codes}
 use Rattle.archive_tables.proofs.texts.messages.marks.Goals as goal
 
-asks : IsQuestionText (first (codes "SELECT withdrawn, embargo FROM message WHERE list = ?1 AND key = ?2 ORDER BY pos"))
+asks : IsQuestionText (first (codes "SELECT arrival, withdrawn, embargo FROM message WHERE list = ?1 AND key = ?2 ORDER BY pos"))
 unfolding first everything
 asks = tt
 
