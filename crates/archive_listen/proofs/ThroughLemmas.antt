@@ -40,8 +40,15 @@ module _ {Whole Part L : Type 0} (whole : Whole → Whole → ConnectionTranscri
             accepts_peer = takes.accepts_peer;
             transcript = takes.transcript;
             sent = takes.sent;
-            answered = record { told = a.told; answer = a.answer; answered = it.0; read = a.read; written = a.written; reached = a.reached };
-            closed = takes.closed;
+            is_answered = record {
+              transcript = a.transcript;
+              answer = a.answer;
+              is_answered = it.0;
+              read_is_transcript = a.read_is_transcript;
+              written_is_transcript = a.written_is_transcript;
+              client_receives = a.client_receives;
+            };
+            closes_exchange = takes.closes_exchange;
           }),
           it.1,
         )

@@ -1,6 +1,6 @@
 -- Sockets of the loopback interface, and the times that a peer has.
 use Rattle.std.proofs.Common.{ap}
-use Rattle.std.specs.Prelude.{◌≡◌, ◌<◌, ◌+◌, ◌*◌, ◌/◌, ◌⊎◌, ◌≤◌, ◌++◌, ℕ, length, Bool, true, false, List, [], ◌∷◌, Option, Some, Result}
+use Rattle.std.specs.Prelude.{◌≡◌, ◌<◌, ◌+◌, ◌*◌, ◌/◌, ◌⊎◌, ◌≤◌, ◌++◌, ℕ, length, Bool, true, false, List, [], ◌∷◌, Option, Some, Result, Ok, Err}
 use Rattle.std.specs.Duration.{as_nanos}
 use Rattle.std.specs.Net.Addr.{ipv4_octets}
 use Rattle.std.specs.Net.Socket.{socket_ip, socket_port}
@@ -72,8 +72,27 @@ pub record ListensOnLoopback (asked : ℕ) (loopback : LoopbackState) : Type 0 w
 
 -- it does, and the port that is told is the one that it listens on
 pub record ListensOnReportedPort (asked : ℕ) (listening : BoundListener LoopbackState) : Type 0 where
-  pub listens : ListensOnLoopback asked listening.listener
-  pub told : listening.port ≡ socket_port listening.listener.address
+  pub listens_on_loopback : ListensOnLoopback asked listening.listener
+  pub port_is_reported : listening.port ≡ socket_port listening.listener.address
+
+-- `binds` holds of an address that a system was asked for, and of the address that it gave, or of the error in its place.
+module _ (binds : SocketAddr → Result SocketAddr ErrorKind → Type 0) where
+  -- The system was asked for an address, and gave an error, or another address.
+  abbrev pub RefusesAddress : SocketAddr → Type 0
+  RefusesAddress asked =
+      ((kind : ErrorKind) × binds asked (Err kind)) ⊎ ((had : SocketAddr) × binds asked (Ok had) × (¬ IsBoundAddress asked had))
+
+  -- It was asked for this port of 127.0.0.1, and refused it.
+  pub record RefusesPort (port : ℕ) : Type 0 where
+    pub asked : SocketAddr
+    pub is_localhost : IsLocalhost (socket_ip asked)
+    pub port_is_asked : socket_port asked ≡ port
+    pub is_refused : RefusesAddress asked
+
+-- the ports of a system: the system, and what went over each connection of the listeners that were ended, in their order
+pub record PortsState (R : Type 0) : Type 0 where
+  pub system : R
+  pub exchanges : List Exchange
 
 -- It asked the system once. It gives the connection that the system gave, or none, for what the error of the system stands for.
 pub record CallsAcceptOnce (before after : LoopbackState) (fault : Option AcceptError) : Type 0 where

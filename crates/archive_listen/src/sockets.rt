@@ -1,12 +1,12 @@
 //! Connections over the loopback interface.
-ghost use Rattle.std.specs.Prelude.{◌≡◌, ◌≤◌, ◌+◌, ◌++◌, [], ◌∷◌, length, take, true, Some, None, IfOk, IfSome, IsNone, MatchResult};
+ghost use Rattle.std.specs.Prelude.{◌≡◌, ◌≤◌, ◌+◌, ◌++◌, [], ◌∷◌, ◌↔◌, length, take, true, Some, None, Ok, IfOk, IfSome, IsNone, IsTrue, MatchResult};
 ghost use Rattle.std.specs.Net.Socket.{socket_port};
 ghost use Rattle.byte_device.specs.Device.{ends_met_by_read, failures_of_read, failures_of_write};
 ghost use Rattle.std.specs.Duration.{as_nanos};
 ghost use Rattle.archive_listen.specs.Asking.{accept_error_of_kind};
 ghost use Rattle.archive_listen.specs.Connections.{exchange, connection_transcript, empty_transcript};
 ghost use Rattle.archive_listen.specs.Streams.{DrainsOrResets};
-ghost use Rattle.archive_listen.specs.Sockets.{IsBoundAddress, IsHeadTimeLimit, IsReplyTimeLimit, ListensOnLoopback, graceful_closes_after, nothing_read, nothing_written};
+ghost use Rattle.archive_listen.specs.Sockets.{IsBoundAddress, IsHeadTimeLimit, IsReplyTimeLimit, ListensOnLoopback, RefusesAddress, RefusesPort, graceful_closes_after, nothing_read, nothing_written};
 
 use crate::asking::{Asked, Given};
 use crate::connections::{BoundListener, Connection, Listener, Ports};
@@ -16,12 +16,13 @@ use crate::gathered::{ROOM, WriteBuffer};
 use crate::open::StillOpen;
 use crate::peeked::Peeked;
 use crate::streams::{Ends, Reading};
+use crate::system::HasPorts;
 use crate::waiting::{Span, Timed, Waited};
 use byte_device::{DeviceFailure, Sink, Source, Transcript};
 use std::alloc::Global;
 use std::io::{ErrorKind, Read, Write};
 use std::marker::Model;
-use std::net::{IpAddr, Ipv4Addr, Net, OpenListener, OpenStream, SocketAddr, TcpListener};
+use std::net::{IpAddr, Ipv4Addr, Net, OpenStream, SocketAddr};
 use std::rt::Clock;
 use std::time::{Duration, Instant};
 
@@ -238,20 +239,22 @@ fn accept_fault(kind: ErrorKind) -> AcceptError
 
 /// Whether an address is the one that was asked for, with a port that the system picked where it has none.
 fn is_had(asked: SocketAddr, had: SocketAddr) -> bool
-    ensures { result ≡ true → IsBoundAddress asked had }
+    ensures { IsTrue result ↔ IsBoundAddress asked had }
 {
     had.ip() == asked.ip() && (asked.port() == 0 || had.port() == asked.port()) && had.port() > 0
 }
 
-/// Listens on an address, and tells the one that the system gives in its place, which differs by a port that it picked alone.
-fn listen_at<R: Net>(rt: &R, asked: SocketAddr) -> Result<(R::Listener, SocketAddr), ListenError>
-    ensures { IfOk result (λ it. IsBoundAddress asked it.1) }
+/// Listens on an address, and tells the one that the system gives in its place, which differs by a port that it picked alone. F4: the
+/// system gave an error, or another address.
+fn listen_at<R: HasPorts>(
+    rt: &R,
+    asked: SocketAddr,
+) -> Result<(R::Listener, SocketAddr), ListenError>
+    ensures { MatchResult result (λ it. R.binds rt.now asked (Ok it.1) × IsBoundAddress asked it.1)
+        (λ _. RefusesAddress (R.binds rt.now) asked) }
 {
-    let Ok(listener) = TcpListener::bind(rt, asked) else {
-        return Err(ListenError);
-    };
-    match listener.local_addr() {
-        Ok(had) if is_had(asked, had) => Ok((listener, had)),
+    match rt.bind_address(asked) {
+        Ok((listener, had)) if is_had(asked, had) => Ok((listener, had)),
         Ok(_) | Err(_) => Err(ListenError),
     }
 }
@@ -283,10 +286,10 @@ impl<'a, R: Net> Model for Loopback<'a, R> {
     } };
 }
 
-impl<'a, R: Net> Loopback<'a, R> {
+impl<'a, R: HasPorts> Loopback<'a, R> {
     /// Listens on a port; 0 stands for one that the system picks. F4: the port is taken, or may not be used.
     pub fn bind(rt: &'a R, alloc: Global, port: u16) -> Result<Loopback<'a, R>, ListenError>
-        ensures { IfOk result (ListensOnLoopback port) }
+        ensures { MatchResult result (ListensOnLoopback port) (λ _. RefusesPort (R.binds rt.now) port) }
     {
         let asked = SocketAddr::new(IpAddr::V4(Ipv4Addr::LOCALHOST), port);
         let (listener, address) = listen_at(rt, asked)?;
@@ -304,7 +307,9 @@ impl<'a, R: Net> Loopback<'a, R> {
             },
         })
     }
+}
 
+impl<'a, R: Net> Loopback<'a, R> {
     /// The port that it listens on.
     pub fn port(&self) -> u16
         ensures { result ≡ socket_port self.now.address }
@@ -313,7 +318,7 @@ impl<'a, R: Net> Loopback<'a, R> {
     }
 }
 
-/// The ports of 127.0.0.1. Contracts see what went over the connections of the listeners that were ended.
+/// The ports of 127.0.0.1. Contracts see the system, and what went over the connections of the listeners that were ended.
 #[derive(Drop)]
 pub struct LoopbackPorts<'a, R> {
     rt: &'a R,
@@ -322,18 +327,17 @@ pub struct LoopbackPorts<'a, R> {
 }
 
 impl<'a, R> Model for LoopbackPorts<'a, R> {
-    ghost use Rattle.std.specs.Prelude.{List};
-    ghost use Rattle.archive_listen.specs.Connections.{Exchange};
+    ghost use Rattle.archive_listen.specs.Sockets.{PortsState};
 
-    ghost Value = { List Exchange };
+    ghost Value = { PortsState R };
 
-    ghost view = { λ p. p.went.all };
+    ghost view = { λ p. record { system = p.rt.now; exchanges = p.went.all } };
 }
 
 impl<'a, R> LoopbackPorts<'a, R> {
     /// Those of a system, where no listener was ended yet. The memory is for connections that stay open.
     pub fn new(rt: &'a R, alloc: Global) -> LoopbackPorts<'a, R>
-        ensures { result ≡ [] }
+        ensures { result ≡ record { system = rt.now; exchanges = [] } }
     {
         LoopbackPorts {
             rt,
@@ -343,17 +347,20 @@ impl<'a, R> LoopbackPorts<'a, R> {
     }
 }
 
-impl<'a, R: Net + Clock> Ports for LoopbackPorts<'a, R> {
-    ghost use Rattle.std.specs.Prelude.{IfOk};
-    ghost use Rattle.archive_listen.specs.Sockets.{ListensOnReportedPort};
+impl<'a, R: HasPorts + Clock> Ports for LoopbackPorts<'a, R> {
+    ghost use Rattle.std.specs.Prelude.{MatchResult};
+    ghost use Rattle.std.proofs.Common.{ap};
+    ghost use Rattle.archive_listen.specs.Sockets.{ListensOnReportedPort, RefusesPort};
 
     type Listener = Loopback<'a, R>;
 
-    ghost went = { λ ports. ports };
+    ghost went = { λ ports. ports.exchanges };
 
-    ghost listens = { λ old new port result. (new ≡ old) × IfOk result (ListensOnReportedPort port) };
+    ghost listens = { λ old new port result. (new ≡ old)
+        × MatchResult result (ListensOnReportedPort port) (λ _. RefusesPort (R.binds old.system) port) };
 
-    ghost listens_none = { λ old new port listening given. (given.0, given.1.listens.fresh) };
+    ghost listens_none = { λ old new port listening given.
+        (ap (λ ports. ports.exchanges) given.0, given.1.listens_on_loopback.no_exchange_yet) };
 
     fn listen(&mut self, port: u16) -> Result<BoundListener<Loopback<'a, R>>, ListenError> {
         let listener = Loopback::bind(self.rt, self.alloc, port)?;

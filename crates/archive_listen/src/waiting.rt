@@ -1,10 +1,11 @@
 //! How long reads may wait.
 ghost use Rattle.std.specs.Prelude.{◌≡◌, ◌≤◌, ◌<◌, ◌+◌, ◌-◌, max, min, length, take, Some, IfOk, IfSome, IsNone, MatchResult, ◌↔◌};
 ghost use Rattle.archive_listen.specs.Streams.{empty_stream, after_read, after_drain, after_failed_drain, after_write};
-ghost use Rattle.archive_listen.specs.Waits.{WaitsWithin};
+ghost use Rattle.archive_listen.specs.Waits.{EndsWithinSpan, WaitsWithin, no_clock_calls};
 ghost use Rattle.std.specs.Duration.{as_nanos};
 
 use crate::streams::{Ends, Reading, Stream, Taken};
+use crate::watch::Watch;
 use byte_device::{DeviceFailure, Transcript};
 use std::io::{ErrorKind, Read, Write};
 use std::marker::Model;
@@ -51,10 +52,10 @@ fn wait_after(most: Duration, whole: Duration, passed: Duration) -> Option<Durat
 }
 
 /// A stream whose waits lie in spans of time, which begin when it is made or at its first wait. Contracts see when that is,
-/// how long after it the last wait could end that the system was asked for, in nanoseconds, and what went over the stream.
+/// how long after it the last wait could end that the system was asked for, in nanoseconds, what went over the stream, and what the clock gave.
 #[derive(Drop)]
 pub(crate) struct Timed<'a, R, S> {
-    clock: &'a R,
+    watch: Watch<'a, R>,
     stream: Stream<S>,
     since: Option<Instant>,
     latest: Duration,
@@ -66,16 +67,21 @@ impl<'a, R, S> Model for Timed<'a, R, S> {
 
     ghost Value = { TimedStreamState };
 
-    ghost view = { λ t. record { since = t.since; latest = as_nanos t.latest; stream = t.stream } };
+    ghost view = { λ t. record {
+      since = t.since;
+      latest = as_nanos t.latest;
+      stream = t.stream;
+      clock = t.watch;
+    } };
 }
 
 impl<'a, R: Clock, S> Timed<'a, R, S> {
     /// Nothing was waited for yet.
     pub(crate) fn new(clock: &'a R, stream: S, since: Option<Instant>) -> Timed<'a, R, S>
-        ensures { result ≡ record { since = since; latest = 0; stream = empty_stream } }
+        ensures { result ≡ record { since = since; latest = 0; stream = empty_stream; clock = no_clock_calls } }
     {
         Timed {
-            clock,
+            watch: Watch::new(clock),
             stream: Stream::new(stream),
             since,
             latest: Duration::ZERO,
@@ -108,15 +114,15 @@ impl<'a, R: Clock, S> Timed<'a, R, S> {
         self.stream.into_inner()
     }
 
-    /// How long the next call may wait, which is written down. An error: the span has passed, or the clock failed.
+    /// How long the next call may wait, which is written down. The clock is asked once. An error: the span has passed, or the clock failed.
     #[tactic(auto, using(crate::proofs::WaitLemmas::waits_none))]
     fn next_wait(&mut self, span: Span) -> Result<Duration, DeviceFailure>
         ensures waits { WaitsWithin (as_nanos span.whole) self.old self.new }
         ensures most { IfOk result (λ d. as_nanos d ≤ as_nanos span.most) }
-        ensures noted { IfOk result (λ d. as_nanos d ≤ self.new.latest) }
+        ensures clock { IfOk result (λ d. EndsWithinSpan (as_nanos span.whole) (as_nanos d) self.old self.new) }
         ensures same { self.new.stream ≡ self.old.stream }
     {
-        let Ok(now) = Instant::now(self.clock) else {
+        let Some(now) = self.watch.now() else {
             return Err(DeviceFailure);
         };
         let since = first_of(self.since, now);
@@ -135,7 +141,8 @@ impl<'a, R: Clock, S> Timed<'a, R, S> {
 
 /// The time that is there, or now.
 fn first_of(since: Option<Instant>, now: Instant) -> Instant
-    ensures { IfSome since (λ at. Some result ≡ Some at) }
+    ensures kept { IfSome since (λ at. Some result ≡ Some at) }
+    ensures first { IsNone since → result ≡ now }
 {
     match since {
         Some(at) => at,
