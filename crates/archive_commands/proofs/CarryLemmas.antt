@@ -14,6 +14,7 @@ use Rattle.archive_model.specs.Sound.{IsIndexedCorrectly}
 use Rattle.sqlite.specs.Effect.{Database}
 use Rattle.sqlite.specs.Held.{state}
 use Rattle.archive_tables.specs.Tables.{archive_in_trees, archive_of}
+use Rattle.archive_store.specs.Crashes.{CrashSteps}
 use Rattle.archive_store.specs.Held.{store_connection}
 use Rattle.archive_store.specs.Refusals.{IsExecutedReply, IsCommandRefused}
 use Rattle.archive_store.specs.Told.{StaysOpenUnlessDiskFails}
@@ -111,4 +112,10 @@ module _ {S : Type 0} (g : Ghosts S) (old new : Store S) (command : StoreCommand
   pub carries_found : (found : CommandFacts) (answer : Answer) → answer_to command (reply_unless_refused (model_command command) found) ≡ Some answer → Done (Ok found)
       → CarriesOutCommand g old new command (Ok answer)
   carries_found found answer named did = carries_answer answer (reply_unless_refused (model_command command) found) named
-      (does_told (Some (reply_unless_refused (model_command command) found)) did.step)
+      (does_told (Some (reply_unless_refused (model_command command) found)) did.performs_step)
+
+  -- what a crash leaves of it
+  pub crash_carries : CrashSteps g (store_connection old) (store_connection new) (λ a. step a (model_command command))
+      → CrashSteps g (store_connection old) (store_connection new) (λ a. command_outcome a command)
+  crash_carries crash =
+      subst (λ t. CrashSteps g (store_connection old) (store_connection new) (λ a. cond t (step a (model_command command)) (refuse a no_message))) (sym is) crash

@@ -1,8 +1,10 @@
 //! The commands over the tables.
 ghost use Rattle.std.specs.Prelude.{◌≡◌, Some, option_map};
 ghost use Rattle.archive_port.specs.Commands.{reply_unless_refused, spec_command as stored};
+ghost use Rattle.archive_store.specs.Crashes.{CrashSteps};
+ghost use Rattle.archive_store.specs.Held.{store_connection};
 ghost use Rattle.archive_args.specs.Values.{store_command_of};
-ghost use Rattle.archive_commands.specs.Commands.{StandsForModelCommand, answer_to, model_command, valid_key};
+ghost use Rattle.archive_commands.specs.Commands.{StandsForModelCommand, answer_to, command_outcome, model_command, valid_key};
 ghost use Rattle.archive_commands.specs.Working.{CarriesOutCommand, EndsStoreCommand};
 
 use archive_args::StoreCommand;
@@ -62,6 +64,8 @@ pub fn carry_out<S: Alter>(
     words: &StoreCommand<'_>,
 ) -> Result<Answer, StoreFault>
     ensures carried { CarriesOutCommand S.Store store.old store.new (store_command_of words.now) result }
+    ensures crash { CrashSteps S.Store (store_connection store.old) (store_connection store.new)
+        (λ a. command_outcome a (store_command_of words.now)) }
     ensures ends { EndsStoreCommand S.Store store.old store.new (store_command_of words.now) result }
 {
     let key = read_key(words);

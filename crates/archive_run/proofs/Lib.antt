@@ -1,4 +1,5 @@
 pub mod WorkLemmas
 pub mod OrderLemmas
 pub mod HoldLemmas
+pub mod CrashLemmas
 pub mod OverLemmas

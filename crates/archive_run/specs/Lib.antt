@@ -7,4 +7,5 @@ pub mod Working
 pub mod Orders
 pub mod Serving
 pub mod Holding
+pub mod Crashing
 pub mod Runs

@@ -1,12 +1,12 @@
 -- What a run of any order does, and what is said where words order nothing.
-use Rattle.std.specs.Prelude.{◌≡◌, ◌⊎◌, ℕ, Result, Err, ⊤}
+use Rattle.std.specs.Prelude.{◌≡◌, ◌⊎◌, ℕ, Result, Ok, Err, ⊤}
 use Rattle.archive_args.specs.declared.orders.Order.{Order}
 use Rattle.archive_args.specs.declared.orders.Order.TheVariants.{Sift, Table, Import, Get, Export, Check, Serve}
 use Rattle.archive_args.specs.declared.orders.OrderStop.{OrderStop}
 use Rattle.sift_run.specs.Refusals.{ReportsOrderStop, WritesErrorLine}
 use Rattle.archive_listen.specs.Connections.{error_stream_state}
 use Rattle.sift_run.specs.declared.faults.CommandError.TheVariants.{Memory}
-use Rattle.archive_run.specs.Holding.{HasServedUntilF4}
+use Rattle.archive_run.specs.Holding.{HasServedUntilF4, RunsOrderOnArchive}
 use Rattle.archive_run.specs.Environments.{DeviceContracts}
 use Rattle.archive_run.specs.Orders.{RunsCheck, RunsExport, RunsGet, RunsImport, RunsSift, RunsStoreCommand}
 use Rattle.archive_run.specs.Refusals.{refusal_text}
@@ -26,6 +26,12 @@ module _ {Y S F D C P T R O E I L K A B M : Type 0} (dev : DeviceContracts S F I
   RunsOrder old new (Check order) = RunsCheck old new dev.takes dev.passes dev.pages dev.databases order
   RunsOrder old new (Serve order) =
       RunsServe old new dev.takes dev.passes dev.notes dev.pages dev.listens dev.accepts dev.shuts dev.over dev.went dev.databases dev.clock dev.gives dev.makes order
+
+  -- The order was carried out, whole. Its database holds what the order makes of the archive that it held, and what went out is of that
+  -- archive.
+  pub record OrderIsCarriedOut (old new : Environment Y S F D C P T R O E I L K A B M) (order : Order) : Type 0 where
+    pub runs_order : RunsOrder old new order (Ok tt)
+    pub runs_on_archive : RunsOrderOnArchive dev old new order
 
   -- One line told the refusal, and nothing else was touched.
   abbrev pub WritesOnlyRefusalLine : (old new : Environment Y S F D C P T R O E I L K A B M) → RunError → Type 0

@@ -2,6 +2,8 @@
 ghost use Rattle.std.specs.Prelude.{◌≡◌, ◌⊎◌, true, IfErr, IfOk, Some};
 ghost use Rattle.sift_run.specs.Running.{IsReadingDay, IsPolicyErrorCause, AreRulesOfPolicyFile};
 ghost use Rattle.sift_run.specs.Streams.{WritesAndFlushesOrFails, output_stream_state};
+ghost use Rattle.archive_run.specs.Crashing.{CrashCarriesOutCommand, CrashImportsFile};
+ghost use Rattle.archive_run.specs.Databases.{UsesDatabaseIfOpened};
 ghost use Rattle.archive_run.specs.Refusals.{IsCommandErrorWith};
 ghost use Rattle.archive_run.specs.Orders.{RunExportsListOnDay, RunGetsMessageOnDay, RunsCheck, RunsExport, RunsGet, RunsImport, RunsStoreCommand, ask_of_values};
 ghost use Rattle.archive_run.specs.Working.{report_line};
@@ -50,7 +52,9 @@ pub(crate) fn run_table<Y: Platform>(
     world: &mut Environment<Y>,
     order: &StoreArgs<'_>,
 ) -> Result<(), RunError>
-    ensures { RunsStoreCommand world.old world.new Y.Output.Sink Y.Output.BufferedSink.own Y.Storage.Store Y.Databases.Databases order.now result }
+    ensures runs { RunsStoreCommand world.old world.new Y.Output.Sink Y.Output.BufferedSink.own Y.Storage.Store Y.Databases.Databases order.now result }
+    ensures crash { UsesDatabaseIfOpened Y.Databases.Databases world.old.databases world.new.databases order.now.file
+        (λ o c. CrashCarriesOutCommand Y.Storage.Store o c order.now.command) }
 {
     match work_table(alloc, &mut world.databases, order) {
         Ok(answer) => send(&mut world.output, answer.line().as_bytes()),
@@ -64,8 +68,10 @@ pub(crate) fn run_import<Y: Platform>(
     world: &mut Environment<Y>,
     order: &ImportArgs<'_>,
 ) -> Result<(), RunError>
-    ensures { RunsImport world.old world.new Y.Output.Sink Y.Output.BufferedSink.own Y.Storage.Store Y.Databases.Databases
+    ensures runs { RunsImport world.old world.new Y.Output.Sink Y.Output.BufferedSink.own Y.Storage.Store Y.Databases.Databases
         Y.Files.StreamedFiles Y.Files.Input.Source order.now result }
+    ensures crash { UsesDatabaseIfOpened Y.Databases.Databases world.old.databases world.new.databases order.now.file
+        (λ o c. CrashImportsFile Y.Storage.Store o c Y.Files.StreamedFiles Y.Files.Input.Source world.old.files order.now.list order.now.mbox) }
 {
     match work_import(alloc, &mut world.databases, &world.files, order) {
         Ok(report) => send_report(alloc, &mut world.output, report),

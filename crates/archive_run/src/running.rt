@@ -1,5 +1,5 @@
 //! Running the order that words give.
-ghost use Rattle.std.specs.Prelude.{◌≡◌, ◌≤◌, ◌⊎◌, map, false, None, Ok};
+ghost use Rattle.std.specs.Prelude.{◌≡◌, ◌≤◌, ◌⊎◌, map, false, None};
 ghost use Rattle.clap.specs.Words.{takes};
 ghost use Rattle.archive_args.specs.Program.{archive_app};
 ghost use Rattle.archive_args.specs.Orders.{IsUsageError, IsOrderStopOf, order_of_args};
@@ -7,8 +7,8 @@ ghost use Rattle.archive_args.specs.declared.orders.OrderStop.{OrderStop};
 ghost use Rattle.archive_args.specs.declared.orders.Order.{Order};
 ghost use Rattle.sift_run.specs.Running.{ParseAsOrder};
 ghost use Rattle.archive_run.specs.Orders.{RunsSift};
-ghost use Rattle.archive_run.specs.Holding.{RunsOrderOnArchive};
-ghost use Rattle.archive_run.specs.Runs.{OrderIsRefused, RunsOrder, RunReportsOrderStop};
+ghost use Rattle.archive_run.specs.Crashing.{CrashRunsOrder};
+ghost use Rattle.archive_run.specs.Runs.{OrderIsCarriedOut, OrderIsRefused, RunsOrder, RunReportsOrderStop};
 ghost use Rattle.archive_run.specs.Environments.{devices};
 
 use crate::faults::RunError;
@@ -47,9 +47,12 @@ fn run_order<Y: Platform>(
     world: &mut Environment<Y>,
     asked: &Order<'_>,
 ) -> Result<(), RunError>
-    ensures { RunsOrder (devices Y.Storage.Store Y.Files.ReadFiles Y.Files.StreamedFiles Y.Files.Input.Source Y.Databases.Databases Y.Clock.DayClock
+    ensures runs { RunsOrder (devices Y.Storage.Store Y.Files.ReadFiles Y.Files.StreamedFiles Y.Files.Input.Source Y.Databases.Databases Y.Clock.DayClock
         Y.Ports.listens Y.Ports.Listener.accepts Y.Ports.Listener.closes Y.Ports.Listener.over Y.Ports.went Y.Threaders.makes Y.Input.Source Y.Output.Sink Y.Output.BufferedSink.own Y.Faults.Sink)
         world.old world.new asked.now result }
+    ensures crash { CrashRunsOrder (devices Y.Storage.Store Y.Files.ReadFiles Y.Files.StreamedFiles Y.Files.Input.Source Y.Databases.Databases Y.Clock.DayClock
+        Y.Ports.listens Y.Ports.Listener.accepts Y.Ports.Listener.closes Y.Ports.Listener.over Y.Ports.went Y.Threaders.makes Y.Input.Source Y.Output.Sink Y.Output.BufferedSink.own Y.Faults.Sink)
+        world.old world.new asked.now }
 {
     match asked {
         Order::Sift(asked) => run_sift(alloc, world, asked),
@@ -67,21 +70,23 @@ fn run_order<Y: Platform>(
 /// words is a text, both to the stream of faults. At 0 all that went out was passed on; what an order that is refused left in the
 /// output the caller passes on.
 pub fn run<Y: Platform>(alloc: Global, world: &mut Environment<Y>, words: &[&str]) -> u8
-    // At 0 an order is carried out, whole.
+    // At 0 an order is carried out, whole. Its database holds what the order makes of the archive that it held, and what went out is of
+    // that archive.
     ensures done { (order : Order) → ParseAsOrder (map (λ w. w.now) words.now) order → result ≡ 0
-        → RunsOrder (devices Y.Storage.Store Y.Files.ReadFiles Y.Files.StreamedFiles Y.Files.Input.Source Y.Databases.Databases Y.Clock.DayClock
-        Y.Ports.listens Y.Ports.Listener.accepts Y.Ports.Listener.closes Y.Ports.Listener.over Y.Ports.went Y.Threaders.makes Y.Input.Source Y.Output.Sink Y.Output.BufferedSink.own Y.Faults.Sink)
-        world.old world.new order (Ok tt) }
-
-    // At 0 the database of the order holds what the order makes of the archive that it held, and what went out is of that archive.
-    ensures holds { (order : Order) → ParseAsOrder (map (λ w. w.now) words.now) order → result ≡ 0
-        → RunsOrderOnArchive (devices Y.Storage.Store Y.Files.ReadFiles Y.Files.StreamedFiles Y.Files.Input.Source Y.Databases.Databases Y.Clock.DayClock
+        → OrderIsCarriedOut (devices Y.Storage.Store Y.Files.ReadFiles Y.Files.StreamedFiles Y.Files.Input.Source Y.Databases.Databases Y.Clock.DayClock
         Y.Ports.listens Y.Ports.Listener.accepts Y.Ports.Listener.closes Y.Ports.Listener.over Y.Ports.went Y.Threaders.makes Y.Input.Source Y.Output.Sink Y.Output.BufferedSink.own Y.Faults.Sink)
         world.old world.new order }
 
     // At 1 it is refused: for a reason that holds, or for want of memory to read the words. One line tells the refusal.
     ensures refused { (order : Order) → ParseAsOrder (map (λ w. w.now) words.now) order → result ≡ 1
         → OrderIsRefused (devices Y.Storage.Store Y.Files.ReadFiles Y.Files.StreamedFiles Y.Files.Input.Source Y.Databases.Databases Y.Clock.DayClock
+        Y.Ports.listens Y.Ports.Listener.accepts Y.Ports.Listener.closes Y.Ports.Listener.over Y.Ports.went Y.Threaders.makes Y.Input.Source Y.Output.Sink Y.Output.BufferedSink.own Y.Faults.Sink)
+        world.old world.new order }
+
+    // At each status, and at each moment while the database of the order is open: a crash leaves the archive as it was, or the one that
+    // the command makes; of an import, some first messages of the mbox were added.
+    ensures crash { (order : Order) → ParseAsOrder (map (λ w. w.now) words.now) order
+        → CrashRunsOrder (devices Y.Storage.Store Y.Files.ReadFiles Y.Files.StreamedFiles Y.Files.Input.Source Y.Databases.Databases Y.Clock.DayClock
         Y.Ports.listens Y.Ports.Listener.accepts Y.Ports.Listener.closes Y.Ports.Listener.over Y.Ports.went Y.Threaders.makes Y.Input.Source Y.Output.Sink Y.Output.BufferedSink.own Y.Faults.Sink)
         world.old world.new order }
 

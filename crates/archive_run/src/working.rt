@@ -1,7 +1,8 @@
 //! Orders over a database: each opens the database of the name, does one thing, and closes it.
 ghost use Rattle.std.specs.Prelude.{◌≡◌, ◌⊎◌, Ok, Err, MatchResult};
 ghost use Rattle.archive_commands.specs.Working.{CarriesOutCommand, GetsMessage};
-ghost use Rattle.archive_run.specs.Databases.{UsesDatabase, GivesNoDatabase};
+ghost use Rattle.archive_run.specs.Crashing.{CrashCarriesOutCommand, CrashImportsFile};
+ghost use Rattle.archive_run.specs.Databases.{UsesDatabase, UsesDatabaseIfOpened, GivesNoDatabase};
 ghost use Rattle.archive_run.specs.Working.{AnswersOrFails, RefusesCommand, RefusesCheck, RefusesExport, RefusesGet, ImportsFile, RefusesImport, ExportsWholeList, RefusesOpening};
 ghost use Rattle.sift_run.specs.Streams.{output_stream_state};
 ghost use Rattle.archive_store.specs.Checking.{ChecksArchive};
@@ -31,6 +32,8 @@ pub(crate) fn work_table<S: Alter, D: Databases<Store<S>>>(
         (λ fault. GivesNoDatabase D.Databases databases.old databases.new order.now.file fault
         ⊎ UsesDatabase D.Databases databases.old databases.new order.now.file
         (λ o c. RefusesCommand S.Store o c order.now.command (RunError.Store fault))) }
+    ensures crash { UsesDatabaseIfOpened D.Databases databases.old databases.new order.now.file
+        (λ o c. CrashCarriesOutCommand S.Store o c order.now.command) }
 {
     let mut store = databases.open(alloc, order.file)?;
     let answer = carry_out(&mut store, alloc, &order.command);
@@ -50,6 +53,7 @@ fn import_file<S: Alter, F: StreamedFiles>(
     ensures imported { MatchResult result
         (λ report. ImportsFile S.Store store.old store.new F.StreamedFiles F.Input.Source files.now list.now name.now report)
         (λ refusal. RefusesImport S.Store store.old store.new F.StreamedFiles F.Input.Source files.now list.now name.now refusal) }
+    ensures crash { CrashImportsFile S.Store store.old store.new F.StreamedFiles F.Input.Source files.now list.now name.now }
 {
     let mut input = match files.open_file(alloc, name) {
         Ok(input) => input,
@@ -69,9 +73,11 @@ pub(crate) fn work_import<S: Alter, D: Databases<Store<S>>, F: StreamedFiles>(
     files: &F,
     order: &ImportArgs<'_>,
 ) -> Result<Report, RunError>
-    ensures { AnswersOrFails D.Databases databases.old databases.new order.now.file result
+    ensures worked { AnswersOrFails D.Databases databases.old databases.new order.now.file result
         (λ report o c. ImportsFile S.Store o c F.StreamedFiles F.Input.Source files.now order.now.list order.now.mbox report)
         (λ o c. RefusesImport S.Store o c F.StreamedFiles F.Input.Source files.now order.now.list order.now.mbox) }
+    ensures crash { UsesDatabaseIfOpened D.Databases databases.old databases.new order.now.file
+        (λ o c. CrashImportsFile S.Store o c F.StreamedFiles F.Input.Source files.now order.now.list order.now.mbox) }
 {
     let mut store = match databases.open(alloc, order.file) {
         Ok(store) => store,

@@ -15,7 +15,7 @@ use Rattle.archive_commands.specs.Commands.{answer_to, command_outcome}
 use Rattle.archive_commands.specs.declared.commands.Answer.{Answer}
 use Rattle.sift_run.specs.Running.{ParseAsOrder, IsReadingDay, AreRulesOfPolicyFile}
 use Rattle.archive_run.specs.Holding.{RunsOrderOnArchive}
-use Rattle.archive_run.specs.Runs.{OrderIsRefused, RunsOrder, RunReportsOrderStop}
+use Rattle.archive_run.specs.Runs.{OrderIsCarriedOut, OrderIsRefused, RunsOrder, RunReportsOrderStop}
 use Rattle.archive_run.specs.Environments.{DeviceContracts}
 use Rattle.archive_run.specs.declared.world.Environment.{Environment}
 use Rattle.example_served.specs.Publishing.{CommandLineSucceeds, CommandLineFails, ImportsWithdrawsAndServes, Publishing, import_args_of, serve_args_of, withdraw_args_of}
@@ -94,8 +94,8 @@ module _ {Y S F D C P T R O E I L K A B M : Type 0} (dev : DeviceContracts S F I
   -- ---- and one that was
 
   pub is_done : (old new : Environment Y S F D C P T R O E I L K A B M) (words : List (List ℕ)) (status : ℕ) → status ≡ 0
-      → ((order : Order) → ParseAsOrder words order → status ≡ 0 → RunsOrder dev old new order (Ok tt))
+      → ((order : Order) → ParseAsOrder words order → status ≡ 0 → OrderIsCarriedOut dev old new order)
       → ((order : Order) × ParseAsOrder words order × (status ≤ 1)) ⊎ ((stop : OrderStop) × IsOrderStopOf words stop × RunReportsOrderStop dev old new stop status)
       → CommandLineSucceeds dev old new words
-  is_done old new words status zero does (inl (order, given, most)) = inl (order, given, does order given zero)
+  is_done old new words status zero does (inl (order, given, most)) = inl (order, given, (does order given zero).runs_order)
   is_done old new words status zero does (inr (stop, is, says)) = inr (stop, is, subst (λ s. RunReportsOrderStop dev old new stop s) zero says)

@@ -3,13 +3,13 @@ use Rattle.archive_run.specs.Orders.{RunsImport}
 use Rattle.sift_run.proofs.ResultLemmas.{by_result}
 use Rattle.archive_run.proofs.ordering.run_import.Goals as goal
 
-pub returns-in-Ok : goal.returns-in-Ok
-returns-in-Ok g c =
+pub returns-in-Ok-clause-runs : goal.returns-in-Ok-clause-runs
+returns-in-Ok-clause-runs g c =
     let old = c.args.world.now in
     let end = c.send_report.new.output in
     let new = record old { databases = c.work_import.new.databases; output = end } in
     let report = c.in-Ok.report in
-    let taken = c.in-Ok.ensures in
+    let taken = c.in-Ok.ensures.worked in
     elim c.send_report.ensures [
       | inl memory ↦ rw memory.0 (inr (report, taken, inl (refl, ap (λ o. record new { output = o }) memory.1)))
       | inr sent ↦ by_result (RunsImport old new g.Y.Output.Sink g.Y.Output.BufferedSink g.Y.Storage.Store g.Y-Databases-Databases g.Y.Files.StreamedFiles g.Y.Files.Input.Source c.args.order.now)

@@ -4,8 +4,8 @@ use Rattle.sift_run.specs.Streams.{output_stream_state}
 use Rattle.sift_run.proofs.ResultLemmas.{by_result, sent_as}
 use Rattle.archive_run.proofs.ordering.run_table.Goals as goal
 
-pub returns-in-Ok : goal.returns-in-Ok
-returns-in-Ok g c =
+pub returns-in-Ok-clause-runs : goal.returns-in-Ok-clause-runs
+returns-in-Ok-clause-runs g c =
     let old = c.args.world.now in
     let new = record old { databases = c.work_table.new.databases; output = c.send.new.output } in
     let before = output_stream_state g.Y.Output.Sink g.Y.Output.BufferedSink old.output in

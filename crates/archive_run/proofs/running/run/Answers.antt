@@ -1,11 +1,13 @@
 use Rattle.std.proofs.Common.{ap, inl, inr, refl, sym, subst, arith, Ok, Err}
 use Rattle.archive_args.specs.declared.orders.Order.{Order}
+use Rattle.archive_run.specs.Crashing.{CrashRunsOrder}
 use Rattle.archive_run.specs.Refusals.{refusal_text}
 use Rattle.archive_run.specs.Runs.{RunsOrder}
 use Rattle.archive_run.specs.Environments.{devices}
 use Rattle.archive_run.specs.declared.faults.RunError.TheVariants.{Run}
 use Rattle.sift_run.specs.declared.faults.CommandError.TheVariants.{Memory}
 use Rattle.sift_run.proofs.StatusLemmas.{at_most_one, at_one, at_zero, memory_alone, memory_said, same_order, words_bad}
+use Rattle.archive_run.proofs.CrashLemmas.{crash_of_finished, crash_of_unread}
 use Rattle.archive_run.proofs.OverLemmas.{ends_over, ends_unread, runs_over}
 use Rattle.archive_run.proofs.running.run.Goals as goal
 
@@ -17,10 +19,16 @@ returns-in-Ok-clause-done g c =
     g.Y.Threaders.Threaders.makes g.Y.Input.Source g.Y.Output.Sink g.Y.Output.BufferedSink g.Y.Faults.Sink in
     let old = c.args.world.now in
     let mid = c.run_order-done.new.world in
-    let it = at_zero _ _ (RunsOrder dev old mid c.in-Ok.asked) c.run_order-done.result c.finish.result c.finish.ensures c.run_order-done.ensures zero in
+    let it = at_zero _ _ (RunsOrder dev old mid c.in-Ok.asked) c.run_order-done.result c.finish.result c.finish.ensures c.run_order-done.ensures.runs zero in
     let P : Order → Type 0 = λ o. RunsOrder dev old mid o (Ok tt) in
     let Q : g.row.Y-Faults.Denot → Type 0 = λ f. RunsOrder dev old (record mid { faults = f }) order (Ok tt) in
-    subst Q (sym it.2) (subst P (same_order _ _ _ c.in-Ok.ensures.ok given.1) it.1)
+    let runs = subst Q (sym it.2) (subst P (same_order _ _ _ c.in-Ok.ensures.ok given.1) it.1) in
+    record {
+      runs_order = runs;
+      runs_on_archive = runs_over dev g.met.Y.Platform.opens_held g.met.Y.Platform.closes_held
+          g.met.Y.Ports.Listener.Listener.accepts_none g.met.Y.Ports.Listener.Listener.closes_one g.met.Y.Ports.Ports.listens_none
+          old (record c.run_order-done.new.world { faults = c.finish.new.faults }) order runs;
+    }
 
 pub returns-in-Ok-clause-refused : goal.returns-in-Ok-clause-refused
 returns-in-Ok-clause-refused g c =
@@ -30,7 +38,7 @@ returns-in-Ok-clause-refused g c =
     g.Y.Threaders.Threaders.makes g.Y.Input.Source g.Y.Output.Sink g.Y.Output.BufferedSink g.Y.Faults.Sink in
     let old = c.args.world.now in
     let mid = c.run_order-done.new.world in
-    let it = at_one _ _ (RunsOrder dev old mid c.in-Ok.asked) c.run_order-done.result c.finish.result c.finish.ensures c.run_order-done.ensures one in
+    let it = at_one _ _ (RunsOrder dev old mid c.in-Ok.asked) c.run_order-done.result c.finish.result c.finish.ensures c.run_order-done.ensures.runs one in
     let P : Order → Type 0 = λ o. RunsOrder dev old mid o (Err it.0) in
     let cause = subst P (same_order _ _ _ c.in-Ok.ensures.ok given.1) it.1 in
     record {
@@ -42,16 +50,16 @@ returns-in-Ok-clause-refused g c =
           g.met.Y.Ports.Listener.Listener.accepts_none g.met.Y.Ports.Listener.Listener.closes_one g.met.Y.Ports.Ports.listens_none old mid order it.0 cause;
     }
 
-pub returns-in-Ok-clause-holds : goal.returns-in-Ok-clause-holds
-returns-in-Ok-clause-holds g c =
-    λ order given zero.
+pub returns-in-Ok-clause-crash : goal.returns-in-Ok-clause-crash
+returns-in-Ok-clause-crash g c =
+    λ order given.
     let dev = devices g.Y.Storage.Store g.Y.Files.ReadFiles g.Y.Files.StreamedFiles g.Y.Files.Input.Source g.Y-Databases-Databases g.Y.Clock.DayClock
     g.Y.Ports.Ports.listens g.Y.Ports.Listener.Listener.accepts g.Y.Ports.Listener.Listener.closes g.Y.Ports.Listener.Listener.over g.Y.Ports.Ports.went
     g.Y.Threaders.Threaders.makes g.Y.Input.Source g.Y.Output.Sink g.Y.Output.BufferedSink g.Y.Faults.Sink in
-    runs_over dev g.met.Y.Platform.opens_held g.met.Y.Platform.closes_held
-    g.met.Y.Ports.Listener.Listener.accepts_none g.met.Y.Ports.Listener.Listener.closes_one g.met.Y.Ports.Ports.listens_none
-    c.args.world.now (record c.run_order-done.new.world { faults = c.finish.new.faults }) order
-    (returns-in-Ok-clause-done g c order given zero)
+    let old = c.args.world.now in
+    let mid = c.run_order-done.new.world in
+    let P : Order → Type 0 = λ o. CrashRunsOrder dev old mid o in
+    crash_of_finished dev old mid c.finish.new.faults order (subst P (same_order _ _ _ c.in-Ok.ensures.ok given.1) c.run_order-done.ensures.crash)
 
 pub returns-in-Ok-clause-bad : goal.returns-in-Ok-clause-bad
 returns-in-Ok-clause-bad g c =
@@ -91,17 +99,14 @@ returns-in-Err-clause-refused g c =
           g.met.Y.Ports.Listener.Listener.accepts_none g.met.Y.Ports.Listener.Listener.closes_one g.met.Y.Ports.Ports.listens_none old old order;
     }
 
-pub returns-in-Err-clause-holds : goal.returns-in-Err-clause-holds
-returns-in-Err-clause-holds g c =
-    λ order given zero.
+pub returns-in-Err-clause-crash : goal.returns-in-Err-clause-crash
+returns-in-Err-clause-crash g c =
+    λ order given.
     let dev = devices g.Y.Storage.Store g.Y.Files.ReadFiles g.Y.Files.StreamedFiles g.Y.Files.Input.Source g.Y-Databases-Databases g.Y.Clock.DayClock
     g.Y.Ports.Ports.listens g.Y.Ports.Listener.Listener.accepts g.Y.Ports.Listener.Listener.closes g.Y.Ports.Listener.Listener.over g.Y.Ports.Ports.went
     g.Y.Threaders.Threaders.makes g.Y.Input.Source g.Y.Output.Sink g.Y.Output.BufferedSink g.Y.Faults.Sink in
     let old = c.args.world.now in
-    runs_over dev g.met.Y.Platform.opens_held g.met.Y.Platform.closes_held
-    g.met.Y.Ports.Listener.Listener.accepts_none g.met.Y.Ports.Listener.Listener.closes_one g.met.Y.Ports.Ports.listens_none
-    old (record old { output = c.report_parse_error.new.output; faults = c.report_parse_error.new.faults }) order
-    (returns-in-Err-clause-done g c order given zero)
+    crash_of_unread dev old (record old { output = c.report_parse_error.new.output; faults = c.report_parse_error.new.faults }) refl order
 
 pub returns-in-Err-clause-bad : goal.returns-in-Err-clause-bad
 returns-in-Err-clause-bad g c =

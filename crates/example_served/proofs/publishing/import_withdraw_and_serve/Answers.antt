@@ -14,10 +14,11 @@ returns-clause-published g c =
     let one = c.run-imported.ensures in
     let two = c.run-withdrawn.ensures in
     let three = c.run.ensures in
+    let imports = one.done (Import (import_args_of it)) words.imports c.if-imported-ne0.false in
+    let withdraws = two.done (Table (withdraw_args_of it)) words.withdraws c.if-withdrawn-ne0.false in
+    let serves = three.done (Serve (serve_args_of it)) words.serves zero in
     published dev c.args.world.now c.run-imported.new.world c.run-withdrawn.new.world c.run.new.world it
-    (one.done (Import (import_args_of it)) words.imports c.if-imported-ne0.false) (one.holds (Import (import_args_of it)) words.imports c.if-imported-ne0.false)
-    (two.done (Table (withdraw_args_of it)) words.withdraws c.if-withdrawn-ne0.false) (two.holds (Table (withdraw_args_of it)) words.withdraws c.if-withdrawn-ne0.false)
-    (three.done (Serve (serve_args_of it)) words.serves zero) (three.holds (Serve (serve_args_of it)) words.serves zero)
+    imports.runs_order imports.runs_on_archive withdraws.runs_order withdraws.runs_on_archive serves.runs_order serves.runs_on_archive
 
 pub returns-then-withdrawn-ne0-clause-stopped : goal.returns-then-withdrawn-ne0-clause-stopped
 returns-then-withdrawn-ne0-clause-stopped g c =
