@@ -10,27 +10,33 @@ use Rattle.sqlite_trees.specs.Tree.{Trees}
 use Rattle.sqlite_trees.specs.Objects.{catalog_tree}
 use Rattle.sqlite_catalog.specs.Listing.{Lists}
 use Rattle.sqlite_store.specs.declared.store.FileStore.{FileStore}
-use Rattle.sqlite_store.specs.FileStore.{view}
+use Rattle.sqlite_store.specs.FileStore.{recovers, view}
 use Rattle.sqlite_trees.specs.View.{IsClean}
 use Rattle.sqlite.specs.Effect.{Database}
 use Rattle.sqlite.specs.declared.error.Error.{Error}
 use Rattle.sqlite.specs.Files.{over_files, file_state, image_of, FailsToClose, HoldsDatabase, IsClosed}
 use Rattle.archive_model.specs.Records.{Archive}
+use Rattle.archive_tables.specs.Crashes.{IsArchiveStored}
 use Rattle.archive_tables.specs.Tables.{newest_version}
 use Rattle.archive_store.specs.Held.{store_connection}
 use Rattle.archive_store.specs.Told.{HoldsTables, IsOpen, archive_in}
 use Rattle.archive_store.specs.declared.store.Store.{Store}
 use Rattle.archive.specs.Opening.{ImageHoldsArchive, HoldsIfSome, holds_if_some_of_none}
 
--- what a close gives: the files, or why it failed
-abbrev pub CloseResult : Type 0 → Type 0
-CloseResult D = Result (Files D) Error
+-- what a close gives: the files; or why it failed, and the store as the close left it
+abbrev pub CloseResult : {D : Type 0} → Ghosts D → Type 0
+CloseResult {D} g = Result (Files D) (Error × FileStore D g)
 
--- Where the disk has returned what was written to it, the rows of the files that a close handed back stand for this archive.
-abbrev pub CloseResultHoldsArchive : {D : Type 0} → Ghosts D → Option (CloseResult D) → Archive → Type 0
+-- If the disk has returned what was written to it, each database that a crash may leave of this store is this archive's.
+abbrev pub CrashLeavesArchive : {D : Type 0} {g : Ghosts D} → FileStore D g → Archive → Type 0
+CrashLeavesArchive last archive = IsClean (view last) → (db : Trees) → recovers last db → IsArchiveStored archive db
+
+-- If the disk has returned what was written to it, the rows of the files that a close handed back stand for this archive. If the close
+-- failed, a crash leaves this archive of the store.
+abbrev pub CloseResultHoldsArchive : {D : Type 0} (g : Ghosts D) → Option (CloseResult g) → Archive → Type 0
 CloseResultHoldsArchive g None archive = ⊤
 CloseResultHoldsArchive g (Some (Ok files)) archive = AreClean g files.log files.db → ∥ ImageHoldsArchive (image_of g files) archive ∥₁
-CloseResultHoldsArchive g (Some (Err error)) archive = ⊤
+CloseResultHoldsArchive g (Some (Err failed)) archive = CrashLeavesArchive failed.1 archive
 
 module _ {D : Type 0} {g : Ghosts D} where
   -- The files of a store that was open hold what was committed, with a catalog that lists its schema.
@@ -39,9 +45,12 @@ module _ {D : Type 0} {g : Ghosts D} where
       → ∥ HoldsDatabase (image_of g files) (file_state (store_connection store)).committed.trees ∥₁
       × Lists ((file_state (store_connection store)).now.trees catalog_tree) (file_state (store_connection store)).now.schema
 
-  -- The close failed with this error, which has its cause, and left what a stop of the machine might have left before it.
-  abbrev pub FailedToClose : Store (FileStore D g) → Error → Type 0
-  FailedToClose store error = (last : FileStore D g) × IsClosed (store_connection store) last × (IsClean (view last) → FailsToClose (store_connection store) last error)
+  -- The close failed with an error that has its cause. A crash may leave no more of the store than before the close: if the store held an
+  -- archive, that archive.
+  pub record FailedToClose (store : Store (FileStore D g)) (failed : Error × FileStore D g) : Type 0 where
+    pub is_closed : IsClosed (store_connection store) failed.1
+    pub error_has_cause : IsClean (view failed.1) → FailsToClose (store_connection store) failed.1 failed.0
+    pub leaves_archive : HoldsTables over_files store → CrashLeavesArchive failed.1 (archive_in over_files store)
 
   -- Something came of the close: the files hold what was committed, or it failed.
   abbrev pub IsCloseResultOf : Option (CloseResult g) → Store (FileStore D g) → Type 0
@@ -69,7 +78,7 @@ module _ {D : Type 0} {g : Ghosts D} (store : Store (FileStore D g)) where
   still_holds (Some (Ok files)) closed kept = λ clean.
       let it = closed clean kept.is_open in
       ∥∥₁_map it.0 (rows (image_of g files) kept it.1)
-  still_holds (Some (Err error)) closed kept = tt
+  still_holds (Some (Err failed)) closed kept = closed.leaves_archive kept
 
   pub close_result_holds_archive : {A : Type 0} (Says : Type 0) (before after : Option A) (left : Option (CloseResult g)) → (after ≡ before) × IsCloseResultOf left store → before ≡ None
       → HoldsTables over_files store → HoldsIfSome after Says × CloseResultHoldsArchive g left (archive_in over_files store)

@@ -1,3 +1,4 @@
+pub mod Unmade
 pub mod Opening
 pub mod Closing
 pub mod Refusing

@@ -1,6 +1,6 @@
 -- A store that was opened from files, by what the files held.
-use Rattle.std.proofs.Common.{◌≡◌, ◌∙◌, ap, refl, subst, sym, ℕ, Option, Some, None}
-use Rattle.std.specs.Prelude.{MatchOption, ⊤}
+use Rattle.std.proofs.Common.{◌≡◌, ◌∙◌, ap, inl, inr, refl, subst, sym, ℕ, Option, Some, None}
+use Rattle.std.specs.Prelude.{◌⊎◌, MatchOption, ⊤}
 use Rattle.sqlite_disk.specs.declared.Disk.{Ghosts}
 use Rattle.sqlite_wal.specs.Recovery.{Image}
 use Rattle.sqlite_trees.specs.Tree.{Trees}
@@ -8,17 +8,21 @@ use Rattle.sqlite_trees.specs.Objects.{catalog_tree}
 use Rattle.sqlite_catalog.specs.Listing.{Lists}
 use Rattle.sqlite_catalog.proofs.ReadLemmas.{lists_once}
 use Rattle.sqlite_store.specs.declared.store.FileStore.{FileStore}
+use Rattle.sqlite.proofs.ListingLemmas.{empty_is_sound}
 use Rattle.sqlite.specs.Effect.{Database}
-use Rattle.sqlite.specs.Files.{over_files, file_state, HoldsDatabase, IsOpened}
+use Rattle.sqlite.specs.Files.{over_files, file_state, HoldsDatabase, IsNothing, IsOpened}
 use Rattle.sqlite.specs.Held.{Held}
+use Rattle.sqlite.specs.Schema.{Schema}
 use Rattle.sqlite.specs.Start.{FindsIn}
 use Rattle.sqlite.specs.State.{HasCleanDisk}
 use Rattle.archive_model.specs.Records.{Archive}
-use Rattle.archive_tables.specs.Schema.{schema_of_version}
+use Rattle.archive_tables.specs.Schema.{empty_schema, schema_of_version}
 use Rattle.archive_tables.specs.Tables.{IsOpenArchiveInFormat, IsKnownVersion, AreTablesOfVersion, archive_of_version, format_of_version}
+use Rattle.archive_tables.specs.Making.{empty_archive}
 use Rattle.archive_store.specs.Adopting.{IsAdopted}
 use Rattle.archive_store.specs.declared.store.Store.{Store}
 use Rattle.archive_run.specs.Remembering.{StoreHoldsArchive}
+use Rattle.archive.specs.Unmade.{finds_no_row}
 
 -- The log and the database file hold tables of some version, 1 to 3, whose rows stand for this archive, whatever is filed of a message.
 pub record ImageHoldsArchive (image : Image) (archive : Archive) : Type 0 where
@@ -29,6 +33,14 @@ pub record ImageHoldsArchive (image : Image) (archive : Archive) : Type 0 where
   pub schema : Lists (trees catalog_tree) (schema_of_version number)
   pub are_tables_of_version : AreTablesOfVersion number trees
   pub rows_stand_for_archive : archive_of_version number trees ≡ archive
+
+-- No table was made yet: the database file is absent, empty or left half made by an open, or its catalog is empty.
+abbrev pub IsNewFile : Image → Type 0
+IsNewFile image = IsNothing image ⊎ ((trees : Trees) × HoldsDatabase image trees × Lists (trees catalog_tree) empty_schema)
+
+-- The files hold tables that stand for this archive; or they are new, and this is the empty archive.
+abbrev pub FileHoldsArchive : Image → Archive → Type 0
+FileHoldsArchive image archive = ImageHoldsArchive image archive ⊎ (IsNewFile image × (archive ≡ empty_archive))
 
 -- This is so while there is a value, and nothing is said once it is used up.
 abbrev pub HoldsIfSome : {A : Type 0} → Option A → Type 0 → Type 0
@@ -44,27 +56,48 @@ module _ {D : Type 0} {g : Ghosts D} (image : Image) (store : Store (FileStore D
 
 -- ---- the laws of a system's device
 
+module _ {D : Type 0} {g : Ghosts D} (image : Image) (connection : Held (FileStore D g)) (opens : IsOpened connection) where
+  -- a catalog lists one schema only
+  has_schema : (trees : Trees) (schema : Schema) → (file_state connection).now.trees ≡ trees → Lists (trees catalog_tree) schema → (file_state connection).now.schema ≡ schema
+  has_schema trees schema same lists =
+      lists_once _ _ _ (subst (λ (db : Trees). Lists (db catalog_tree) (file_state connection).now.schema) same (opens.1 opens.0.is_open).0.lists) lists
+
+  found_trees : FindsIn image (file_state connection) → (trees : Trees) → HoldsDatabase image trees → (file_state connection).now.trees ≡ trees
+  found_trees found trees held = ap (λ (db : Database). db.trees) opens.0.clean ∙ found.holds trees held
+
+  finds_no_table : FindsIn image (file_state connection) → IsNewFile image → (file_state connection).now.schema ≡ empty_schema
+  finds_no_table found (inl nothing) =
+      let none = finds_no_row image (file_state connection).committed.trees nothing found.reads in
+      has_schema (file_state connection).committed.trees empty_schema (ap (λ (db : Database). db.trees) opens.0.clean) (empty_is_sound (file_state connection).committed.trees none).lists
+  finds_no_table found (inr empty) = has_schema empty.0 empty_schema (found_trees found empty.0 empty.1) empty.2
+
+  finds_tables : FindsIn image (file_state connection) → (archive : Archive) → (held : ImageHoldsArchive image archive)
+      → IsOpenArchiveInFormat (format_of_version held.number) None (file_state connection) × (archive_of_version held.number (file_state connection).now.trees ≡ archive)
+  finds_tables found archive held =
+      let trees = found_trees found held.trees held.database in (
+        record {
+          is_open = opens.0.is_open;
+          autocommit = opens.0.autocommit;
+          committed_is = sym opens.0.clean;
+          schema = has_schema held.trees (schema_of_version held.number) trees held.schema;
+          tables = subst (AreTablesOfVersion held.number) (sym trees) held.are_tables_of_version;
+          rollback_leaves_archive = tt;
+        },
+        ap (archive_of_version held.number) trees ∙ held.rows_stand_for_archive,
+      )
+
 module _ {D : Type 0} {g : Ghosts D} (image : Image) where
-  -- so it remembers what the files held
-  pub opened_store_holds_archive : (store : Store (FileStore D g)) (archive : Archive) → IsOpenedFromImage image store → ImageHoldsArchive image archive → StoreHoldsArchive over_files store archive
-  opened_store_holds_archive store archive was held returned =
-      let it = was.connection in
-      let clean = was.adopted.returned returned in
-      let opens = was.opened clean in
-      let trees : (file_state it).now.trees ≡ held.trees =
-      ap (λ (db : Database). db.trees) opens.0.clean ∙ (was.found clean).holds held.trees held.database in
-      let lists = (opens.1 opens.0.is_open).0.lists in
-      let schema = lists_once _ _ _ (subst (λ (db : Trees). Lists (db catalog_tree) (file_state it).now.schema) trees lists) held.schema in
-      let is : IsOpenArchiveInFormat (format_of_version held.number) None (file_state it) = record {
-        is_open = opens.0.is_open;
-        autocommit = opens.0.autocommit;
-        settled = sym opens.0.clean;
-        schema = schema;
-        tables = subst (AreTablesOfVersion held.number) (sym trees) held.tables;
-        whole = tt;
-      } in
-      let brought = was.adopted.brought returned held.number held.known is in
-      (brought.0, brought.1 ∙ ap (archive_of_version held.number) trees ∙ held.rows_stand_for_archive)
+  -- the store remembers what the files held: of new files, the empty archive
+  pub opened_store_holds_archive : (store : Store (FileStore D g)) (archive : Archive) → IsOpenedFromImage image store → FileHoldsArchive image archive → StoreHoldsArchive over_files store archive
+  opened_store_holds_archive store archive was (inl held) returned =
+      let clean = was.is_adopted.disk_was_clean returned in
+      let found = finds_tables image was.connection (was.is_opened clean) (was.finds_image clean) archive held in
+      let brought = was.is_adopted.migrates_older returned held.number held.is_known_version found.0 in
+      (brought.0, brought.1 ∙ found.1)
+  opened_store_holds_archive store archive was (inr new) returned =
+      let clean = was.is_adopted.disk_was_clean returned in
+      let made = was.is_adopted.makes_if_empty returned (finds_no_table image was.connection (was.is_opened clean) (was.finds_image clean) new.0) in
+      (made.0, made.1 ∙ sym new.1)
 
   pub opened_store_holds_if_some : {A : Type 0} (start : Option A) (archive : Archive) (store : Store (FileStore D g)) → HoldsIfSome start (FileHoldsArchive image archive)
       → (start ≡ None → ⊥) → IsOpenedFromImage image store → StoreHoldsArchive over_files store archive

@@ -1,5 +1,5 @@
 -- What the program comes to, by the words of its command line.
-use Rattle.std.specs.Prelude.{◌≡◌, ◌<◌, ◌≤◌, ◌⊎◌, ℕ, List, Option, None, false, Ok}
+use Rattle.std.specs.Prelude.{◌≡◌, ◌<◌, ◌≤◌, ◌⊎◌, ℕ, List, Option, None, false}
 use Rattle.clap.specs.Words.{takes}
 use Rattle.archive_args.specs.Program.{archive_app}
 use Rattle.archive_args.specs.Orders.{IsUsageError, IsOrderStopOf, order_of_args}
@@ -24,10 +24,11 @@ module _ {Y S F D C P T R O E I L K A B M : Type 0} (dev : DeviceContracts S F I
   -- What `run` says of these words, at the status that it answers.
   pub record EndsRun (words : List (List ℕ)) (new : Environment Y S F D C P T R O E I L K A B M) (status : ℕ) : Type 0 where
     -- at 0 the order was carried out, whole, and its database holds what the order makes of the archive that it held
-    pub done : (order : Order) → ParseAsOrder words order → status ≡ 0 → RunsOrder dev old new order (Ok tt)
-    pub holds : (order : Order) → ParseAsOrder words order → status ≡ 0 → RunsOrderOnArchive dev old new order
+    pub when_0 : (order : Order) → ParseAsOrder words order → status ≡ 0 → OrderIsCarriedOut dev old new order
     -- at 1 it was refused for a reason that holds, and one line tells it
-    pub refused : (order : Order) → ParseAsOrder words order → status ≡ 1 → OrderIsRefused dev old new order
+    pub when_1 : (order : Order) → ParseAsOrder words order → status ≡ 1 → OrderIsRefused dev old new order
+    -- at each status: what a crash leaves of the database of the order, at each moment while it is open
+    pub when_crashed : (order : Order) → ParseAsOrder words order → CrashRunsOrder dev old new order
     -- at 2 the words are bad
     pub when_2 : status ≡ 2 → IsUsageError words × ((takes archive_app words ≡ false) ⊎ (order_of_args words ≡ None))
     -- an order ends with 0 or 1; words that give none by why they give none

@@ -10,7 +10,7 @@ use Rattle.sqlite_std_file.specs.declared.pair.OpenError.{OpenError}
 use Rattle.sqlite_std_file.specs.declared.pair.OpenError.TheVariants as opening
 use Rattle.sqlite_wal.specs.Recovery.{Image}
 use Rattle.sqlite_store.specs.declared.store.FileStore.{FileStore}
-use Rattle.sqlite.specs.Files.{over_files, file_state, image_of, FailsToOpenFiles, IsCleanLeft, IsOpened}
+use Rattle.sqlite.specs.Files.{over_files, file_state, image_of, FailsToOpenFiles, IsCleanLeft, IsClosed, IsOpened, LeavesFiles}
 use Rattle.sqlite.specs.Held.{Held}
 use Rattle.sqlite.specs.Start.{FindsIn}
 use Rattle.sqlite.specs.State.{HasCleanDisk}
@@ -41,15 +41,17 @@ store_fault_of_open_error opening.HotJournal = Store
 -- what a system gave, and the name of a database whose files held this
 module _ {R D : Type 0} (g : Ghosts D) (seeds : R → Bool → Type 0) (opens : R → List ℕ → Option OpenError → Type 0) (system : R) (name : List ℕ)
     (image : Image) where
-  -- The files were opened, and no connection came of them, by what the database says of files that it does not open.
+  -- The files were opened, and no connection came of them, by what the database says of files that it does not open. It says what it
+  -- leaves of the files: only if there was no database, they may have been written over.
   pub record FailsToReadFiles (fault : StoreFault) : Type 0 where
     pub opens_name : opens system name None
     pub files : Files D
     pub image_is : image_of g files ≡ image
     pub leftover : Leftover D g
     pub error : Error
-    pub cause : IsCleanLeft left → FailsToOpenFiles files left error
-    pub told : fault ≡ store_fault_of_error error
+    pub cause : IsCleanLeft leftover → FailsToOpenFiles files leftover error
+    pub leaves_files : IsCleanLeft leftover → LeavesFiles files leftover
+    pub fault_is_of_error : fault ≡ store_fault_of_error error
 
   -- No connection: E15 if the name stands for no file, or the system gave no random bytes; or the files were not opened, or not read.
   abbrev pub FailsToConnect : StoreFault → Type 0
@@ -57,15 +59,18 @@ module _ {R D : Type 0} (g : Ghosts D) (seeds : R → Bool → Type 0) (opens : 
       (IsTrue (is_memory_or_uri_name name) × (fault ≡ Store))
       ⊎ ((seeds system false × (fault ≡ Store)) ⊎ (((error : OpenError) × opens system name (Some error) × (fault ≡ store_fault_of_open_error error)) ⊎ FailsToReadFiles fault))
 
-  -- A connection found what the files held, and the store did not take it over, for this fault.
+  -- A connection found what the files held, and the store did not take it over, for this fault. The connection was closed, so a crash may
+  -- leave no more of it than before the close.
   pub record FailsToAdopt (fault : StoreFault) : Type 0 where
     pub opens_name : opens system name None
     pub connection : Held (FileStore D g)
     pub finds_image : HasCleanDisk (file_state connection) → FindsIn image (file_state connection)
     pub is_opened : HasCleanDisk (file_state connection) → IsOpened connection
     pub stop : AdoptStop (FileStore D g)
-    pub left : IsNotAdopted over_files connection stop
-    pub told : fault ≡ stop.fault
+    pub is_not_adopted : IsNotAdopted over_files connection stop
+    pub last : FileStore D g
+    pub is_closed : IsClosed stop.connection last
+    pub fault_is_of_stop : fault ≡ stop.fault
 
   -- no archive: there is no connection, or the store did not take it over
   abbrev pub FailsToOpenStore : StoreFault → Type 0

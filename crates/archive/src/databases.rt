@@ -1,7 +1,7 @@
 //! The archives in a system's files.
 ghost use Rattle.std.specs.Prelude.{◌≡◌, false, None, IfErr, IfOk, MatchResult};
 ghost use Rattle.sqlite_wal.specs.Files.{image_at};
-ghost use Rattle.sqlite.specs.Files.{file_state, IsOpened};
+ghost use Rattle.sqlite.specs.Files.{file_state, IsClosed, IsOpened};
 ghost use Rattle.sqlite.specs.Start.{FindsIn};
 ghost use Rattle.sqlite.specs.State.{HasCleanDisk};
 ghost use Rattle.archive_port.specs.Replies.{refusal_of_fault};
@@ -85,6 +85,16 @@ fn connect<R: HasDatabaseFiles, S: Start>(
     }
 }
 
+/// Closes a connection and its files. If the log cannot be copied into the database file now, it stays as it is.
+fn close_connection<D: Disk + Drop>(connection: Connection<FileStore<D>>)
+    ensures { (last : _) × IsClosed connection last }
+{
+    match connection.close_files() {
+        Ok(_files) => {}
+        Err((_error, _last)) => {}
+    }
+}
+
 /// The archive in the file of this name, which held what `start` stands for.
 fn take_over<R: HasDatabaseFiles, S: Start>(
     alloc: Global,
@@ -105,40 +115,39 @@ fn take_over<R: HasDatabaseFiles, S: Start>(
         Ok(store) => Ok(store),
         Err(stop) => {
             let fault = stop.fault;
-            let _closed = stop.connection.close();
+            close_connection(stop.connection);
             Err(fault)
         }
     }
 }
 
-/// Closes a store, and hands its files back: what is committed is in the database file. Where it cannot be copied there now, it stays in
-/// the log, and the error is handed back.
-fn close_store<D: Disk + Drop>(store: Store<FileStore<D>>) -> Result<Files<D>, Error>
-    ensures { MatchResult result (λ files. FilesHoldCommitted store files) (λ error. FailedToClose store error) }
+/// Closes a store, and hands its files back: what is committed is in the database file. If it cannot be copied there now, it stays in
+/// the log, and the error is handed back with the store that is left.
+fn close_store<D: Disk + Drop>(
+    store: Store<FileStore<D>>,
+) -> Result<Files<D>, (Error, FileStore<D>)>
+    ensures { MatchResult result (λ files. FilesHoldCommitted store files) (λ failed. FailedToClose store failed) }
 {
     let connection = store.into_connection();
     // It says that an open connection is to a database.
     let _schema = connection.schema();
-    match connection.close_files() {
-        Ok(files) => Ok(files),
-        Err((error, _left)) => Err(error),
-    }
+    connection.close_files()
 }
 
 /// One of the system's files, as a database. `S` stands for what the file holds before it is opened, which no code can read; its value is
-/// used up by the opening, so a second one is E15. No order opens a database twice.
+/// used up by the opening, so a second one is E15. No order opens a database twice. `D` is the type of the opened files.
 #[derive(Drop)]
-pub struct SystemDatabases<'a, R, S: Start> {
+pub struct SystemDatabases<'a, R, S, D: Disk> {
     /// The system whose file it is.
     pub rt: &'a R,
     /// What the file holds, until it is opened.
     pub start: Option<S>,
-    /// Once the database was closed: the file and its log, or why that failed.
-    pub left: Option<Result<Files<FileFrom<S>>, Error>>,
+    /// Once the database was closed: the file and its log; or why that failed, and the store that was left.
+    pub left: Option<Result<Files<D>, (Error, FileStore<D>)>>,
 }
 
 impl<'a, R: HasDatabaseFiles, S: Start> Databases<Store<FileStore<FileFrom<S>>>>
-    for SystemDatabases<'a, R, S> {
+    for SystemDatabases<'a, R, S, FileFrom<S>> {
     ghost use Rattle.std.specs.Prelude.{◌≡◌, ◌⊎◌, None, IfErr, IfOk};
     ghost use Rattle.sqlite_wal.specs.Files.{image_at};
     ghost use Rattle.archive_port.specs.declared.faults.StoreFault.TheVariants.{Store as NoStore};
@@ -146,8 +155,9 @@ impl<'a, R: HasDatabaseFiles, S: Start> Databases<Store<FileStore<FileFrom<S>>>>
     ghost use Rattle.archive.specs.Closing.{IsCloseResultOf, CloseResultHoldsArchive};
     ghost use Rattle.archive.specs.Refusing.{FailsToOpenStore};
 
-    // What the file holds before it is opened, and once it was closed. While it is open, and behind a close that failed, nothing is said.
-    ghost holds = { λ it name archive. HoldsIfSome it.start (ImageHoldsArchive (image_at S.Start) archive) × CloseResultHoldsArchive ⟦<FileFrom<S> as Disk>⟧ it.left archive };
+    // What the file holds before it is opened, and once it was closed: if the close failed, what a crash leaves. While the file is open,
+    // nothing is said.
+    ghost holds = { λ it name archive. HoldsIfSome it.start (FileHoldsArchive (image_at S.Start) archive) × CloseResultHoldsArchive ⟦<FileFrom<S> as Disk>⟧ it.left archive };
 
     // It was not opened before, the system opened the files of this name, and the store comes of a connection that found what they held. Or
     // it is said why there is none.

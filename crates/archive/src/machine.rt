@@ -23,7 +23,7 @@ impl<'a, S: Start, I: Source + Drop, O: BufferedSink + Drop, E: Sink + Drop> Pla
 
     type Files = SystemFiles<'a, HostRuntime>;
 
-    type Databases = SystemDatabases<'a, HostRuntime, S>;
+    type Databases = SystemDatabases<'a, HostRuntime, S, FileFrom<S>>;
 
     type Clock = SystemClock<'a, HostRuntime>;
 

@@ -1,10 +1,7 @@
-use Rattle.archive.proofs.CloseLemmas.{failed_by, left_by}
+use Rattle.archive.proofs.CloseLemmas.{close_result}
 use Rattle.archive.proofs.databases.close_store.Goals as goal
 
-pub returns-in-Ok : goal.returns-in-Ok
-returns-in-Ok g c =
-    left_by c.args.store c.in-Ok.files c.into_connection-connection.result c.into_connection-connection.ensures c.schema-schema.ensures.live
-    c.in-Ok.ensures.copied
-
-pub returns-in-Err : goal.returns-in-Err
-returns-in-Err g c = failed_by c.args.store c.in-Err.error c.in-Err._left c.into_connection-connection.result c.into_connection-connection.ensures c.in-Err.ensures.err
+pub returns : goal.returns
+returns g c =
+    close_result g.met.D.Disk.seen_may_stay c.args.store c.close_files.result c.into_connection-connection.result c.into_connection-connection.ensures
+    c.schema-schema.ensures.live c.close_files.ensures.copied c.close_files.ensures.err

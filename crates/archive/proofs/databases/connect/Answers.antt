@@ -1,4 +1,4 @@
-use Rattle.std.proofs.Common.{◌≡◌, Bool, List, ℕ, ap₂, cond, subst, inl, inr}
+use Rattle.std.proofs.Common.{Bool, List, ℕ, ap₂, cond, subst, inr}
 use Rattle.sqlite_disk.specs.Events.{Event, replay}
 use Rattle.sqlite_wal.specs.Recovery.{Image}
 use Rattle.sqlite.specs.Files.{file_state}
@@ -29,5 +29,6 @@ returns-in-Err-open_files-clause-cause g c =
       leftover = c.in-Err-open_files._left;
       error = c.in-Err-open_files.error;
       cause = c.in-Err-open_files.ensures.cause;
-      told = c.database_fault.ensures.value;
+      leaves_files = c.in-Err-open_files.ensures.unharmed;
+      fault_is_of_error = c.database_fault.ensures.value;
     })))

@@ -13,12 +13,15 @@ returns-in-Ok-adopt-clause-opened g c = record {
 }
 
 pub returns-in-Err-adopt-clause-cause : goal.returns-in-Err-adopt-clause-cause
-returns-in-Err-adopt-clause-cause g c = inr (record {
-  named = c.in-Ok.ensures.named;
-  connection = c.in-Ok.connection;
-  found = c.in-Ok.ensures.found;
-  opened = c.in-Ok.ensures.opened;
-  stop = c.in-Err-adopt.stop;
-  left = c.in-Err-adopt.ensures.refused;
-  told = refl;
-})
+returns-in-Err-adopt-clause-cause g c =
+    inr (record {
+      opens_name = c.in-Ok.ensures.named;
+      connection = c.in-Ok.connection;
+      finds_image = c.in-Ok.ensures.found;
+      is_opened = c.in-Ok.ensures.opened;
+      stop = c.in-Err-adopt.stop;
+      is_not_adopted = c.in-Err-adopt.ensures.refused;
+      last = c.close_connection.ensures.0;
+      is_closed = c.close_connection.ensures.1;
+      fault_is_of_stop = refl;
+    })
