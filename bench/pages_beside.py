@@ -8,7 +8,8 @@ of about 500 mails and the mbox are asked of `serve`, of the bare loop crates/li
 a file of the same bytes, where it is there: in turn, a new connection for each request, each asked once before. All threads are also
 asked of a server that was just started, by --before too, over the same file. It prints microseconds of a processor that the server
 took for a page, as the scheduler counts them, and milliseconds by the clock: medians of the rounds, and of the ratios of each round.
-Asked for, of a processor: a message at most 2.0 times the bare loop, the thread 3, all threads 4; the first ones 0.6 of before.
+Asked for, of a processor: a message at most 2.0 times the bare loop, the thread, the month and the mbox 3, all threads 4; the first
+ones 0.6 of before.
 Build the programs first: ./archive --version, (cd crates/listen_probe && rt run).
 """
 import argparse, collections, hashlib, os, pathlib, random, re, shutil, socket, statistics, subprocess, sys, tempfile, time
@@ -20,7 +21,8 @@ from serving import ROOT, Bare, Server, get, heard, make_archive, stop_unless_bu
 LONG = 2_000
 MONTH = 500
 MOST_BYTES = 400_000_000  # of one page in one round, where that is more than one request
-ASKED = {"message": 2.0, "thread of 2,000": 3.0, "all threads": 4.0}
+# At most so many times the bare loop, by how a page's name begins.
+ASKED = {"message": 2.0, "thread of": 3.0, "month of": 3.0, "all threads": 4.0, "mbox": 3.0}
 THREADS = "/l/many/threads"
 LIGHTTPD = """server.port = {port}
 server.bind = "127.0.0.1"
@@ -136,6 +138,12 @@ def first_threads(program, db, policy):
     return found
 
 
+def asked_of(name):
+    """What is asked for of a page, if anything is: of a page that is asked for the first time nothing."""
+    limits = [most for begins, most in ASKED.items() if name.startswith(begins) and not name.endswith("first")]
+    return f"; at most {limits[0]:g} of the bare loop is asked for" if limits else ""
+
+
 def show(name, size, rounds):
     """Prints a page's line: of each server the medians, and of the ratios to the others."""
     cells = []
@@ -145,7 +153,7 @@ def show(name, size, rounds):
         if who != "serve":
             over, by_clock = ([it["serve"][kind] / it[who][kind] for it in rounds] for kind in (0, 1))
             cells[-1] += f": {statistics.median(over):6.2f} of it, from {min(over):.2f} to {max(over):.2f} ({statistics.median(by_clock):6.2f})"
-    print(f"{name:19} {size:11,} bytes  " + "; ".join(cells) + (f"; at most {ASKED[name]:g} of the bare loop is asked for" if name in ASKED else ""), flush=True)
+    print(f"{name:19} {size:11,} bytes  " + "; ".join(cells) + asked_of(name), flush=True)
 
 
 def made(words, folder):
@@ -206,7 +214,7 @@ def main():
     words.add_argument("--requests", type=int, default=500)
     words.add_argument("--folder", help="make files in this folder")
     given = words.parse_args()
-    stop_unless_built(given.archive, given.probe)
+    stop_unless_built(given.archive, given.probe, *([given.before] if given.before else []))
     with tempfile.TemporaryDirectory(dir=given.folder) as folder:
         pathlib.Path(folder).chmod(0o755)
         print(f"{given.messages} mails, {given.rounds} rounds, load {os.getloadavg()[0]:.0f}; microseconds of a processor a page (milliseconds by the clock)")

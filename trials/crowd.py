@@ -4,34 +4,50 @@
   trials/crowd.py [--archive PROGRAM] [--mails COUNT] [--only WORD]
 
 Each case is tried with archive.conf as it is, and with a copy from which its limit was taken: there it has to fail, so that the case is
-known to try that limit. First a hundred mboxes at once of a list of COUNT mails, of which the reader is shown nothing: another address
-waits at most a second, or, on a slow machine, as long as two mboxes take. Then, before a stand-in for the archive that writes at once, readers that take nothing of mboxes, of pages and of a large page, and half heads. The
-crowd comes from 127.0.0.1 and other addresses of the loopback. With --only the cases with that word in their name. It wants nginx,
-openssl and Linux (`/proc`). The last line is 'N passed, N failed, N skipped'.
+known to try that limit. First an address makes a hundred requests at once of a list of COUNT messages, of which all but one are shown: for
+all threads, for a month that has nearly all messages, for a message of 16 MB, for the mbox, for a message of usual size, for a denied key.
+Another address, which asks for the page of lists meanwhile, waits at most a second; beside mboxes, on a slow machine, as long as two of
+them take. Usual messages and denied keys are tried only with the limits: a hundred take the archive 0.01 s.
+
+Then, before a stand-in for the archive that writes at once, readers that take nothing of mboxes, of pages and of a large page, and half
+heads, after which another address is answered within 20 s. The crowd comes from 127.0.0.1 and other addresses of the loopback. With --only
+the cases with that word in their name. It wants nginx, openssl and Linux (`/proc`). The last line is 'N passed, N failed, N skipped'.
 """
-import contextlib, http.server, pathlib, re, socket, ssl, sys, tempfile, threading, time
+import collections, contextlib, functools, http.server, multiprocessing, pathlib, re, socket, ssl, sys, tempfile, threading, time
 
 from trial import ROOT, Server, Trial, output, words_of
-from serving import make_archive
+from serving import archive, make_archive
 from proxy import Proxy
+import mbox
 
-MEMBERS = '[[rule]]\nname = "members"\neffect = "allow"\nstandings = ["member"]\n'
+POLICY = '[[rule]]\nname = "withdrawn"\neffect = "deny"\nwithdrawn = ["author", "board"]\n\n[[rule]]\nname = "all"\neffect = "allow"\n'
+FORK = multiprocessing.get_context("fork")
+CROWD, MOST_WAIT = 100, 1  # requests at once, and seconds
 MEGABYTE = 1_000_000
 OTHER = "127.0.0.2"
 TLS = ssl.create_default_context()
 TLS.check_hostname, TLS.verify_mode = False, ssl.CERT_NONE
 
 
-def opened(proxy, path, source, buffer=0):
-    """A connection by TLS from an address, on which a path was asked for."""
+def connected(proxy, source, buffer=0):
+    """A connection by TLS from an address."""
     peer = socket.socket()
     if buffer:
         peer.setsockopt(socket.SOL_SOCKET, socket.SO_RCVBUF, buffer)
     peer.settimeout(100)
     peer.bind((source, 0))
     peer.connect(("127.0.0.1", proxy.tls))
-    peer = TLS.wrap_socket(peer)
+    return TLS.wrap_socket(peer)
+
+
+def request(peer, path):
     peer.sendall(f"GET {path} HTTP/1.1\r\nHost: x\r\nConnection: close\r\n\r\n".encode())
+
+
+def opened(proxy, path, source, buffer=0):
+    """A connection on which a path was asked for."""
+    peer = connected(proxy, source, buffer)
+    request(peer, path)
     return peer
 
 
@@ -40,14 +56,20 @@ def status_of(peer):
     return peer.recv(12)[9:12].decode()
 
 
+def whole(peer):
+    """The status of a reply that is read to its end."""
+    status = status_of(peer)
+    with contextlib.suppress(ssl.SSLEOFError):
+        while peer.recv(65536):
+            pass
+    return status
+
+
 def ask(proxy, path, source):
     """The seconds until a reply was whole, and its status."""
     begun = time.monotonic()
     with opened(proxy, path, source) as peer:
-        status = status_of(peer)
-        with contextlib.suppress(ssl.SSLEOFError):
-            while peer.recv(65536):
-                pass
+        status = whole(peer)
     return time.monotonic() - begun, status
 
 
@@ -95,25 +117,51 @@ def settled(proxy):
     return now
 
 
-def crowd(proxy):
-    """A hundred mboxes at once by one address: how long one takes by itself, how long another address waits, and the statuses of each."""
-    got, (by_itself, _) = [], ask(proxy, "/l/big/mbox", OTHER)
-    crowd_of = [threading.Thread(target=lambda: got.append(ask(proxy, "/l/big/mbox", "127.0.0.1")[1])) for _ in range(100)]
-    for it in crowd_of:
+def ask_at_once(proxy, path, pipe):
+    """Has one address ask for a path a hundred times at once; tells the pipe when all have asked, and then the statuses."""
+    together, statuses = threading.Barrier(CROWD + 1, timeout=60), []
+
+    def one_of_them():
+        with connected(proxy, "127.0.0.1") as peer:
+            together.wait()
+            request(peer, path)
+            together.wait()
+            statuses.append(whole(peer))
+
+    those = [threading.Thread(target=one_of_them) for _ in range(CROWD)]
+    for it in those:
         it.start()
-    time.sleep(0.3)
-    waits = [ask(proxy, "/", OTHER) for _ in range(5)]
-    for it in crowd_of:
+    together.wait()
+    together.wait()
+    pipe.send(None)
+    for it in those:
         it.join()
-    return by_itself, max(seconds for seconds, _ in waits), {status for _, status in waits}, {it: got.count(it) for it in {*got}}
+    pipe.send(collections.Counter(statuses))
 
 
-def tried_crowd(trial, with_it, without):
-    by_itself, wait, others, crowd_was = with_it
-    trial.check("a hundred mboxes of one address: the status of another one", others, {"200"})
-    trial.holds("it waits at most a second, or as long as two mboxes by themselves", wait <= max(1, 2 * by_itself), f"{wait:.2f} s; an mbox takes {by_itself:.2f}; the crowd had {crowd_was}")
-    trial.holds("without the limits of mboxes it waits five times as long, and all of the crowd is answered", without[1] > 5 * wait and without[3] == {"200": 100},
-                f"{without[1]:.2f} s; the crowd had {without[3]}")
+def crowd(path, proxy):
+    """A hundred requests at once by one address: how long one takes by itself, how long another address waits, and the statuses of each."""
+    by_itself = [ask(proxy, path, OTHER)[0] for _ in range(2)][1]  # (the first one fills the cache)
+    ours, theirs = FORK.Pipe()
+    process = FORK.Process(target=ask_at_once, args=(proxy, path, theirs))  # (a process of its own, as threads of this one would delay the other address)
+    process.start()
+    theirs.close()
+    ours.recv()
+    waits = [ask(proxy, "/", OTHER)]
+    while not ours.poll(0.05):
+        waits.append(ask(proxy, "/", OTHER))
+    statuses = ours.recv()
+    process.join()
+    return by_itself, max(seconds for seconds, _ in waits), {status for _, status in waits}, dict(statuses)
+
+
+def tried_crowd(name, trial, with_it, without):
+    by_itself, wait, others, statuses = with_it
+    trial.check(f"a hundred times {name}, by one address: the status of another one", others, {"200"})
+    most = max(MOST_WAIT, 2 * by_itself) if name == "the mbox" else MOST_WAIT
+    trial.holds(f"it waits at most {most:.1f} s", wait <= most, f"{wait:.2f} s; by itself it takes {by_itself:.2f}; the crowd had {statuses}")
+    if without:
+        trial.holds("without the limit it waits more than twice as long", without[1] > 2 * wait, f"{without[1]:.2f} s; the crowd had {without[3]}")
 
 
 def one(proxy):
@@ -143,19 +191,16 @@ def tried_wholes(trial, with_it, without):
 
 
 def replies(proxy):
-    """One address asks for 120 pages and reads nothing of them: its statuses, and another one."""
+    """One address asks for twelve pages and reads nothing of them, and then for the style: its statuses, and another one."""
     with contextlib.ExitStack() as stack:
-        peers = []
-        for at in range(120):
-            peers.append(stack.enter_context(opened(proxy, "/l/6/threads", "127.0.0.1", 4096)))
-            time.sleep(0.06 if at >= 90 else 0.01)
-        statuses = [*map(status_of, peers)]
-        return {it: statuses.count(it) for it in sorted({*statuses})}, ask(proxy, "/", OTHER)[1]
+        peers = [stack.enter_context(opened(proxy, "/l/6/threads", "127.0.0.1", 4096)) for _ in range(12)]
+        statuses = collections.Counter(map(status_of, peers))
+        return dict(statuses), ask(proxy, "/archive.css", "127.0.0.1")[1], ask(proxy, "/", OTHER)[1]
 
 
 def tried_replies(trial, with_it, without):
-    trial.check("one address asks for 120 pages and reads none: its statuses, and another one", with_it, ({"200": 100, "429": 20}, "200"))
-    trial.check("without the limit all of them are held", without[0], {"200": 120})
+    trial.check("one address asks for twelve pages and reads none, and then for the style: its statuses, and another one", with_it, ({"200": 8, "429": 4}, "200", "200"))
+    trial.check("without the limit all pages are held", without[0], {"200": 12})
 
 
 def page(proxy):
@@ -191,58 +236,79 @@ def tried_half_heads(trial, with_it, without):
     trial.check("without the limit it is not", without, None)
 
 
-# Each case: the limit, what is tried of it, what has to be so.
+REPLIES, WHOLE, WHOLES = (f"  limit_conn archive_{it};\n" for it in ("replies 8", "whole 1", "wholes 4"))
+# What the crowd asks for, by the words of its case, and the limit of that; none where the archive needs none.
+CROWDS = {"all threads": REPLIES, "a month": REPLIES, "a large message": REPLIES, "the mbox": WHOLE + WHOLES, "a usual message": "", "a denied key": ""}
+# Each other case: the limit, what is tried of it, what has to be so.
 CASES = {
-    "crowd": ("  limit_conn archive_whole 1;\n  limit_conn archive_wholes 4;\n", crowd, tried_crowd),
-    "one": ("  limit_conn archive_whole 1;\n", one, tried_one),
-    "wholes": ("  limit_conn archive_wholes 4;\n", wholes, tried_wholes),
-    "replies": ("  limit_conn archive_replies 100;\n", replies, tried_replies),
+    "one": (WHOLE, one, tried_one),
+    "wholes": (WHOLES, wholes, tried_wholes),
+    "replies": (REPLIES, replies, tried_replies),
     "page": ("  proxy_max_temp_file_size 32m;\n", page, tried_page),
     "half heads": ("  client_header_timeout 10s;\n", half_heads, tried_half_heads),
 }
 
 
-def big_list(program, folder, count):
-    """A list of some mails that only members may read, and its policy."""
-    box, policy = folder / "big.mbox", folder / "policy.toml"
-    output(sys.executable, ROOT / "bench" / "gen_mbox.py", "--n", count, "--out", box)
-    policy.write_text(MEMBERS)
-    return make_archive(program, folder, box, "big"), policy
+def large(number):
+    """A message of 16 MB."""
+    return f"From: Anna <anna@example.org>\nSubject: large {number}\nDate: 2 Jan 2003 10:00:00 +0000\n\n".encode() + (b"x" * 79 + b"\n") * 200_000
 
 
-def begin_server(name, proxy, made):
-    """Begins what answers the proxy. Returns what ends it."""
-    if name != "crowd":
-        stand_in = StandIn(proxy.behind)
-        return lambda: (stand_in.shutdown(), stand_in.server_close())
-    program, db, policy = made
-    server = Server(program, db, 1_000_000, policy, port=proxy.behind)
-    return server.kill
+class Big:
+    """A served list that shows all but one of its messages, which has 16 MB, as one of the others."""
+
+    def __init__(self, program, folder, count):
+        box, shown, denied = folder / "big.mbox", large(1), large(2)
+        output(sys.executable, ROOT / "bench" / "gen_mbox.py", "--n", count, "--years", 0.05, "--out", box)
+        with open(box, "rb") as lines:
+            usual = next(text for _, _, text in mbox.messages(lines))
+        with open(box, "ab") as more:
+            more.writelines(b"From a@example.org Mon Mar 18 08:00:00 2024\n" + text + b"\n" for text in (shown, denied))
+        db, policy = make_archive(program, folder, box, "big"), folder / "policy.toml"
+        policy.write_text(POLICY)
+        archive(program, "withdraw", "--db", db, "big", mbox.key_of(denied), "author")
+        self.paths = {it: f"/l/big/{path}" for it, path in {
+            "all threads": "threads", "a month": "month/2003-01", "a large message": f"m/{mbox.key_of(shown)}", "the mbox": "mbox",
+            "a usual message": f"m/{mbox.key_of(usual)}", "a denied key": f"m/{mbox.key_of(denied)}"}.items()}
+        self.server = Server(program, db, 1_000_000, policy)
 
 
-def tried(name, without, made, folder):
-    """What a case finds, with its limit or without."""
-    limit, does, _ = CASES[name]
-    folder = folder / f"{name.replace(' ', '-')}-{'without' if without else 'with'}"
+def tried(folder, name, limit, does, behind=None):
+    """What a case finds, without a limit or with all of them."""
+    folder = folder / f"{name.replace(' ', '-')}-{'without' if limit else 'with'}"
     folder.mkdir()
-    with Proxy(folder, limit if without else "") as proxy:
-        end = begin_server(name, proxy, made)
-        try:
+    with Proxy(folder, limit, behind) as proxy:
+        if behind:
             return does(proxy)
-        finally:
-            end()
+        with StandIn(proxy.behind) as stand_in:
+            try:
+                return does(proxy)
+            finally:
+                stand_in.shutdown()
+
+
+def crowds(trial, big, folder, names):
+    for name in names:
+        does = functools.partial(crowd, big.paths[name])
+        with_it = tried(folder, name, "", does, big.server.port)
+        without = CROWDS[name] and tried(folder, name, CROWDS[name], does, big.server.port)
+        tried_crowd(name, trial, with_it, without)
 
 
 def main():
-    asked = words_of(__doc__, mails={"type": int, "default": 5000, "help": "how many mails the list has"},
+    asked = words_of(__doc__, mails={"type": int, "default": 50_000, "help": "how many messages the list has"},
                      only={"default": "", "help": "the cases with this word in their name"})
     with Trial() as trial, tempfile.TemporaryDirectory() as folder:
         if not all([trial.has(it) for it in ("nginx", "openssl")]):
             return
-        folder, names = pathlib.Path(folder), [it for it in CASES if asked.only in it]
-        made = (asked.archive, *big_list(asked.archive, folder, asked.mails)) if "crowd" in names else None
-        for name in names:
-            CASES[name][2](trial, tried(name, False, made, folder), tried(name, True, made, folder))
+        folder = pathlib.Path(folder)
+        if names := [it for it in CROWDS if asked.only in it]:
+            big = Big(asked.archive, folder, asked.mails - 2)
+            crowds(trial, big, folder, names)
+            big.server.kill()
+        for name, (limit, does, judged) in CASES.items():
+            if asked.only in name:
+                judged(trial, tried(folder, name, "", does), tried(folder, name, limit, does))
 
 
 if __name__ == "__main__":

@@ -1,21 +1,29 @@
 #!/usr/bin/env python3
-"""endings.py: how a server of samples/keep.sh ends: at midnight, where it says 503 to its end, and behind a proxy at a high rate.
+"""endings.py: how a server of samples/keep.sh ends: at midnight, where it says 503 to its end, and behind a proxy.
 
-  trials/endings.py [--archive PROGRAM] [--script KEEP.SH] [--mails 2000] [--rate 500]
+  trials/endings.py [--archive PROGRAM] [--script KEEP.SH] [--mails 2000] [--rate 500] [--large 50000] [--withdrawals 100] [--only PART]
 
-Midnight comes by a copy of the script that reads the day out of a file; a peer meanwhile reads a long mail slowly. The server that
-says 503 is a stand-in. Behind HAProxy (2.6) readers ask --rate times a second while ten changes come, to a server on one port, and to one that has a second
-port, where the slowest reply has to come sooner. Times are judged: 5 seconds
-until a server that has to end has ended, 10 until a command is served. The last line is 'N passed, N failed, N skipped'.
+The parts are midnight, ill, changes and withdrawals.
+
+  midnight     It comes by a copy of the script that reads the day out of a file; a peer meanwhile reads a long message slowly.
+  ill          The server that says 503 is a stand-in.
+  changes      Behind HAProxy (2.6) readers ask --rate times a second while ten changes come, to a server on one port, and to one that has a
+               second port, where the slowest reply has to come sooner.
+  withdrawals  Behind HAProxy, with a second port, so many messages of a list of --large are withdrawn, ten in a file of commands, the next
+               file once the last one is served. One reader meanwhile asks for a message a hundred times a second. No request may fail.
+
+Times are judged: 5 seconds until a server that has to end has ended, 10 until one of the ten changes is served, and 100 ms between two
+answers to the reader of withdrawals. The last line is 'N passed, N failed, N skipped'.
 """
 import hashlib, pathlib, re, shutil, socket, stat, sys, tempfile, threading, time
 
 from trial import ROOT, SAMPLES, Trial, begun, free_ports, output, words_of
 from keeper import Keeper
 from serving import get, heard
-import subprocess
+import mbox, subprocess
 
 TOKEN = "0123456789abcdef"
+IN_A_FILE, MOST_WAIT = 10, 0.1  # withdrawals in a file of commands, and seconds without an answer
 POLICY = '[[rule]]\nname = "members"\neffect = "deny"\nstandings = ["public"]\n\n[[rule]]\nname = "all"\neffect = "allow"\n'
 OPEN = '[[rule]]\nname = "all"\neffect = "allow"\n'
 # A program that serves 503 where the file `ill` is there when it begins, and is the real one else.
@@ -117,7 +125,7 @@ def midnight(trial, program, script, room, slowly):
     trial.check("stopped: status", keeper.stop(), 0)
 
 
-def ill(trial, program, script, room):
+def ill(trial, program, script, room, _):
     """A server that says 503 at two looks in a row is ended, and another one begins; one that said so once goes on."""
     keeper = Keeper(script, executable(room / "stand-in", STAND_IN.format(program=str(program))), room / "ill", MINUTE="1")
     keeper.put("policy.toml", OPEN)
@@ -183,55 +191,107 @@ def backend_of(script, port):
     return re.sub("^# ", "", lines, flags=re.MULTILINE).replace("127.0.0.1:8080", f"127.0.0.1:{port}")
 
 
-def behind_proxy(trial, program, script, room, rate, mails, second):
-    """Behind HAProxy no request fails while ten changes come, and each is served soon; with a second port the next server begins first."""
-    if not (trial.has("haproxy", "behind HAProxy") and trial.has("socat", "behind HAProxy")):
-        return None
-    room = room / ("two-ports" if second else "one-port")
+def has_proxy(trial, what):
+    return all([trial.has(it, what) for it in ("haproxy", "socat")])
+
+
+def behind_proxy(program, script, room, mails, second):
+    """keep.sh that serves a list behind HAProxy, with a second port or without; the port of HAProxy, and the messages."""
     room.mkdir()
-    folder, sockets, (front, other) = room / "proxied", room / "haproxy.sock", free_ports(2)
+    box, sockets, (front, other) = room / "proxied.mbox", room / "haproxy.sock", free_ports(2)
     more = {"SECOND": str(other)} if second else {}
-    keeper = Keeper(script, program, folder, DRAIN=str(script.parent / "keep" / "haproxy.sh"), SOCKET=str(sockets), **more)
-    output(sys.executable, ROOT / "bench" / "gen_mbox.py", "--n", mails, "--out", room / "proxied.mbox")
+    keeper = Keeper(script, program, room / "proxied", DRAIN=str(script.parent / "keep" / "haproxy.sh"), SOCKET=str(sockets), **more)
+    output(sys.executable, ROOT / "bench" / "gen_mbox.py", "--n", mails, "--out", box)
     keeper.put("policy.toml", OPEN)
     keeper.order("1", "list-add soc\n")
-    keeper.mail("soc", room / "proxied.mbox")
+    keeper.mail("soc", box)
     keeper.once()
     (room / "haproxy.cfg").write_text(PROXY.format(socket=sockets, front=front, backend=backend_of(script, keeper.port)))
     begun(subprocess.Popen(["haproxy", "-db", "-f", room / "haproxy.cfg"], stdout=subprocess.DEVNULL, stderr=subprocess.DEVNULL))
     keeper.until(sockets.exists, 20)
     keeper.begin()
     keeper.until(lambda: asked(front, "/") == "200", 60)
+    return keeper, front, box
+
+
+def stopped(trial, keeper):
+    trial.check("stopped: status, and what was said", (keeper.stop(), (keeper.folder.parent / "errors").read_text().splitlines()), (0, []))
+
+
+def ten_changes(trial, keeper, front, rate, what):
+    """No request fails while ten changes come, and each is served soon. Returns the seconds of the slowest reply."""
     askers, took = Askers(front, "/", rate), []
     for at in range(10):
         time.sleep(2)
         keeper.order(f"change{at}", f"list-add change{at}\n")
         took.append(keeper.until(lambda: asked(front, f"/l/change{at}/threads") == "200", 60))
     notes = askers.end()
-    failed = [it for it in notes if it[1] != "200"]
     seconds = notes[-1][0] - notes[0][0]
-    what = "behind HAProxy, with a second port" if second else "behind HAProxy"
-    trial.check(f"{what}, ten changes: requests that failed", failed[:3], [])
+    trial.check(f"{what}, ten changes: requests that failed", [it for it in notes if it[1] != "200"][:3], [])
     slowest = max(it[2] for it in notes)
     trial.holds("each command is served within 10 s", max(took) <= 10, f"{min(took):.1f} to {max(took):.1f} s; {len(notes) / seconds:.0f} requests a second of {rate}, {len(notes)} in all, "
                 f"the slowest {slowest:.2f} s")
-    trial.check("stopped: status, and what was said", (keeper.stop(), (room / "errors").read_text().splitlines()), (0, []))
+    stopped(trial, keeper)
     return slowest
+
+
+def changes(trial, program, script, room, asked_for):
+    """Ten changes behind HAProxy; with a second port the next server begins first."""
+    if not has_proxy(trial, "changes"):
+        return
+    slowest = {}
+    for second in (False, True):
+        keeper, front, _ = behind_proxy(program, script, room / ("two-ports" if second else "one-port"), asked_for.mails, second)
+        slowest[second] = ten_changes(trial, keeper, front, asked_for.rate, "behind HAProxy" + ", with a second port" * second)
+    trial.holds("with a second port the slowest reply comes sooner than without", slowest[True] < slowest[False], f"{slowest[True]:.3f} s, {slowest[False]:.3f} s")
+
+
+def longest_wait(notes):
+    """The longest time between two answers to one reader."""
+    answers = [begun_at + took for begun_at, status, took in notes if status == "200"]
+    return max(after - before for before, after in zip(answers, answers[1:]))
+
+
+def withdrawals(trial, program, script, room, asked_for):
+    """Many messages of a large list are withdrawn, and a reader notices nothing of that."""
+    if not has_proxy(trial, "withdrawals"):
+        return
+    keeper, front, box = behind_proxy(program, script, room / "withdrawals", asked_for.large, second=True)
+    with open(box, "rb") as lines:
+        path, *paths = [f"/l/soc/m/{mbox.key_of(text)}" for (_, _, text), _ in zip(mbox.messages(lines), range(asked_for.withdrawals + 1))]
+    idle = Askers(front, path, 100, count=1)
+    time.sleep(10)
+    idle, reader, took = idle.end(), Askers(front, path, 100, count=1), []
+    for at in range(0, len(paths), IN_A_FILE):
+        those = paths[at:at + IN_A_FILE]
+        keeper.order(f"withdraw{at:06}", "".join(f"withdraw soc {it.rpartition('/')[2]} author\n" for it in those))
+        took.append(keeper.until(lambda: asked(front, those[-1]) == "403", 300))
+    notes = reader.end()
+    what = f"{len(paths)} withdrawals of a list of {asked_for.large}"
+    trial.check(f"{what}: requests that failed", [it for it in notes if it[1] != "200"][:3], [])
+    trial.check("those that are served", [asked(front, it) for it in paths].count("403"), len(paths))
+    trial.holds(f"at most {MOST_WAIT} s without an answer", longest_wait(notes) <= MOST_WAIT, f"{longest_wait(notes):.3f} s, and {longest_wait(idle):.3f} s when nothing came; {len(notes)} requests; "
+                f"{IN_A_FILE} are served after {min(took):.0f} to {max(took):.0f} s")
+    stopped(trial, keeper)
+
+
+def both_midnights(trial, program, script, room, _):
+    for slowly in (False, True):
+        midnight(trial, program, script, room, slowly)
+
+
+PARTS = {"midnight": both_midnights, "ill": ill, "changes": changes, "withdrawals": withdrawals}
 
 
 def main():
     asked_for = words_of(__doc__, script={"default": SAMPLES / "keep.sh", "help": "another keep.sh, with its folder keep"},
-                         mails={"type": int, "default": 2000, "help": "messages behind HAProxy"}, rate={"type": int, "default": 500, "help": "requests a second"})
+                         mails={"type": int, "default": 2000, "help": "messages of the list of changes"}, rate={"type": int, "default": 500, "help": "requests a second"},
+                         large={"type": int, "default": 50_000, "help": "messages of the list of withdrawals"},
+                         withdrawals={"type": int, "default": 100, "help": "how many of them are withdrawn"}, only={"choices": PARTS, "help": "this part"})
     script = pathlib.Path(asked_for.script).resolve()
     with Trial() as trial, tempfile.TemporaryDirectory() as room:
-        room = pathlib.Path(room)
-        for slowly in (False, True):
-            midnight(trial, asked_for.archive, script, room, slowly)
-        ill(trial, asked_for.archive, script, room)
-        (room / "errors").unlink(missing_ok=True)
-        one, two = (behind_proxy(trial, asked_for.archive, script, room, asked_for.rate, asked_for.mails, second) for second in (False, True))
-        if one is not None:
-            trial.holds("with a second port the slowest reply comes sooner than without", two < one, f"{two:.3f} s, {one:.3f} s")
+        for name in [asked_for.only] if asked_for.only else PARTS:
+            PARTS[name](trial, asked_for.archive, script, pathlib.Path(room), asked_for)
 
 
 main()
