@@ -25,8 +25,8 @@ CLAUSE = re.compile(r"\b(?:requires|ensures)\b.*?(?=\b(?:requires|ensures)\b|\Z)
 # What the page is about: a clause of one call, and laws, by file, function and clause.
 HEADLINE = (("archive_pages/src/running.rt", "run_and_answer_in_memory", "answered"),)
 LAWS = tuple(("archive_pages/src/laws.rt", it, "") for it in (
-    "what_is_allowed_is_served", "what_is_denied_is_denied_by_its_rule", "results_are_of_what_is_allowed", "what_is_withdrawn_might_never_have_come")) + (
-    ("archive_pages/src/laws.rt", "what_is_withheld_leaves_no_trace", "always"),)
+    "an_allowed_message_is_served", "a_denied_message_gets_403_by_its_rule", "results_depend_on_allowed_messages_only", "a_withdrawn_message_might_never_have_arrived")) + (
+    ("archive_pages/src/laws.rt", "a_withheld_message_leaves_no_trace", "always"),)
 # How what the headline's call is given is read: the models of its types, by file and type.
 MODELS = (("policy_core/src/rules.rt", "Policy"), ("policy_core/src/rules.rt", "Rule"), ("civil_time/src/days.rt", "Day"), ("civil_time/src/instants.rt", "Instant"),
     ("archive_model/src/keys.rt", "Key"), ("mbox_items/src/items.rt", "Item"), ("mbox_items/src/separators.rt", "Envelope"))

@@ -733,7 +733,7 @@ DEFINED = {
     "crates/archive_pages/specs/Laws.antt": "-- it goes\nabbrev pub Goes : Type 0\nGoes = T\n",
     "crates/archive_pages/src/running.rt": "ghost use Rattle.low.specs.Other.{Fits};\nghost use Rattle.high.specs.Days.{is_day};\n\n"
                                            "pub fn run_and_answer_in_memory()\n    ensures quiet { is_day }\n    ensures answered { Fits result }\n{\n}\n",
-    "crates/archive_pages/src/laws.rt": "ghost use Rattle.archive_pages.specs.Laws.{Goes};\n\npub fn what_is_allowed_is_served()\n    ensures { Goes }\n{}\n",
+    "crates/archive_pages/src/laws.rt": "ghost use Rattle.archive_pages.specs.Laws.{Goes};\n\npub fn an_allowed_message_is_served()\n    ensures { Goes }\n{}\n",
     "docs/BELIEVE.md": "Of 5 definitions, 11 lines, in 3 modules, `Moon` and `digest`.\n| | Read | Lines | With |\n|---|---|---|---|\n| 1 | `low`: `Rules` (`Fits`), `Days`, `Views` | 11 | a; b |\n"
                        "| 2 | `archive_pages`: `Laws` | 2 | c |\n\n**`low::Days::is_day`**: a day.\n\n    -- a day\n    abbrev pub is_day : Type 0\n    is_day = T\n\nThat is all.\n",
 }
