@@ -2,9 +2,10 @@
 -- were withheld.
 use Rattle.std.specs.Prelude.{◌≡◌, ◌==◌, ◌&&◌, ◌⊎◌, ◌+◌, ◌*◌, ◌≤◌, ◌++◌, ◌∷◌, ℕ, Bool, true, false, List, [], length, drop, find, insert}
 use Rattle.std.specs.Prelude.{position, sum_by, slice_get, bytes_eq, Option, None, Some, option_map, Result, MatchResult}
-use Rattle.std.specs.Option.{option_map_or}
+use Rattle.std.specs.Option.{option_and_then, option_map_or}
 use Rattle.policy_core.specs.Facts.{rank_of_standing}
 use Rattle.archive_results.specs.Access.{MessageFacts, ReaderFacts}
+use Rattle.archive_results.specs.Results.{place_of_key}
 use Rattle.archive_results.specs.Shown.{Line}
 use Rattle.archive_cache.specs.ListIndexes.{ListIndex, rendered_rows}
 use Rattle.archive_cache.specs.Parts.{ViewPart, whole, month, author, part_weight, same_part}
@@ -49,6 +50,11 @@ is_view_of list reader part view = same_part view.part part && (bytes_eq view.li
 -- the outline at this place of what is kept
 abbrev pub cached_index_at : CacheState → (place : ℕ) → Option ListIndex
 cached_index_at kept place = option_map (λ v. v.outline) (slice_get kept.views place)
+
+-- where the line of this key stands in the view of the whole list for such readers, if that view is kept
+abbrev pub cached_line_place : CacheState → (list : List ℕ) → ReaderFacts → (key : List ℕ) → Option ℕ
+cached_line_place kept list reader key = option_and_then (λ (outline : ListIndex). place_of_key key outline.lines)
+    (option_and_then (cached_index_at kept) (position (is_view_of list reader whole) kept.views))
 
 -- the message of this list and key
 abbrev pub is_withheld_message : (list key : List ℕ) → WithheldMessage → Bool

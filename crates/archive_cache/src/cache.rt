@@ -4,7 +4,7 @@ ghost use Rattle.std.specs.Option.{option_map_or};
 ghost use Rattle.archive_cache.specs.Parts.{model_part};
 ghost use Rattle.archive_cache.specs.ListIndexes.{ListIndex as Whole, index_restricted_to};
 ghost use Rattle.archive_cache.specs.Views.{DropsOldest, IsCacheBounded, CachesWithheldMessage, CachesView, first_whole_list_place, is_view_of, is_whole_list_view};
-ghost use Rattle.archive_cache.specs.Views.{cached_message_facts, empty_cache, cached_index_at, insertion_place, same_address, same_reader, view_weight, views_weight};
+ghost use Rattle.archive_cache.specs.Views.{cached_message_facts, empty_cache, cached_index_at, cached_line_place, insertion_place, same_address, same_reader, view_weight, views_weight};
 
 use crate::dividing::lines_under;
 use crate::list_indexes::{ListIndex, outline_by};
@@ -227,6 +227,14 @@ impl Cache {
             (model_part part.now)) self.now.views }
     {
         place_of(&self.views, list, reader, part)
+    }
+
+    /// The place of the line of a key in the view of a whole list for readers of these marks, if that view is kept.
+    pub(crate) fn find_line(&self, list: &str, reader: &ReaderFacts, key: &Key) -> Option<usize>
+        ensures { result ≡ cached_line_place self.now list.now reader.now key.now }
+    {
+        let view = self.find(list, reader, &ViewPart::Whole)?;
+        self.outline(view)?.place_of(key)
     }
 
     /// Keeps one view more, and answers its place. As many are let go as it takes that it fits beside the others: months and authors

@@ -2,7 +2,7 @@
 ghost use Rattle.std.specs.Prelude.{◌≡◌, ℕ, List, Bool, IfOk, flat_map, map, option_map};
 ghost use Rattle.archive_html.specs.Rows.{tree_row};
 ghost use Rattle.archive_results.specs.Index.{HoldsForEachView};
-ghost use Rattle.archive_results.specs.Results.{thread_lines};
+ghost use Rattle.archive_results.specs.Results.{place_of_key, thread_lines};
 ghost use Rattle.archive_results.specs.Shown.{ShownMessage as Seen, shown_message};
 ghost use Rattle.archive_cache.specs.ListIndexes.{index_of_lines, index_of_view, rendered_rows, thread_rows_of_key, top_rows_of};
 
@@ -68,6 +68,13 @@ impl ListIndex {
         self.texts.all()
     }
 
+    /// The place of the line of a key.
+    pub(crate) fn place_of(&self, key: &Key) -> Option<usize>
+        ensures { result ≡ place_of_key key.now self.now.lines }
+    {
+        self.lines.place_of(key)
+    }
+
     /// The texts of the rows of the top thread that holds the message of a key. `None` where no line has the key.
     pub fn thread(&self, key: &Key) -> Option<&[u8]>
         ensures text { option_map (λ text. text.now) result ≡ option_map (rendered_rows self.entry.now)
@@ -77,7 +84,7 @@ impl ListIndex {
             → option_map (λ text. text.now) result ≡ option_map (flat_map (tree_row list))
             (thread_lines merge key.now view) }
     {
-        let place = self.lines.place_of(key)?;
+        let place = self.place_of(key)?;
         let (first, end) = self.rows.thread_at(place)?;
         Some(self.texts.run(first, end))
     }

@@ -66,8 +66,9 @@ fn denial<'p>(kept: &Cache, ask: &Ask<'p>, reader: &ReaderFacts, key: &Key) -> O
     }
 }
 
-/// What a reader of these marks gets who asks for a message that no kept marks withhold. Where who wrote it does not matter, the store is
-/// asked for its marks: if the policy denies it by these, they are kept and it is not read. Each other message is read.
+/// What a reader of these marks gets who asks for a message that no kept marks withhold. If it is in the view of its list that is kept for
+/// such readers, or if who wrote it matters, it is read. Else the store is asked for its marks: if the policy denies it by these, they are
+/// kept and it is not read.
 fn judge_message<'p, S: Alter>(
     store: &mut Store<S>,
     kept: &mut Cache,
@@ -87,7 +88,7 @@ fn judge_message<'p, S: Alter>(
     ensures ends { EndsDeskCall S.Store store.old store.new IsAskFault result
         (λ a. IsMessageUnreadable a ask.entry.now key.now) }
 {
-    if asks_author(ask, reader) {
+    if asks_author(ask, reader) || kept.find_line(ask.list, reader, key).is_some() {
         return read_message(store, alloc, ask, reader, key);
     }
     let found = match find_message_facts(store, ask, key) {
