@@ -20,6 +20,7 @@ use Rattle.archive_tables.specs.Schema.{empty_schema, schema_of_version}
 use Rattle.archive_tables.specs.Tables.{IsOpenArchiveInFormat, IsKnownVersion, AreTablesOfVersion, archive_of_version, format_of_version}
 use Rattle.archive_tables.specs.Making.{empty_archive}
 use Rattle.archive_store.specs.Adopting.{IsAdopted}
+use Rattle.archive_store.specs.Told.{HasNoStepLimit}
 use Rattle.archive_store.specs.declared.store.Store.{Store}
 use Rattle.archive_run.specs.Remembering.{StoreHoldsArchive}
 use Rattle.archive.specs.Unmade.{finds_no_row}
@@ -88,7 +89,7 @@ module _ {D : Type 0} {g : Ghosts D} (image : Image) (connection : Held (FileSto
 
 module _ {D : Type 0} {g : Ghosts D} (image : Image) where
   -- the store remembers what the files held: of new files, the empty archive
-  pub opened_store_holds_archive : (store : Store (FileStore D g)) (archive : Archive) → IsOpenedFromImage image store → FileHoldsArchive image archive → StoreHoldsArchive over_files store archive
+  opened_store_holds_archive : (store : Store (FileStore D g)) (archive : Archive) → IsOpenedFromImage image store → FileHoldsArchive image archive → StoreHoldsArchive over_files store archive
   opened_store_holds_archive store archive was (inl held) returned =
       let clean = was.is_adopted.disk_was_clean returned in
       let found = finds_tables image was.connection (was.is_opened clean) (was.finds_image clean) archive held in
@@ -100,9 +101,9 @@ module _ {D : Type 0} {g : Ghosts D} (image : Image) where
       (made.0, made.1 ∙ sym new.1)
 
   pub opened_store_holds_if_some : {A : Type 0} (start : Option A) (archive : Archive) (store : Store (FileStore D g)) → HoldsIfSome start (FileHoldsArchive image archive)
-      → (start ≡ None → ⊥) → IsOpenedFromImage image store → StoreHoldsArchive over_files store archive
+      → (start ≡ None → ⊥) → IsOpenedFromImage image store → StoreHoldsArchive over_files store archive × HasNoStepLimit over_files store
   opened_store_holds_if_some None archive store held some was = absurd (some refl)
-  opened_store_holds_if_some (Some s) archive store held some was = opened_store_holds_archive store archive was held
+  opened_store_holds_if_some (Some s) archive store held some was = (opened_store_holds_archive store archive was held, was.is_adopted.has_no_step_limit)
 
 -- once it is used up, nothing is said
 pub holds_if_some_of_none : {A : Type 0} (now before : Option A) (Says : Type 0) → now ≡ before → before ≡ None → HoldsIfSome now Says

@@ -15,7 +15,7 @@ use Rattle.archive_listen.specs.Connections.{WritesOutcomeLines, Exchange, Conne
 use Rattle.archive_listen.specs.declared.connections.BoundListener.{BoundListener}
 use Rattle.archive_listen.specs.declared.faults.ListenError.{ListenError}
 use Rattle.archive_serve.specs.Announced.{WritesListeningLine}
-use Rattle.archive_serve.specs.Runs.{ExchangesAreAnswered}
+use Rattle.archive_serve.specs.Runs.{ExchangesAreAnsweredWithCause}
 use Rattle.archive_args.specs.Values.{AskValues, CheckValues, GetValues, ImportValues, ServeValues, StoreCommandValues}
 use Rattle.archive_args.specs.declared.orders.Order.{Order}
 use Rattle.archive_args.specs.declared.orders.Order.TheVariants.{Sift, Table, Import, Get, Export, Check, Serve}
@@ -89,8 +89,9 @@ module _ {Y S F D C P T R O E I L K A B M : Type 0} (dev : DeviceContracts S F I
   -- An archive was served: by the rules that the policy writes, on the day that was given or that the clock told, once, so many
   -- connections were answered one after the other, and each fault was told in its line. These bytes went over them. Where the disk of
   -- the store has returned what was written to it, and the database held an archive, what went to each peer is the reply of the
-  -- definition, of that archive, to what came of this peer, or 503, or a beginning of it; and the database holds the same archive when it
-  -- is closed, unless its store was shut, as only a fault of the disk does.
+  -- definition, of that archive, to what came of this peer, or 503, or a beginning of it. Each 503, and each mbox that broke off, has its
+  -- cause: memory was refused, the disk failed, or what was asked for cannot be read, which no command writes. And the database holds the
+  -- same archive when it is closed, unless its store was shut, as only a fault of the disk does.
   pub record HasServed (order : ServeValues) (Count : ℕ → Type 0) : Type 0 where
     pub rules : List Rule
     pub is_policy : AreRulesOfPolicyFile dev.gives old.files (Some order.policy) rules
@@ -112,7 +113,8 @@ module _ {Y S F D C P T R O E I L K A B M : Type 0} (dev : DeviceContracts S F I
     pub exchanges : List Exchange
     pub went : dev.went new.ports ≡ dev.went old.ports ++ exchanges
     pub serves_held_archive : StoreHasCleanDisk dev.pages later → (archive : Archive) → dev.databases.holds old.databases order.file archive
-        → ExchangesAreAnswered archive rules day outcomes exchanges × (IsOpen dev.pages later → dev.databases.holds new.databases order.file archive)
+        → ExchangesAreAnsweredWithCause dev.pages archive rules day store store later outcomes exchanges
+        × (IsOpen dev.pages later → dev.databases.holds new.databases order.file archive)
 
   -- as many connections as were ordered
   abbrev pub HasServedAll : ServeValues → Type 0

@@ -19,7 +19,7 @@ use Rattle.sift_run.specs.Running.{AreRulesOfPolicyFile, IsPolicyErrorCause, IsR
 use Rattle.sift_run.specs.Streams.{WritesAndFlushes, WritesPartAndFails, OutputStreamState, output_stream_state}
 use Rattle.sift_run.specs.declared.clock.DayClock.{Ghosts as Tells}
 use Rattle.sift_run.specs.declared.faults.CommandError.{CommandError}
-use Rattle.sift_run.specs.declared.faults.CommandError.TheVariants.{Write, Clock, Memory}
+use Rattle.sift_run.specs.declared.faults.CommandError.TheVariants.{Write, Clock}
 use Rattle.sift_run.specs.declared.files.StreamedFiles.{Ghosts as Opens}
 use Rattle.sift_run.specs.declared.files.ReadFiles.{Ghosts as Gives}
 use Rattle.archive_run.specs.Databases.{UsesDatabase}
@@ -110,7 +110,7 @@ module _ {Y S F D C P T R O E I L K A B M : Type 0} (old new : Environment Y S F
           ⊎ (RunUsesDatabase order.file (λ o c. ChecksArchive pages o c (Ok tt)) × RunWritesPartAndFails (codes "ok\n") refusal)
 
       -- The messages of the named mbox were taken into the list, and the report went out as one line. Or it was refused, or
-      -- stopped, and nothing went out; or it was carried out, and there was no memory for the line, or the output failed.
+      -- stopped, and nothing went out; or it was carried out, and the output failed.
       module _ (opens : Opens F I) (reads : Reads I) where
         abbrev pub RunImportsFile : ImportValues → Report → Type 0
         RunImportsFile order report = RunUsesDatabase order.file (λ o c. ImportsFile pages o c opens reads old.files order.list order.mbox report)
@@ -119,8 +119,7 @@ module _ {Y S F D C P T R O E I L K A B M : Type 0} (old new : Environment Y S F
         RunsImport order (Ok done) = (report : Report) × RunImportsFile order report × RunWritesText (report_line report)
         RunsImport order (Err refusal) =
             RunFailsOnDatabase order.file (λ o c. RefusesImport pages o c opens reads old.files order.list order.mbox) refusal
-            ⊎ ((report : Report) × RunImportsFile order report
-            × (((refusal ≡ Run Memory) × (new ≡ record old { databases = new.databases })) ⊎ RunWritesPartAndFails (report_line report) refusal))
+            ⊎ ((report : Report) × RunImportsFile order report × RunWritesPartAndFails (report_line report) refusal)
 
       -- ---- questions of a reader
 

@@ -2,7 +2,7 @@
 use Rattle.std.specs.Prelude.{◌≡◌, ℕ, List, Ok}
 use Rattle.sqlite.specs.Store.{Ghosts}
 use Rattle.archive_model.specs.Records.{Archive}
-use Rattle.archive_store.specs.Told.{StoreHasCleanDisk, HoldsTables, archive_in}
+use Rattle.archive_store.specs.Told.{HasNoStepLimit, StoreHasCleanDisk, HoldsTables, archive_in}
 use Rattle.archive_store.specs.declared.store.Store.{Store}
 use Rattle.archive_run.specs.declared.databases.Databases.{Ghosts as Keeps}
 
@@ -11,10 +11,10 @@ abbrev pub StoreHoldsArchive : {S : Type 0} → Ghosts S → Store S → Archive
 StoreHoldsArchive g store archive = StoreHasCleanDisk g store → HoldsTables g store × (archive_in g store ≡ archive)
 
 module _ {S D : Type 0} (g : Ghosts S) (keeps : Keeps D (Store S)) where
-  -- A database that holds an archive gives a store that remembers it.
+  -- A database that holds an archive gives a store that remembers it, and no limit is set on the steps of its queries.
   abbrev pub OpenedStoreHoldsArchive : Type 0
   OpenedStoreHoldsArchive = (old new : D) (file : List ℕ) (store : Store S) (archive : Archive) → keeps.holds old file archive
-      → keeps.opens old new file (Ok store) → StoreHoldsArchive g store archive
+      → keeps.opens old new file (Ok store) → StoreHoldsArchive g store archive × HasNoStepLimit g store
 
   -- A database that held one when it was opened holds what its store remembers when it is closed.
   abbrev pub ClosedDatabaseHoldsArchive : Type 0

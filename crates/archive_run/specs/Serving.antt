@@ -11,6 +11,7 @@ use Rattle.archive_listen.specs.declared.connections.BufferedSink.{Ghosts as Pas
 use Rattle.archive_listen.specs.declared.faults.AcceptError.{AcceptError}
 use Rattle.archive_listen.specs.declared.faults.ListenError.{ListenError}
 use Rattle.archive_serve.specs.Announced.{WritesListeningLine}
+use Rattle.archive_serve.specs.Pages.{OnlyCountsRefusal}
 use Rattle.archive_serve.specs.Runs.{ServingAnswerLaw}
 use Rattle.archive_args.specs.Values.{ServeValues}
 use Rattle.archive_run.specs.Databases.{UsesDatabase}
@@ -66,15 +67,16 @@ module _ {S L P : Type 0} (g : Ghosts S) (accepts : L → L → Option AcceptErr
   abbrev pub AnnouncesThenServesFewer : (count : ℕ) → Type 0
   AnnouncesThenServesFewer count = AnnouncesThenServes (ServesFewerConnections AnswersEachConnection accepts shuts (server_state listening.listener old) before.faults after.faults count)
 
-  -- none: the store is as before, and no fault was told
+  -- none, and no fault was told
   abbrev pub ServesNoConnection : Type 0
-  ServesNoConnection = (new ≡ old) × (after.faults ≡ before.faults) × ListenerIsEnded listening.listener
+  ServesNoConnection = (after.faults ≡ before.faults) × ListenerIsEnded listening.listener
 
-  -- Why it was refused: no more connections came (F4), or it could not be said where it listens (F2, F5).
+  -- Why it was refused: no more connections came (F4); the output failed at the line that says where it listens (F2); or the memory of the
+  -- routes was refused, which the store counts, and nothing was written (F5).
   abbrev pub RefusesServing : (count : ℕ) → RunError → Type 0
   RefusesServing count Net = AnnouncesThenServesFewer count
-  RefusesServing count (Run Write) = ServesNoConnection × (before.output.failures < after.output.failures)
-  RefusesServing count (Run Memory) = ServesNoConnection
+  RefusesServing count (Run Write) = ServesNoConnection × (new ≡ old) × (before.output.failures < after.output.failures)
+  RefusesServing count (Run Memory) = ServesNoConnection × OnlyCountsRefusal old new × (after.output ≡ before.output)
   RefusesServing count _ = ⊥
 
 -- ---- an open store, and a device of ports before and after

@@ -1,5 +1,5 @@
 -- What becomes of an open store by an order, and what goes out.
-use Rattle.std.specs.Prelude.{◌≡◌, ◌⊎◌, ◌++◌, ℕ, List, codes, decimal, string_bytes, Result, Ok, Err, MatchResult}
+use Rattle.std.specs.Prelude.{◌≡◌, ◌⊎◌, ◌++◌, ℕ, List, codes, decimal, string_bytes, Result, Ok, Err, ⊤, MatchResult}
 use Rattle.sqlite.specs.Store.{Ghosts}
 use Rattle.byte_device.specs.declared.devices.Source.{Ghosts as Reads}
 use Rattle.archive_model.specs.Questions.{messages_in}
@@ -21,8 +21,8 @@ use Rattle.archive_args.specs.Values.{StoreCommand}
 use Rattle.archive_import.specs.Streaming.{FaultHasReadFailures, ImportsInput, IsImportMemoryRefusal as IsReadWanting, RowsRefuseReadItem}
 use Rattle.archive_commands.specs.Working.{CarriesOutCommand, ExportsList, GetsMessage, HasCommandErrorCause, HasGetErrorCause}
 use Rattle.archive_commands.specs.declared.getting.GetError.TheVariants as got
-use Rattle.sift_run.specs.Streams.{OutputStreamState}
-use Rattle.sift_run.specs.declared.faults.CommandError.TheVariants.{Read, Memory}
+use Rattle.sift_run.specs.Streams.{OutputStreamState, WritesPartAndFails}
+use Rattle.sift_run.specs.declared.faults.CommandError.TheVariants.{Read, Write, Memory}
 use Rattle.sift_run.specs.declared.files.FileError.TheVariants as file
 use Rattle.sift_run.specs.declared.files.StreamedFiles.{Ghosts as Opens}
 use Rattle.archive_run.specs.Databases.{UsesDatabase, GivesNoDatabase}
@@ -35,6 +35,11 @@ use Rattle.archive_run.specs.declared.faults.RunError.TheVariants.{Run, Store, D
 abbrev pub report_line : Report → List ℕ
 report_line report =
     codes "new " ++ decimal report.new ++ codes " known " ++ decimal report.known ++ codes " too-large " ++ decimal report.too_large ++ codes "\n"
+
+-- a text was written, whole; or the output failed (F2), and a prefix of the text was written
+abbrev pub WritesTextOrFails : (before after : OutputStreamState) → (text : List ℕ) → Result ⊤ RunError → Type 0
+WritesTextOrFails before after text result = MatchResult result (λ _. (after.written ≡ before.written ++ text) × (after.failures ≡ before.failures))
+    (λ refusal. (refusal ≡ Run Write) × WritesPartAndFails before after text)
 
 -- ---- what becomes of an open store where an order is refused
 

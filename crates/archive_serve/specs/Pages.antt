@@ -1,7 +1,8 @@
 -- What an archive answers on a connection.
-use Rattle.std.specs.Prelude.{◌≡◌, ⊤, ℕ, ℤ, List, Result, Ok, Err, OnOk, IfErr}
+use Rattle.std.specs.Prelude.{◌≡◌, ◌+◌, ⊤, ℕ, ℤ, List, Result, Ok, Err, OnOk, IfErr}
 use Rattle.sqlite.specs.Store.{Ghosts}
 use Rattle.policy_core.specs.Rules.{Rule}
+use Rattle.archive_store.specs.Held.{memory_refusal_count}
 use Rattle.archive_store.specs.declared.store.Store.{Store}
 use Rattle.archive_pages.specs.Answered.{IfAnsweredOrUnread, Sends404IfUnrouted, ReadsRequestInput}
 use Rattle.archive_pages.specs.Causes.{IsInputDataUnreadable, ServesOr503}
@@ -32,3 +33,7 @@ pub record EndsConnection {S : Type 0} (g : Ghosts S) (rules : List Rule) (day :
 abbrev pub Answers404IfUnrouted : (before after : ConnectionTranscript) → Result ℕ ServeFault → Type 0
 Answers404IfUnrouted before after result = IfAnsweredOrUnread result
     (ReadsRequestInput before.read after.read before.ends after.ends (λ given all. Sends404IfUnrouted all before.written after.written result)) ⊤
+
+-- One more refusal of memory is counted, and the store is else as before.
+abbrev pub OnlyCountsRefusal : {S : Type 0} → (old new : Store S) → Type 0
+OnlyCountsRefusal old new = new ≡ record old { wants = memory_refusal_count old + 1 }

@@ -1,11 +1,13 @@
 -- Connections one after the other, answered out of one archive.
-use Rattle.std.specs.Prelude.{◌≡◌, ◌≢◌, ◌<◌, ◌⊎◌, ◌++◌, ℕ, ℤ, List, [], ◌∷◌, Bool, Option, Result, Ok, Err, ⊤}
+use Rattle.std.specs.Prelude.{◌≡◌, ◌≢◌, ◌<◌, ◌≤◌, ◌⊎◌, ◌++◌, ℕ, ℤ, List, [], ◌∷◌, Bool, Option, Result, Ok, Err, ⊤}
 use Rattle.std.specs.List.{AllByRecursion}
 use Rattle.sqlite.specs.Store.{Ghosts}
 use Rattle.policy_core.specs.Rules.{Rule}
 use Rattle.archive_model.specs.Records.{Archive}
-use Rattle.archive_store.specs.Told.{StoreHasCleanDisk, HoldsTables, IsOpen, archive_in}
+use Rattle.archive_store.specs.Held.{memory_refusal_count}
+use Rattle.archive_store.specs.Told.{DiskHasFailed, HasNoStepLimit, StoreHasCleanDisk, HoldsTables, IsOpen, IsStoreClosed, MemoryWasRefused, StaysOpenUnlessDiskFails, archive_in}
 use Rattle.archive_store.specs.declared.store.Store.{Store}
+use Rattle.archive_pages.specs.Causes.{IsInputDataUnreadable, Sent503OrBrokeOff}
 use Rattle.archive_pages.specs.Headline.{AnswersRequestFromArchive}
 use Rattle.archive_pages.specs.declared.faults.ServeFault.{ServeFault}
 use Rattle.archive_listen.specs.Connections.{ConnectionTranscript, ConnectionResult, Exchange, ClientReceives}
@@ -82,3 +84,40 @@ abbrev pub EachGetsItsReply : {S L : Type 0} → Ghosts S → (over : L → List
 EachGetsItsReply {S} {L} g over accepts closes = (rules : List Rule) (day : ℤ) (outcomes : List ConnectionResult) (first last : L) (old new : Store S)
     → ServesEachConnection (ServingAnswerLaw g rules day old new) accepts closes outcomes (server_state first old) (server_state last new) → HasSoundStore g old new
     → (all : List Exchange) × (over last ≡ over first ++ all) × ExchangesAreAnswered (archive_in g old) rules day outcomes all
+
+-- ---- why a request was not served
+
+-- Why a request got 503, or its mbox broke off (S3). `first` is the store before the first connection of the run, `old` and `new` that
+-- before and after this connection. While it was answered, memory was refused or the disk failed. Or the store was closed before it: the
+-- disk had failed in this run. Or what it asks for cannot be read, and no command writes such data.
+abbrev pub HasUnservedCause : {S : Type 0} → Ghosts S → Archive → List Rule → (day : ℤ) → (first old new : Store S) → (read : List ℕ) → Type 0
+HasUnservedCause g archive rules day first old new read = MemoryWasRefused old new ⊎ (DiskHasFailed g old new
+    ⊎ ((IsStoreClosed g old × DiskHasFailed g first old) ⊎ IsInputDataUnreadable [] read rules day archive))
+
+module _ {S : Type 0} (g : Ghosts S) (archive : Archive) (rules : List Rule) (day : ℤ) (first : Store S) where
+  -- What went over one connection is answered. If it is 503, or an mbox that broke off, this has its cause, of the store before and after
+  -- this connection. No connection takes back a count of refused memory or of a fault.
+  pub record ExchangeIsAnsweredWithCause (old new : Store S) (outcome : ConnectionResult) (over : Exchange) : Type 0 where
+    pub answered : ExchangeIsAnswered archive rules day outcome over
+    pub cause : Sent503OrBrokeOff answered.result → HasUnservedCause g archive rules day first old new over.read
+    pub refusals_never_fall : memory_refusal_count old ≤ memory_refusal_count new
+    pub remains_open : StaysOpenUnlessDiskFails g old new
+
+  -- The same of each connection in its turn, with the store before the first of them and after the last. A connection whose client was
+  -- gone leaves the store.
+  abbrev pub ExchangesAreAnsweredWithCause : (old new : Store S) → List ConnectionResult → List Exchange → Type 0
+  ExchangesAreAnsweredWithCause old new [] [] = new ≡ old
+  ExchangesAreAnsweredWithCause old new [] (over ∷ others) = ⊥
+  ExchangesAreAnsweredWithCause old new (outcome ∷ outcomes) [] = (outcome ≡ Err Read) × ExchangesAreAnsweredWithCause old new outcomes []
+  ExchangesAreAnsweredWithCause old new (outcome ∷ outcomes) (over ∷ others) =
+      ((between : Store S) × ExchangeIsAnsweredWithCause old between outcome over × ExchangesAreAnsweredWithCause between new outcomes others)
+      ⊎ ((outcome ≡ Err Read) × ExchangesAreAnsweredWithCause old new outcomes (over ∷ others))
+
+-- What went over the connections that a listener took back in such a run, if no limit is set on the steps of a query: each 503 and each
+-- mbox that broke off has its cause.
+abbrev pub Each503HasItsCause : {S L : Type 0} → Ghosts S → (over : L → List Exchange) → (accepts : L → L → Option AcceptError → Type 0)
+    → (closes : L → L → Exchange → Bool → Type 0) → Type 0
+Each503HasItsCause {S} {L} g over accepts closes = (rules : List Rule) (day : ℤ) (outcomes : List ConnectionResult) (first last : L) (old new : Store S)
+    → ServesEachConnection (ServingAnswerLaw g rules day old new) accepts closes outcomes (server_state first old) (server_state last new) → HasSoundStore g old new
+    → HasNoStepLimit g old
+    → (all : List Exchange) × (over last ≡ over first ++ all) × ExchangesAreAnsweredWithCause g (archive_in g old) rules day old old new outcomes all

@@ -9,7 +9,7 @@ use Rattle.archive_model.specs.Sound.{IsIndexedCorrectly}
 use Rattle.archive_store.specs.Told.{StoreHasCleanDisk, IsOpen}
 use Rattle.archive_desk.specs.Importing.{IsImported}
 use Rattle.archive_desk.specs.declared.importing.Report.{Report}
-use Rattle.archive_serve.specs.Runs.{ExchangesAreAnswered}
+use Rattle.archive_serve.specs.Runs.{ExchangesAreAnsweredWithCause}
 use Rattle.archive_args.specs.Orders.{IsOrderStopOf}
 use Rattle.archive_args.specs.Values.{ImportValues, ServeValues, StoreCommandValues, withdraw}
 use Rattle.archive_args.specs.declared.orders.Order.{Order}
@@ -69,8 +69,8 @@ module _ {Y S F D C P T R O E I L K A B M : Type 0} (dev : DeviceContracts S F I
     -- writes, on the day that was given or that the clock told. Where the database held an archive before, in which what is filed of each
     -- message is what its text says, and the disk has returned what was written to it, there is one archive, which the import and the
     -- withdrawal made of that: what went to each peer is the reply of the definition, of this archive, to the head that its own bytes
-    -- begin with, or 503, which has its cause (`ran`), or a beginning of it; and the database holds this archive behind it all, unless a
-    -- fault of the disk had shut it.
+    -- begin with, or 503, or a beginning of it; each 503 and each mbox that broke off has its cause; and the database holds this archive
+    -- behind it all, unless a fault of the disk had shut it.
     pub record ImportsWithdrawsAndServes : Type 0 where
       pub after_import : Environment Y S F D C P T R O E I L K A B M
       pub after_withdrawal : Environment Y S F D C P T R O E I L K A B M
@@ -83,7 +83,7 @@ module _ {Y S F D C P T R O E I L K A B M : Type 0} (dev : DeviceContracts S F I
       pub served_from_one_archive : StoreHasCleanDisk dev.pages imports.2.store_after → StoreHasCleanDisk dev.pages withdraws.2.store_after → StoreHasCleanDisk dev.pages serves_all.later
           → (before : Archive) → dev.databases.holds old.databases it.file before → IsIndexedCorrectly before
           → (archive : Archive) × MakesPublishedArchive before archive
-          × ExchangesAreAnswered archive serves_all.rules serves_all.day serves_all.outcomes serves_all.exchanges
+          × ExchangesAreAnsweredWithCause dev.pages archive serves_all.rules serves_all.day serves_all.store serves_all.store serves_all.later serves_all.outcomes serves_all.exchanges
           × (IsOpen dev.pages serves_all.later → dev.databases.holds new.databases it.file archive)
 
   -- ---- where one of them was not carried out

@@ -1,0 +1,4 @@
+pub mod Histories
+pub mod Restarts
+pub mod Sequences
+pub mod Peers
