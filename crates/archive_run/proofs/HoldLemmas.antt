@@ -10,7 +10,8 @@ use Rattle.archive_store.proofs.Joins.{ready_with}
 use Rattle.archive_listen.specs.Connections.{Exchange, ConnectionResult}
 use Rattle.archive_listen.specs.Serving.{ServerState, ServesEachConnection, ServesOneConnection}
 use Rattle.archive_listen.specs.declared.faults.AcceptError.{AcceptError}
-use Rattle.archive_serve.specs.Runs.{AnswersFromArchiveInRun, ExchangesAreAnswered, HasSoundStore, EachGetsItsReply, ServingAnswerLaw}
+use Rattle.archive_serve.specs.Runs.{AnswersFromArchiveInRun, Each503HasItsCause, ExchangesAreAnsweredWithCause, HasSoundStore, ServingAnswerLaw}
+use Rattle.archive_serve.proofs.PeerLemmas.{had_before}
 use Rattle.archive_run.specs.Databases.{UsesDatabase}
 use Rattle.archive_run.specs.Holding.{RelatesHeldArchives, KeepsHeldArchive}
 use Rattle.archive_run.specs.Remembering.{ClosedDatabaseHoldsArchive, OpenedStoreHoldsArchive}
@@ -32,7 +33,7 @@ module _ {S D : Type 0} (g : Ghosts S) (keeps : Keeps D (Open S)) (opens : Opene
         opens_database = works.opens_database;
         closes_database = works.closes_database;
         store_changes = λ returned first held right.
-            let was = opens old works.device file works.store_before first held works.opens_database (it.0.disk_was_clean returned) in
+            let was = (opens old works.device file works.store_before first held works.opens_database).0 (it.0.disk_was_clean returned) in
             let there = it.1 returned (ready_with g works.store_before first was.0 was.1 right) in (
               archive_in g works.store_after,
               subst (λ a. R a (archive_in g works.store_after)) was.1 there.1,
@@ -53,7 +54,7 @@ module _ {S D : Type 0} (g : Ghosts S) (keeps : Keeps D (Open S)) (opens : Opene
         opens_database = works.opens_database;
         closes_database = works.closes_database;
         store_changes = λ returned archive held.
-            let was = opens old works.device file works.store_before archive held works.opens_database (it.0.disk_was_clean returned) in
+            let was = (opens old works.device file works.store_before archive held works.opens_database).0 (it.0.disk_was_clean returned) in
             let there = it.1 returned was.0 in (
               subst Says was.1 there.1.1,
               subst (λ a. keeps.holds new file a) (there.1.0 ∙ was.1)
@@ -65,19 +66,6 @@ module _ {S D : Type 0} (g : Ghosts S) (keeps : Keeps D (Open S)) (opens : Opene
 
 module _ {S L : Type 0} (g : Ghosts S) (accepts : L → L → Option AcceptError → Type 0) (closes : L → L → Exchange → Bool → Type 0)
     (If : Type 0) (archive : Archive) (rules : List Rule) (day : ℤ) where
-  -- a disk that has returned what was written so far had done so before
-  had_one : (outcome : ConnectionResult) (before after : ServerState L (Open S)) → ServesOneConnection (AnswersFromArchiveInRun g If archive rules day) accepts closes outcome before after
-      → StoreHasCleanDisk g after.state → StoreHasCleanDisk g before.state
-  had_one outcome before after (inl takes) returned = takes.is_answered.is_answered.ends.archive_is_kept.archive_is_same.0.disk_was_clean returned
-  had_one outcome before after (inr misses) returned = subst (λ (s : Open S). StoreHasCleanDisk g s) misses.state_is_same returned
-
-  pub had_before : (outcomes : List ConnectionResult) (before after : ServerState L (Open S))
-      → ServesEachConnection (AnswersFromArchiveInRun g If archive rules day) accepts closes outcomes before after
-      → StoreHasCleanDisk g after.state → StoreHasCleanDisk g before.state
-  had_before [] before after same returned = subst (λ (s : ServerState L (Open S)). StoreHasCleanDisk g s.state) same returned
-  had_before (outcome ∷ outcomes) before after (between, first, rest) returned =
-      had_one outcome before between first (had_before outcomes between after rest returned)
-
   -- where its premise holds, the store remembers this archive behind the last connection, if it is still open
   remembers_one : If → (outcome : ConnectionResult) (before after : ServerState L (Open S)) → ServesOneConnection (AnswersFromArchiveInRun g If archive rules day) accepts closes outcome before after
       → (IsOpen g before.state → HoldsTables g before.state × (archive_in g before.state ≡ archive))
@@ -97,20 +85,22 @@ module _ {S L : Type 0} (g : Ghosts S) (accepts : L → L → Option AcceptError
 
 -- what was served, of the archive that its database held, over a listener that had taken no connection back
 module _ {S L D : Type 0} (g : Ghosts S) (over : L → List Exchange) (accepts : L → L → Option AcceptError → Type 0) (closes : L → L → Exchange → Bool → Type 0)
-    (gets : EachGetsItsReply g over accepts closes) (keeps : Keeps D (Open S)) (opened : OpenedStoreHoldsArchive g keeps) (closed : ClosedDatabaseHoldsArchive g keeps) where
+    (causes : Each503HasItsCause g over accepts closes) (keeps : Keeps D (Open S)) (opened : OpenedStoreHoldsArchive g keeps) (closed : ClosedDatabaseHoldsArchive g keeps) where
   pub serves_held : (old device new : D) (file : List ℕ) (rules : List Rule) (day : ℤ) (outcomes : List ConnectionResult) (first last : ServerState L (Open S)) (archive : Archive)
       → over first.listener ≡ [] → keeps.opens old device file (Ok first.state) → keeps.closes device new last.state
       → ServesEachConnection (ServingAnswerLaw g rules day first.state last.state) accepts closes outcomes first last
       → StoreHasCleanDisk g last.state → keeps.holds old file archive
-      → ExchangesAreAnswered archive rules day outcomes (over last.listener) × (IsOpen g last.state → keeps.holds new file archive)
+      → ExchangesAreAnsweredWithCause g archive rules day first.state first.state last.state outcomes (over last.listener)
+      × (IsOpen g last.state → keeps.holds new file archive)
   serves_held old device new file rules day outcomes first last archive fresh opens shuts each returned held =
       let If = HasSoundStore g first.state last.state in
-      let was = opened old device file first.state archive held opens
-      (had_before g accepts closes If (archive_in g first.state) rules day outcomes first last each returned) in
+      let given = opened old device file first.state archive held opens in
+      let was = given.0 (had_before g accepts closes If (archive_in g first.state) rules day outcomes first last each returned) in
       let so : If = (returned, was.0) in
-      let it = gets rules day outcomes first.listener last.listener first.state last.state each so in
+      let it = causes rules day outcomes first.listener last.listener first.state last.state each so given.1 in
       let is_all : it.0 ≡ over last.listener = sym (it.1 ∙ ap (λ (before : List Exchange). before ++ it.0) fresh) in (
-        subst (λ all. ExchangesAreAnswered archive rules day outcomes all) is_all (subst (λ a. ExchangesAreAnswered a rules day outcomes it.0) was.1 it.2),
+        subst (λ all. ExchangesAreAnsweredWithCause g archive rules day first.state first.state last.state outcomes all) is_all
+            (subst (λ a. ExchangesAreAnsweredWithCause g a rules day first.state first.state last.state outcomes it.0) was.1 it.2),
         λ up.
             let left = remembers_each g accepts closes If (archive_in g first.state) rules day so outcomes first last each (λ was_up. (was.0, refl)) up in
             subst (λ a. keeps.holds new file a) (left.1 ∙ was.1) (closed old device new file first.state last.state archive held opens shuts returned left.0),

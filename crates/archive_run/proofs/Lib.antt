@@ -3,3 +3,4 @@ pub mod OrderLemmas
 pub mod HoldLemmas
 pub mod CrashLemmas
 pub mod OverLemmas
+pub mod ReportLemmas

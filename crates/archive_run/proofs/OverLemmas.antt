@@ -16,7 +16,7 @@ use Rattle.archive_listen.specs.declared.connections.BoundListener.{BoundListene
 use Rattle.archive_listen.specs.declared.faults.AcceptError.{AcceptError}
 use Rattle.archive_serve.specs.Announced.{WritesListeningLine}
 use Rattle.archive_serve.specs.Runs.{ServingAnswerLaw}
-use Rattle.archive_serve.proofs.PeerLemmas.{each_gets}
+use Rattle.archive_serve.proofs.PeerLemmas.{each_has_cause}
 use Rattle.archive_args.specs.Values.{ServeValues}
 use Rattle.archive_args.specs.declared.orders.Order.{Order}
 use Rattle.archive_args.specs.declared.orders.Order.TheVariants.{Sift, Table, Import, Get, Export, Check, Serve}
@@ -58,7 +58,7 @@ module _ {Y S F D C P T R O E I L K A B M : Type 0} (dev : DeviceContracts S F I
       → HasServed dev old new order Count
   has_served order Count rules is clock day given device store later opened closed listening ports had said end last ended same outcomes count run =
       let none = listens_none old.ports ports order.port listening had in
-      let gets = each_gets dev.pages dev.over dev.accepts dev.shuts accepts_none shuts_one in
+      let causes = each_has_cause dev.pages dev.over dev.accepts dev.shuts accepts_none shuts_one in
       record {
         rules = rules;
         is_policy = is;
@@ -80,7 +80,7 @@ module _ {Y S F D C P T R O E I L K A B M : Type 0} (dev : DeviceContracts S F I
         exchanges = dev.over last;
         went = ended ∙ (ap (λ (before : List Exchange). before ++ dev.over end) none.0 ∙ ap (λ (all : List Exchange). dev.went old.ports ++ all) same);
         serves_held_archive = λ returned archive held.
-            serves_held dev.pages dev.over dev.accepts dev.shuts gets dev.databases opens closes old.databases device new.databases order.file rules day outcomes
+            serves_held dev.pages dev.over dev.accepts dev.shuts causes dev.databases opens closes old.databases device new.databases order.file rules day outcomes
             (server_state listening.listener store) (server_state last later) archive none.1 opened closed run.serves_each returned held;
       }
 

@@ -1,12 +1,12 @@
 //! Orders over a database: what is read before it is opened, and what is written when it is closed.
-ghost use Rattle.std.specs.Prelude.{◌≡◌, ◌⊎◌, true, IfErr, IfOk, Some};
+ghost use Rattle.std.specs.Prelude.{◌≡◌, ◌++◌, decimal, true, IfErr, IfOk, Some};
 ghost use Rattle.sift_run.specs.Running.{IsReadingDay, IsPolicyErrorCause, AreRulesOfPolicyFile};
 ghost use Rattle.sift_run.specs.Streams.{WritesAndFlushesOrFails, output_stream_state};
 ghost use Rattle.archive_run.specs.Crashing.{CrashCarriesOutCommand, CrashImportsFile};
 ghost use Rattle.archive_run.specs.Databases.{UsesDatabaseIfOpened};
 ghost use Rattle.archive_run.specs.Refusals.{IsCommandErrorWith};
 ghost use Rattle.archive_run.specs.Orders.{RunExportsListOnDay, RunGetsMessageOnDay, RunsCheck, RunsExport, RunsGet, RunsImport, RunsStoreCommand, ask_of_values};
-ghost use Rattle.archive_run.specs.Working.{report_line};
+ghost use Rattle.archive_run.specs.Working.{WritesTextOrFails, report_line};
 
 use crate::faults::RunError;
 use crate::working::{work_check, work_export, work_get, work_import, work_table};
@@ -16,6 +16,8 @@ use archive_desk::Report;
 use archive_listen::BufferedSink;
 use archive_results::{Ask, Reader};
 use civil_time::Day;
+use itoa::Buffer;
+use mbox_core::device::write_bytes;
 use policy_core::Policy;
 use sift_run::{CommandError, DayClock, ReadFiles, read_policy_or_open};
 use std::alloc::Global;
@@ -74,19 +76,35 @@ pub(crate) fn run_import<Y: Platform>(
         (λ o c. CrashImportsFile Y.Storage.Store o c Y.Files.StreamedFiles Y.Files.Input.Source world.old.files order.now.list order.now.mbox) }
 {
     match work_import(alloc, &mut world.databases, &world.files, order) {
-        Ok(report) => send_report(alloc, &mut world.output, report),
+        Ok(report) => send_report(&mut world.output, report),
         Err(refusal) => Err(refusal),
     }
 }
 
-/// Writes how many messages an import took in (F2). F5: there was no memory for the line.
-fn send_report<O: BufferedSink>(
-    alloc: Global,
-    output: &mut O,
-    report: Report,
-) -> Result<(), RunError>
-    ensures { ((result ≡ Err (RunError.Run CommandError.Memory)) × (output.new ≡ output.old))
-        ⊎ WritesAndFlushesOrFails (RunError.Run CommandError.Write) (output_stream_state O.Sink O.BufferedSink.own output.old)
+/// Writes a text to the output (F2).
+fn put_text<O: BufferedSink>(output: &mut O, text: &[u8]) -> Result<(), RunError>
+    ensures { WritesTextOrFails (output_stream_state O.Sink O.BufferedSink.own output.old)
+        (output_stream_state O.Sink O.BufferedSink.own output.new) text.now result }
+{
+    match write_bytes(output, text) {
+        Ok(()) => Ok(()),
+        Err(_) => Err(RunError::Run(CommandError::Write)),
+    }
+}
+
+/// Writes a text, and a number in decimal digits after it (F2).
+fn put_count<O: BufferedSink>(output: &mut O, text: &[u8], count: u64) -> Result<(), RunError>
+    ensures { WritesTextOrFails (output_stream_state O.Sink O.BufferedSink.own output.old)
+        (output_stream_state O.Sink O.BufferedSink.own output.new) (text.now ++ decimal count) result }
+{
+    let mut digits = Buffer::new();
+    put_text(output, text)?;
+    put_text(output, digits.format(count).as_bytes())
+}
+
+/// Writes how many messages an import took in, and passes that on (F2). It takes no memory.
+fn send_report<O: BufferedSink>(output: &mut O, report: Report) -> Result<(), RunError>
+    ensures { WritesAndFlushesOrFails (RunError.Run CommandError.Write) (output_stream_state O.Sink O.BufferedSink.own output.old)
         (output_stream_state O.Sink O.BufferedSink.own output.new) (report_line report) result }
 {
     let Report {
@@ -94,10 +112,10 @@ fn send_report<O: BufferedSink>(
         known,
         too_large,
     } = report;
-    let Ok(line) = format!(in alloc; "new {new} known {known} too-large {too_large}\n") else {
-        return Err(RunError::Run(CommandError::Memory));
-    };
-    send(output, line.as_bytes())
+    put_count(output, b"new ", new)?;
+    put_count(output, b" known ", known)?;
+    put_count(output, b" too-large ", too_large)?;
+    send(output, b"\n")
 }
 
 /// Looks whether a database is whole, and says so.

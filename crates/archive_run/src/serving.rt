@@ -56,7 +56,7 @@ fn serving_terms<'a, T>(
 }
 
 /// Says where a listener listens, answers so many of its connections out of an open store, and ends it. F4: no more connections come.
-/// F2: it could not be said where. F5: there was no memory for the routes of the pages.
+/// F2: it could not be said where. F5: the memory of the routes of the pages was refused, which the store counts.
 fn serve_listening<T: Threader, S: Alter, P: Ports, O: BufferedSink, E: Sink>(
     alloc: Global,
     store: &mut Store<S>,

@@ -33,7 +33,8 @@ pub trait Platform {
     /// Each line that is written to it goes out at once.
     type Faults: Sink + Drop;
 
-    // A database that holds an archive gives a store that remembers it, where the disk has returned what was written to it.
+    // A database that holds an archive gives a store that remembers it, if the disk has returned what was written to it, and that has no
+    // limit on the steps of a query.
     ghost opens_held: { OpenedStoreHoldsArchive Self.Storage.Store Self.Databases.Databases };
 
     // When it is closed, it holds what its store remembers then.

@@ -189,18 +189,23 @@ module _ {S L : Type 0} (g : Ghosts S) (accepts : L → L → Option AcceptError
     abbrev left_at : ServerState L (RunningService ServingContextState (Store S))
     left_at = server_state end (running_service service last)
 
-    pub all_of_fresh : ServesAllConnections Law accepts closes (server_state listener (running_service keeper store)) before after count left_at
-        → ServesAllConnections (ServingAnswerLaw g rules day store last) accepts closes (server_state listener store) before after count (server_state end last)
-    all_of_fresh it = (it.0, it.1, record { serves_each = run_each last it.0 left_at refl it.2.serves_each; reports_outcomes = it.2.reports_outcomes })
+    -- the store before the service was made
+    module _ (was : Store S) (is_was : store ≡ was) where
+      pub all_of_fresh : ServesAllConnections Law accepts closes (server_state listener (running_service keeper store)) before after count left_at
+          → ServesAllConnections (ServingAnswerLaw g rules day was last) accepts closes (server_state listener was) before after count (server_state end last)
+      all_of_fresh it =
+          subst (λ s. ServesAllConnections (ServingAnswerLaw g rules day s last) accepts closes (server_state listener s) before after count (server_state end last)) is_was
+          (it.0, it.1, record { serves_each = run_each last it.0 left_at refl it.2.serves_each; reports_outcomes = it.2.reports_outcomes })
 
-    pub fewer_of_fresh : ServesFewerConnections Law accepts closes (server_state listener (running_service keeper store)) before after count left_at
-        → ServesFewerConnections (ServingAnswerLaw g rules day store last) accepts closes (server_state listener store) before after count (server_state end last)
-    fewer_of_fresh it =
-        let same = same_state service last it.1.state it.4 in (
-          it.0,
-          server_state it.1.listener it.1.state.state,
-          it.2,
-          record { serves_each = run_each last it.0 it.1 same it.3.serves_each; reports_outcomes = it.3.reports_outcomes },
-          same,
-          it.5,
-        )
+      pub fewer_of_fresh : ServesFewerConnections Law accepts closes (server_state listener (running_service keeper store)) before after count left_at
+          → ServesFewerConnections (ServingAnswerLaw g rules day was last) accepts closes (server_state listener was) before after count (server_state end last)
+      fewer_of_fresh it =
+          let same = same_state service last it.1.state it.4 in
+          subst (λ s. ServesFewerConnections (ServingAnswerLaw g rules day s last) accepts closes (server_state listener s) before after count (server_state end last)) is_was (
+            it.0,
+            server_state it.1.listener it.1.state.state,
+            it.2,
+            record { serves_each = run_each last it.0 it.1 same it.3.serves_each; reports_outcomes = it.3.reports_outcomes },
+            same,
+            it.5,
+          )

@@ -3,6 +3,7 @@ ghost use Rattle.std.specs.Prelude.{◌≡◌, ◌≢◌, ◌≤◌, ◌<◌, Er
 ghost use Rattle.archive_listen.specs.Connections.{error_stream_state};
 ghost use Rattle.archive_listen.specs.Serving.{ServesAllConnections, ServesFewerConnections, server_state};
 ghost use Rattle.archive_serve.specs.Announced.{WritesListeningLine};
+ghost use Rattle.archive_serve.specs.Pages.{OnlyCountsRefusal};
 ghost use Rattle.archive_serve.specs.Runs.{ServingAnswerLaw};
 
 use crate::faults::ServingError;
@@ -54,20 +55,20 @@ pub fn serve<T: Threader, S: Alter, L: Listener, O: BufferedSink, E: Sink>(
         (server_state listener.old store.old)
         (error_stream_state E.Sink faults.old) (error_stream_state E.Sink faults.new) count (server_state listener.new store.new)) }
 
-    // At F4 it was said where the archive listens, and fewer connections were answered; before that nothing was touched, and at F5 no
-    // output either.
+    // At F4 it was said where the archive listens, and fewer connections were answered. At F2 the output failed. At F5 the store counts one
+    // more refusal of memory. At F2 and F5 nothing else was touched.
     ensures stopped { result ≡ Err ServingError.Listen
         → WritesListeningLine port (O.told output.old) (O.told output.new) (O.sent output.new)
         × ServesFewerConnections (ServingAnswerLaw S.Store terms.now.policy.now terms.now.day store.old store.new) L.accepts L.closes
         (server_state listener.old store.old)
         (error_stream_state E.Sink faults.old) (error_stream_state E.Sink faults.new) count (server_state listener.new store.new) }
     ensures untouched { IfErr result (λ stop. stop ≢ ServingError.Listen
-        → (store.new ≡ store.old) × (listener.new ≡ listener.old) × (faults.new ≡ faults.old)
-        × (stop ≡ ServingError.Write → O.failures output.old < O.failures output.new)
-        × (stop ≡ ServingError.Memory → output.new ≡ output.old)) }
+        → (listener.new ≡ listener.old) × (faults.new ≡ faults.old)
+        × (stop ≡ ServingError.Write → (store.new ≡ store.old) × (O.failures output.old < O.failures output.new))
+        × (stop ≡ ServingError.Memory → OnlyCountsRefusal store.old store.new × (output.new ≡ output.old))) }
     ensures failures { E.failures faults.old ≤ E.failures faults.new }
 {
-    let mut service = PageService::new(terms)?;
+    let mut service = PageService::new(terms, store)?;
     announce(port, output)?;
     match serve_each(&mut service, store, listener, count, faults) {
         Ok(()) => Ok(()),

@@ -1,5 +1,5 @@
 //! Laws of a run of connections: each contract is a law over the definitions of `specs/` alone, and the call does nothing.
-ghost use Rattle.archive_serve.specs.Runs.{EachGetsItsReply, WholeRepliesLeaveStoreOpen};
+ghost use Rattle.archive_serve.specs.Runs.{Each503HasItsCause, EachGetsItsReply, WholeRepliesLeaveStoreOpen};
 
 use archive_listen::Listener;
 use sqlite::Alter;
@@ -13,4 +13,10 @@ pub fn whole_replies_leave_the_store_ready<S: Alter, L: Listener>()
 /// the listener took back.
 pub fn each_peer_gets_its_reply<S: Alter, L: Listener>()
     ensures { EachGetsItsReply S.Store L.over L.accepts L.closes }
+{}
+
+/// Each 503 and each mbox that broke off has its cause: while it was answered memory was refused or the disk failed; or the disk had failed
+/// before and closed the store; or what was asked for cannot be read.
+pub fn each_503_has_its_cause<S: Alter, L: Listener>()
+    ensures { Each503HasItsCause S.Store L.over L.accepts L.closes }
 {}

@@ -1,14 +1,15 @@
 //! The archive's pages as a service.
-ghost use Rattle.std.specs.Prelude.{◌≡◌, IfOk};
+ghost use Rattle.std.specs.Prelude.{◌≡◌, MatchResult};
 ghost use Rattle.archive_serve.specs.Keeping.{fresh_serving_context};
+ghost use Rattle.archive_serve.specs.Pages.{OnlyCountsRefusal};
 
+use crate::faults::ServingError;
 use archive_cache::Cache;
 use archive_listen::{ConnectionError, Service};
 use archive_pages::{Pages, ServeFault, answer_cached};
 use archive_requests::Routes;
 use archive_store::Store;
 use civil_time::Day;
-use mail_core::Memory;
 use mbox_core::device::{Sink, Source};
 use policy_core::Policy;
 use sqlite::Alter;
@@ -48,11 +49,23 @@ impl<'a, T> Model for PageService<'a, T> {
 }
 
 impl<'a, T> PageService<'a, T> {
-    /// It has routes, and keeps nothing yet. `Memory`: that of the routes was refused.
-    pub(crate) fn new(terms: &ServingContext<'a, T>) -> Result<PageService<'a, T>, Memory>
-        ensures { IfOk result (λ service. service ≡ fresh_serving_context terms.now.policy.now terms.now.day terms.now.most) }
+    /// It has routes, and keeps nothing yet. F5: the memory of the routes was refused, which the store counts.
+    pub(crate) fn new<S: Alter>(
+        terms: &ServingContext<'a, T>,
+        store: &mut Store<S>,
+    ) -> Result<PageService<'a, T>, ServingError>
+        ensures { MatchResult result
+            (λ service. (service ≡ fresh_serving_context terms.now.policy.now terms.now.day terms.now.most)
+            × (store.new ≡ store.old))
+            (λ stop. (stop ≡ ServingError.Memory) × OnlyCountsRefusal store.old store.new) }
     {
-        let routes = Routes::new(terms.alloc)?;
+        let routes = match Routes::new(terms.alloc) {
+            Ok(routes) => routes,
+            Err(refused) => {
+                store.wants.increment(refused.into());
+                return Err(ServingError::from(refused));
+            }
+        };
         Ok(PageService {
             pages: Pages {
                 alloc: terms.alloc,

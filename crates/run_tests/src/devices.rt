@@ -125,7 +125,10 @@ impl Databases<Store<MemStore>> for Shelf {
             return Err(StoreFault::Store);
         }
         let store = match self.store.take() {
-            Some(store) => store,
+            Some(store) => match Store::adopt(store.into_connection()) {
+                Ok(store) => store,
+                Err(stop) => return Err(stop.fault),
+            },
             None => Store::open_in_memory(alloc)?,
         };
         self.opened = self.opened.saturating_add(1);

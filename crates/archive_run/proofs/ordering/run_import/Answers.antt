@@ -1,4 +1,4 @@
-use Rattle.std.proofs.Common.{ap, inl, inr, refl}
+use Rattle.std.proofs.Common.{inr, refl}
 use Rattle.archive_run.specs.Orders.{RunsImport}
 use Rattle.sift_run.proofs.ResultLemmas.{by_result}
 use Rattle.archive_run.proofs.ordering.run_import.Goals as goal
@@ -10,10 +10,7 @@ returns-in-Ok-clause-runs g c =
     let new = record old { databases = c.work_import.new.databases; output = end } in
     let report = c.in-Ok.report in
     let taken = c.in-Ok.ensures.worked in
-    elim c.send_report.ensures [
-      | inl memory ↦ rw memory.0 (inr (report, taken, inl (refl, ap (λ o. record new { output = o }) memory.1)))
-      | inr sent ↦ by_result (RunsImport old new g.Y.Output.Sink g.Y.Output.BufferedSink g.Y.Storage.Store g.Y-Databases-Databases g.Y.Files.StreamedFiles g.Y.Files.Input.Source c.args.order.now)
-          _ _ c.send_report.result sent
-          (λ u sends. (report, taken, (sends, refl)))
-          (λ e part. inr (report, taken, inr (part.0, part.1, refl)))
-    ]
+    by_result (RunsImport old new g.Y.Output.Sink g.Y.Output.BufferedSink g.Y.Storage.Store g.Y-Databases-Databases g.Y.Files.StreamedFiles g.Y.Files.Input.Source c.args.order.now)
+    _ _ c.send_report.result c.send_report.ensures
+    (λ u sends. (report, taken, (sends, refl)))
+    (λ e part. inr (report, taken, (part.0, part.1, refl)))
