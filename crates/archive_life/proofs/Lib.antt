@@ -1,0 +1,7 @@
+mod HistoryLemmas
+mod PartLemmas
+mod SentLemmas
+mod RestartLemmas
+mod SequenceLemmas
+mod PeerLemmas
+mod WorkedExamples
