@@ -25,6 +25,11 @@ abbrev pub AreCoherent : Archive → List Rule → ℤ → List CachedView → T
 AreCoherent archive rules day [] = ⊤
 AreCoherent archive rules day (view ∷ views) = IsCoherent archive rules day view × AreCoherent archive rules day views
 
+-- what a call does to what is kept that changes only the marks of withheld messages: it weighs no more than it may
+pub record ChangesOnlyWithheld (old new : CacheState) : Type 0 where
+  pub only_withheld_differs : new ≡ record old { withheld = new.withheld }
+  pub stays_bounded : IsCacheBounded old → IsCacheBounded new
+
 -- its list holds the message, and these are its marks
 abbrev pub IsWithheldCoherent : Archive → WithheldMessage → Type 0
 IsWithheldCoherent archive it = (m : Message) × (message_of archive it.list it.key ≡ Some m) × (it.marks ≡ message_facts None m)

@@ -1,13 +1,13 @@
 -- The messages of a list by the keys of lines, written one after the other as an mbox (RFC 4155).
-use Rattle.std.specs.Prelude.{◌≡◌, ◌<◌, ◌+◌, ◌-◌, ◌^◌, ◌++◌, if◌then◌else◌, ℕ, List, [], length, flat_map, min, Option, None, Result, IfErr, MatchOption, MatchResult, option_map}
+use Rattle.std.specs.Prelude.{◌≡◌, ◌<◌, ◌+◌, ◌-◌, ◌^◌, ◌++◌, ℕ, List, [], length, flat_map, min, Option, Result, IfErr, MatchOption, MatchResult, option_map}
 use Rattle.std.specs.Option.{option_map_or}
 use Rattle.sqlite.specs.Store.{Ghosts}
 use Rattle.mbox_core.specs.Written.{AppendsPrefixOfText, written_item}
-use Rattle.archive_model.specs.Records.{Archive, Message as Remembered}
-use Rattle.archive_model.specs.Questions.{has_list, message_of, messages_in}
+use Rattle.archive_model.specs.Records.{Archive}
+use Rattle.archive_model.specs.Questions.{message_of, messages_in}
 use Rattle.archive_model.specs.Messages.{archived_message}
 use Rattle.archive_model.specs.declared.messages.Message.{Message}
-use Rattle.archive_store.specs.Told.{CountsRefusals, StoreHasCleanDisk, HoldsTables, IsOpen, StaysOpenUnlessDiskFails, archive_in}
+use Rattle.archive_store.specs.Told.{CountsRefusals, StoreHasCleanDisk, HoldsTables, IsOpen, StaysOpenUnlessDiskFails, WritesNothing, archive_in}
 use Rattle.archive_store.specs.declared.store.Store.{Store}
 use Rattle.archive_results.specs.Shown.{Line, shown_message}
 use Rattle.archive_desk.specs.Causes.{HasUnreadableMessage, HasCause, IsDeskDatabaseFault, IsDeskMemoryRefusal}
@@ -15,13 +15,9 @@ use Rattle.archive_desk.specs.Faults.{refusal_reason}
 use Rattle.archive_desk.specs.declared.exporting.ExportStop.{ExportStop}
 use Rattle.archive_desk.specs.declared.faults.DeskError.{DeskError}
 
--- the message of a key, of a list that is there
-abbrev pub message_in : Archive → (list key : List ℕ) → Option Remembered
-message_in archive list key = if has_list archive list then message_of archive list key else None
-
 -- the text of the message of a line; nothing where the list does not hold it
 abbrev pub mbox_text_of_line : Archive → (list : List ℕ) → Line → List ℕ
-mbox_text_of_line archive list line = option_map_or (λ m. written_item (shown_message m).item) (message_in archive list line.key) []
+mbox_text_of_line archive list line = option_map_or (λ m. written_item (shown_message m).item) (message_of archive list line.key) []
 
 abbrev pub mbox_text_of_lines : Archive → (list : List ℕ) → List Line → List ℕ
 mbox_text_of_lines archive list lines = flat_map (mbox_text_of_line archive list) lines
@@ -37,7 +33,7 @@ module _ {S : Type 0} (g : Ghosts S) (new : Store S) (a : Archive) where
 
   -- The message of a line was looked for.
   abbrev pub LooksUpMessage : (list key : List ℕ) → Result (Option Message) DeskError → Type 0
-  LooksUpMessage list key result = MatchResult result (λ found. RemembersArchive × (option_map (archived_message list) found ≡ message_in a list key)) RemembersAfterFault
+  LooksUpMessage list key result = MatchResult result (λ found. RemembersArchive × (option_map (archived_message list) found ≡ message_of a list key)) RemembersAfterFault
 
   module _ (list : List ℕ) (lines : List Line) where
     -- The text of lines was written and counted, as far as 64 bits go; or exactly the first bytes of it.
@@ -62,9 +58,10 @@ module _ {S : Type 0} (g : Ghosts S) (old new : Store S) where
   abbrev pub IsTrueOfOldArchive : (Archive → Type 0) → Type 0
   IsTrueOfOldArchive Says = StoreHasCleanDisk g new → HoldsTables g old → Says (archive_in g old)
 
-  -- How a call ends that writes messages of a list, and whose fault carries one of the desk: what it does to the store, why G4 with E15
-  -- comes, and that want of memory is counted.
+  -- How a call ends that sends messages of a list, and whose fault carries one of the desk: what it does to the store, to which it writes
+  -- nothing, why G4 with E15 comes, and that want of memory is counted.
   pub record EndsMboxOfLines (list : List ℕ) {A F : Type 0} (carried : F → DeskError) (result : Result A F) : Type 0 where
     pub remains_open : StaysOpenUnlessDiskFails g old new
+    pub writes_nothing : WritesNothing g old new
     pub fault_has_cause : IfErr result (λ fault. IsDeskDatabaseFault (carried fault) → HasCause g old new (λ a. HasUnreadableMessage (messages_in a list)))
     pub refusals_counted : CountsRefusals (λ fault. IsDeskMemoryRefusal (carried fault)) old new result

@@ -85,12 +85,12 @@ IsReadOfIfOpened mbox (inr read) = IsReadOf mbox read.text read.end_count
 module _ {Y S F D C P T R O E I L K A B M : Type 0} (dev : DeviceContracts S F I D C P L T R O E) where
   -- ---- a run
 
-  -- What `run` says of a run, by how it ended. If it printed its word: the order was carried out (`done`). Of any other command or import:
-  -- what a crash leaves at each moment (`crash`). Of any other server: why it was refused, and what it answered before (`refused`); a
-  -- server that is killed is a run whose listener gives no more connections. Of any other question nothing.
+  -- What `run` says of a run, by how it ended. If it printed its word: the order was carried out (`done`). Of any other: what a crash leaves
+  -- at each moment (`crash`); and of a server why it was refused, and what it answered before (`refused`). A server that is killed is a run
+  -- whose listener gives no more connections.
   abbrev pub RunEnds : (old new : Environment Y S F D C P T R O E I L K A B M) → Ending → Order → Type 0
   RunEnds old new printed order = OrderIsCarriedOut dev old new order
-  RunEnds old new cut_off (Serve order) = OrderIsRefused dev old new (Serve order)
+  RunEnds old new cut_off (Serve order) = CrashRunsOrder dev old new (Serve order) × OrderIsRefused dev old new (Serve order)
   RunEnds old new cut_off order = CrashRunsOrder dev old new order
 
   module _ (old new : Environment Y S F D C P T R O E I L K A B M) where
@@ -109,7 +109,7 @@ module _ {Y S F D C P T R O E I L K A B M : Type 0} (dev : DeviceContracts S F I
     AnswersConnectionsFrom archive served =
         ExchangesAreAnsweredWithCause dev.pages archive served.rules served.day served.store served.store served.later served.outcomes served.exchanges
 
-  -- the store of a run, if its database was opened and `run` says something of it
+  -- the store of a run, if its database was opened
   abbrev pub store_of_run : (old new : Environment Y S F D C P T R O E I L K A B M) (ending : Ending) (order : Order) → RunEnds old new ending order → Option (UsedStore S)
   store_of_run old new printed (Sift order) ends = None
   store_of_run old new printed (Table order) ends = Some (store_of_use ends.runs_on_archive.2)
@@ -118,11 +118,19 @@ module _ {Y S F D C P T R O E I L K A B M : Type 0} (dev : DeviceContracts S F I
   store_of_run old new printed (Export order) ends = Some (store_of_use ends.runs_on_archive.2.3)
   store_of_run old new printed (Check order) ends = Some (store_of_use ends.runs_on_archive)
   store_of_run old new printed (Serve order) ends = Some (store_of_server old new ends.runs_on_archive)
+  store_of_run old new cut_off (Sift order) ends = None
   store_of_run old new cut_off (Table order) ends = store_if_used ends
   store_of_run old new cut_off (Import order) ends = store_if_used ends
-  store_of_run old new cut_off (Serve order) ends =
-      option_map (λ served. store_of_server old ends.stopped served) (served_until_end old ends.stopped order ends.refusal ends.served_until_f4)
-  store_of_run old new cut_off order ends = None
+  store_of_run old new cut_off (Get order) ends = store_if_used ends
+  store_of_run old new cut_off (Export order) ends = store_if_used ends
+  store_of_run old new cut_off (Check order) ends = store_if_used ends
+  store_of_run old new cut_off (Serve order) ends = store_if_used ends.0
+
+  -- the store of a server that was cut off, as it answered until then
+  abbrev pub store_until_end : (old new : Environment Y S F D C P T R O E I L K A B M) (ending : Ending) (order : Order) → RunEnds old new ending order → Option (UsedStore S)
+  store_until_end old new cut_off (Serve order) (crash, refused) =
+      option_map (λ served. store_of_server old refused.stopped served) (served_until_end old refused.stopped order refused.refusal refused.served_until_f4)
+  store_until_end old new ending order ends = None
 
   -- What was printed is of this archive, and so is what a server sent, however it ended: the word is the machine's answer to the command,
   -- the report counts its answers to the messages, the message or the mbox is what the definition gives the reader, the database is whole,
@@ -137,8 +145,8 @@ module _ {Y S F D C P T R O E I L K A B M : Type 0} (dev : DeviceContracts S F I
       (output_after dev old new).written ≡ (output_before dev old new).written ++ exported_text archive (ask_of_values order ends.runs_on_archive.0 ends.runs_on_archive.2.1)
   AnswersFrom old new printed (Check order) ends archive = PassesCheck archive
   AnswersFrom old new printed (Serve order) ends archive = AnswersConnectionsFrom old new archive ends.runs_on_archive
-  AnswersFrom old new cut_off (Serve order) ends archive = MatchOption (served_until_end old ends.stopped order ends.refusal ends.served_until_f4)
-      (ends.refusal ≢ Net → dev.went ends.stopped.ports ≡ dev.went old.ports) (λ served. AnswersConnectionsFrom old ends.stopped archive served)
+  AnswersFrom old new cut_off (Serve order) (crash, refused) archive = MatchOption (served_until_end old refused.stopped order refused.refusal refused.served_until_f4)
+      (refused.refusal ≢ Net → dev.went refused.stopped.ports ≡ dev.went old.ports) (λ served. AnswersConnectionsFrom old refused.stopped archive served)
   AnswersFrom old new ending order ends archive = ⊤
 
 -- ---- what is trusted of a run
@@ -165,14 +173,12 @@ module _ {S F D C P T R O E I L : Type 0} (dev : DeviceContracts S F I D C P L T
 module _ {Y S F D C P T R O E I L K A B M : Type 0} (dev : DeviceContracts S F I D C P L T R O E) where
   module _ (file : List ℕ) (NextHolds : Archive → Type 0) where
     -- After a run that printed its word, and so had closed its database, the next run finds what the databases held then. After any other
-    -- command or import that opened the database, it finds what a crash may leave of the store as it was last; closing the database adds
-    -- nothing to that. Else it finds what the databases held before the run: an opening that fails leaves the archive, and questions and
-    -- servers write nothing. No clause of `run` says this of a crash within an opening, a question or a server.
+    -- run that opened the database, it finds what a crash may leave of the store as it was last; closing the database adds nothing to that.
+    -- Else it finds what the databases held before the run: an opening that fails leaves the archive. No clause of `run` says this of a
+    -- crash within an opening.
     abbrev pub FindsAfter : (old new : Environment Y S F D C P T R O E I L K A B M) → Ending → Order → Option (UsedStore S) → Type 0
     FindsAfter old new printed order store = FindsHeld dev file NextHolds new.databases
-    FindsAfter old new cut_off (Table order) store = MatchOption store (FindsHeld dev file NextHolds old.databases) (λ s. FindsCrashed dev file NextHolds s.last)
-    FindsAfter old new cut_off (Import order) store = MatchOption store (FindsHeld dev file NextHolds old.databases) (λ s. FindsCrashed dev file NextHolds s.last)
-    FindsAfter old new cut_off order store = FindsHeld dev file NextHolds old.databases
+    FindsAfter old new cut_off order store = MatchOption store (FindsHeld dev file NextHolds old.databases) (λ s. FindsCrashed dev file NextHolds s.last)
 
   -- If a server printed its word, no fault of the disk had shut its store.
   abbrev pub ServerStaysOpen : (old new : Environment Y S F D C P T R O E I L K A B M) (ending : Ending) (order : Order) → RunEnds dev old new ending order → Type 0
@@ -205,5 +211,6 @@ module _ {Y S F D C P T R O E I L K A B M : Type 0} (dev : DeviceContracts S F I
   pub record IsTrustedRun (file : List ℕ) (r : ProgramRun Y K A B M dev) : Type 0 where
     pub is_over_database : IsOverDatabase file r.order
     pub store_is_sound : IfSome (store_of_run dev r.old r.new r.ending r.order r.ends) (IsSoundStore dev)
+    pub store_was_sound : IfSome (store_until_end dev r.old r.new r.ending r.order r.ends) (IsSoundStore dev)
     pub server_stays_open : ServerStaysOpen dev r.old r.new r.ending r.order r.ends
     pub mbox_is_read : ReadsMbox dev r.old r.new r.ending r.order r.ends r.mbox

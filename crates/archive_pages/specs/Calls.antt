@@ -5,6 +5,7 @@ use Rattle.byte_device.specs.declared.devices.Sink.{Ghosts as Takes}
 use Rattle.byte_device.specs.declared.devices.Source.{Ghosts as Gives}
 use Rattle.policy_core.specs.Rules.{Rule}
 use Rattle.archive_model.specs.Records.{Archive}
+use Rattle.archive_store.specs.Told.{WritesNothing}
 use Rattle.archive_store.specs.declared.store.Store.{Store}
 use Rattle.archive_results.specs.Access.{Ask, no_list}
 use Rattle.archive_desk.specs.Faults.{ask_reason, refused}
@@ -102,11 +103,12 @@ module _ {S W : Type 0} (g : Ghosts S) (takes : Takes W) (old new : Store S) (be
 
 -- ---- a request and its reply
 
--- How an answer ends, whatever is kept and whatever the store is: what it leaves of the store; no direction failed where a reply went
--- out; and each fault has its cause.
+-- How an answer ends, whatever is kept and whatever the store is: what it leaves of the store, to which it writes nothing; no direction
+-- failed where a reply went out; and each fault has its cause.
 pub record EndsAnswer {S R W : Type 0} (g : Ghosts S) (gives : Gives R) (takes : Takes W) (old new : Store S) (input_old input_new : R) (output_old output_new : W)
     (result : Result ℕ ServeFault) : Type 0 where
   pub stays : StoreKeepsArchive g old new result
+  pub writes_nothing : WritesNothing g old new
   pub quiet : OnOk result ((gives.failures input_new ≡ gives.failures input_old) × (takes.failures output_new ≡ takes.failures output_old))
   pub cause : IfErr result (λ fault. HasServeFaultCause (takes.told output_old) (takes.told output_new) (gives.failures input_old) (gives.failures input_new)
       (takes.failures output_old) (takes.failures output_new) fault)

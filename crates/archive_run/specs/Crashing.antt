@@ -5,6 +5,7 @@ use Rattle.sqlite.specs.Store.{Ghosts}
 use Rattle.byte_device.specs.declared.devices.Source.{Ghosts as Reads}
 use Rattle.archive_store.specs.Crashes.{CrashLeavesRelatedArchive}
 use Rattle.archive_store.specs.Held.{store_connection}
+use Rattle.archive_store.specs.Told.{WritesNothing}
 use Rattle.archive_store.specs.declared.store.Store.{Store as Open}
 use Rattle.archive_import.specs.Streaming.{HasAddedReadAtLeast}
 use Rattle.archive_args.specs.Values.{StoreCommand}
@@ -13,7 +14,7 @@ use Rattle.archive_args.specs.declared.orders.Order.TheVariants.{Sift, Table, Im
 use Rattle.archive_commands.specs.Commands.{command_outcome}
 use Rattle.sift_run.specs.declared.files.FileError.{FileError}
 use Rattle.sift_run.specs.declared.files.StreamedFiles.{Ghosts as Opens}
-use Rattle.archive_run.specs.Databases.{UsesDatabaseIfOpened}
+use Rattle.archive_run.specs.Databases.{LeavesOrUsesDatabase}
 use Rattle.archive_run.specs.Files.{ReadsOpenedFile, GivesNoInput}
 use Rattle.archive_run.specs.Environments.{DeviceContracts}
 use Rattle.archive_run.specs.declared.world.Environment.{Environment}
@@ -39,16 +40,16 @@ module _ {S : Type 0} (g : Ghosts S) (old new : Open S) where
 -- ---- an order
 
 module _ {Y S F D C P T R O E I L K A B M : Type 0} (dev : DeviceContracts S F I D C P L T R O E) (old new : Environment Y S F D C P T R O E I L K A B M) where
-  -- The databases are as before, or this became of the one of this name, if it was opened.
-  abbrev pub LeavesOrUsesDatabase : (file : List ℕ) → (Open S → Open S → Type 0) → Type 0
-  LeavesOrUsesDatabase file Becomes = (new.databases ≡ old.databases) ⊎ UsesDatabaseIfOpened dev.databases old.databases new.databases file Becomes
+  -- the databases before and after
+  abbrev pub LeavesOrUses : (file : List ℕ) → (Open S → Open S → Type 0) → Type 0
+  LeavesOrUses = LeavesOrUsesDatabase dev.databases old.databases new.databases
 
-  -- An order that changes an archive, at whatever status the run ends. Of a question nothing is said.
+  -- At whatever status the run ends: what may be left of the store of the order, while that is open. A question and a server write nothing.
   abbrev pub CrashRunsOrder : Order → Type 0
   CrashRunsOrder (Sift order) = ⊤
-  CrashRunsOrder (Table order) = LeavesOrUsesDatabase order.file (λ o c. CrashCarriesOutCommand dev.pages o c order.command)
-  CrashRunsOrder (Import order) = LeavesOrUsesDatabase order.file (λ o c. CrashImportsFile dev.pages o c dev.opens dev.input_of old.files order.list order.mbox)
-  CrashRunsOrder (Get order) = ⊤
-  CrashRunsOrder (Export order) = ⊤
-  CrashRunsOrder (Check order) = ⊤
-  CrashRunsOrder (Serve order) = ⊤
+  CrashRunsOrder (Table order) = LeavesOrUses order.file (λ o c. CrashCarriesOutCommand dev.pages o c order.command)
+  CrashRunsOrder (Import order) = LeavesOrUses order.file (λ o c. CrashImportsFile dev.pages o c dev.opens dev.input_of old.files order.list order.mbox)
+  CrashRunsOrder (Get order) = LeavesOrUses order.ask.file (WritesNothing dev.pages)
+  CrashRunsOrder (Export order) = LeavesOrUses order.file (WritesNothing dev.pages)
+  CrashRunsOrder (Check order) = LeavesOrUses order.file (WritesNothing dev.pages)
+  CrashRunsOrder (Serve order) = LeavesOrUses order.file (WritesNothing dev.pages)

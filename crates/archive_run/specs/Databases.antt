@@ -1,5 +1,5 @@
 -- What becomes of a database that is opened by its name, and closed again.
-use Rattle.std.specs.Prelude.{◌⊎◌, ℕ, List, Ok, Err}
+use Rattle.std.specs.Prelude.{◌≡◌, ◌⊎◌, ℕ, List, Ok, Err}
 use Rattle.archive_store.specs.declared.store.Store.{Store}
 use Rattle.archive_port.specs.declared.faults.StoreFault.{StoreFault}
 use Rattle.archive_run.specs.declared.databases.Databases.{Ghosts}
@@ -21,3 +21,7 @@ module _ {S D : Type 0} (keeps : Ghosts D (Store S)) (old new : D) (file : List 
   -- It was not opened, for some fault; or it was opened, this became of its store, and it was closed.
   abbrev pub UsesDatabaseIfOpened : (Store S → Store S → Type 0) → Type 0
   UsesDatabaseIfOpened Becomes = ((fault : StoreFault) × GivesNoDatabase fault) ⊎ UsesDatabase Becomes
+
+  -- The databases are as before, or this became of the one of this name, if it was opened.
+  abbrev pub LeavesOrUsesDatabase : (Store S → Store S → Type 0) → Type 0
+  LeavesOrUsesDatabase Becomes = (new ≡ old) ⊎ UsesDatabaseIfOpened Becomes

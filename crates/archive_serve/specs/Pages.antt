@@ -3,6 +3,7 @@ use Rattle.std.specs.Prelude.{◌≡◌, ◌+◌, ⊤, ℕ, ℤ, List, Result, O
 use Rattle.sqlite.specs.Store.{Ghosts}
 use Rattle.policy_core.specs.Rules.{Rule}
 use Rattle.archive_store.specs.Held.{memory_refusal_count}
+use Rattle.archive_store.specs.Told.{WritesNothing}
 use Rattle.archive_store.specs.declared.store.Store.{Store}
 use Rattle.archive_pages.specs.Answered.{IfAnsweredOrUnread, Sends404IfUnrouted, ReadsRequestInput}
 use Rattle.archive_pages.specs.Causes.{IsInputDataUnreadable, ServesOr503}
@@ -20,10 +21,11 @@ connection_result_of (Err answering.Read) = Err Read
 connection_result_of (Err (answering.Write written)) = Err Write
 connection_result_of (Err (answering.Broken written)) = Err Broken
 
--- How one answer by these rules, on this day, ends, whatever the store is: the store is left, no direction failed where a reply went
--- out, each fault has its cause, and so have 503 and S3. What went out is not said.
+-- How one answer by these rules, on this day, ends, whatever the store is: the store is left, and nothing is written to it; no direction
+-- failed where a reply went out, each fault has its cause, and so have 503 and S3. What went out is not said.
 pub record EndsConnection {S : Type 0} (g : Ghosts S) (rules : List Rule) (day : ℤ) (old new : Store S) (before after : ConnectionTranscript) (result : Result ℕ ServeFault) : Type 0 where
   pub archive_is_kept : StoreKeepsArchive g old new result
+  pub writes_nothing : WritesNothing g old new
   pub no_failure_if_ok : OnOk result ((after.read_failures ≡ before.read_failures) × (after.write_failures ≡ before.write_failures))
   pub cause : IfErr result (λ fault. HasServeFaultCause before.written after.written
       before.read_failures after.read_failures before.write_failures after.write_failures fault)

@@ -2,6 +2,7 @@
 use Rattle.std.specs.Prelude.{◌≡◌, ◌⊎◌, ◌<◌, ℕ, ⊤, IsTrue, List, Option, None, Some, Result, IfErr, OnOk, MatchResult, MatchOption}
 use Rattle.sqlite_disk.specs.Disk.{MoreFaults}
 use Rattle.sqlite.specs.Effect.{Database}
+use Rattle.sqlite.specs.Tree.{Trees}
 use Rattle.sqlite.specs.Store.{Ghosts}
 use Rattle.sqlite.specs.Held.{Held, state}
 use Rattle.sqlite.specs.State.{HasCleanDisk}
@@ -73,7 +74,15 @@ module _ {S : Type 0} (g : Ghosts S) where
   abbrev pub HasNoStepLimit : Store S → Type 0
   HasNoStepLimit store = (state g (store_connection store)).step_limit ≡ None
 
+  -- what the next opening may find after a crash at this moment, if the disk has returned what was written to it
+  abbrev pub CrashMayLeave : Store S → Trees → Type 0
+  CrashMayLeave store db = StoreHasCleanDisk store × (state g (store_connection store)).may_leave db
+
   module _ (old new : Store S) where
+    -- A question, whatever it answers: a crash after it leaves what a crash before it might have left, and nothing else.
+    abbrev pub WritesNothing : Type 0
+    WritesNothing = (db : Trees) → CrashMayLeave new db → CrashMayLeave old db
+
     -- a disk that has returned what was written so far had done so before
     abbrev pub HadCleanDisk : Type 0
     HadCleanDisk = StoreHasCleanDisk new → StoreHasCleanDisk old
