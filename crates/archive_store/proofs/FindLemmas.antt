@@ -21,7 +21,7 @@ use Rattle.archive_tables.proofs.CauseLemmas.{answers_none}
 use Rattle.archive_tables.proofs.EndLemmas.{rests_behind}
 use Rattle.archive_port.specs.Replies.{refusal_of_fault, IsOneOf, IsRefusedOnlyFor}
 use Rattle.archive_database.specs.Faults.{as_store_fault}
-use Rattle.archive_store.specs.Replies.{AnswersStoreQuestion}
+use Rattle.archive_store.specs.Replies.{AnswersStoreQuestion, ArchiveIsUnchanged}
 use Rattle.archive_store.specs.Told.{EndsQuestion, EndsWithCause, DiskHasFailed}
 use Rattle.archive_store.specs.declared.store.Store.{Store}
 use Rattle.archive_port.specs.declared.faults.StoreFault.{StoreFault}
@@ -170,6 +170,40 @@ rests_of fault Y {X} none it = subst (λ o. MatchOption o X Y) none it
 pub rests_later : (old mid new : State) → archive_of mid ≡ archive_of old → (IsTrue new.is_open → IsArchiveAtRest new × (archive_of new ≡ archive_of mid))
     → IsTrue new.is_open → IsArchiveAtRest new × (archive_of new ≡ archive_of old)
 rests_later old mid new same rests = λ up. let it = rests up in (it.0, it.1 ∙ same)
+
+-- a question that nothing refuses, for any reasons
+pub unrefused_for : {A : Type 0} (r : Result A StoreFault) (whys : List Refusal) → IsRefusedOnlyFor r [] → IsRefusedOnlyFor r whys
+unrefused_for (Ok a) whys it = tt
+unrefused_for (Err fault) whys it = rw (no_reason_of fault it) tt
+
+-- it asked a store that was open
+pub up_behind : {A : Type 0} {Up : Type 0} (r : Result A StoreFault) → Up → MatchResult r (λ _. Up) (λ fault. MatchOption (refusal_of_fault fault) ⊤ (λ _. Up))
+up_behind (Ok a) up = up
+up_behind {Up = Up} (Err fault) up = go (refusal_of_fault fault)
+  where
+    go : (o : Option Refusal) → MatchOption o ⊤ (λ _. Up)
+    go None = tt
+    go (Some why) = up
+
+-- what a question says of one store, where it may be refused so
+abbrev pub SaysOf : {S A : Type 0} → Ghosts S → (old new : Held S) → Result A StoreFault → Option Refusal → (A → Type 0) → Type 0
+SaysOf g old new r refused Says = MatchResult r (λ a. ArchiveIsUnchanged g old new × (refused ≡ None) × Says a)
+    (λ fault. MatchOption (refusal_of_fault fault) (IsTrue (state g new).is_open → ArchiveIsUnchanged g old new) (λ why. ArchiveIsUnchanged g old new × (refused ≡ Some why)))
+
+-- it comes behind a look that left the archive and refuses it for no reason
+module _ {S A : Type 0} (g : Ghosts S) (old mid new : Held S) (Says : Archive → A → Type 0) (refuses : Archive → Option Refusal) where
+  pub asked_behind : (r : Result A StoreFault) → IsRefusedOnlyFor r [] → AnswersStoreQuestion g mid new r never Says → HasCleanDisk (state g new) → ArchiveIsUnchanged g old mid
+      → refuses (archive_of (state g old)) ≡ None → SaysOf g old new r (refuses (archive_of (state g old))) (Says (archive_of (state g old)))
+  asked_behind r unrefused asks clean stays listed = go r unrefused (asks clean stays.0)
+    where
+      go : (r : Result A StoreFault) → IsRefusedOnlyFor r [] → SaysOf g mid new r None (Says (archive_of (state g mid)))
+          → SaysOf g old new r (refuses (archive_of (state g old))) (Says (archive_of (state g old)))
+      go (Ok a) none it = ((it.0.0, it.0.1 ∙ stays.1), listed, subst (λ b. Says b a) stays.1 it.2)
+      go (Err fault) none it =
+          let is = no_reason_of fault none in
+          let rest = rests_of fault (λ why. ArchiveIsUnchanged g mid new × (None ≡ Some why)) is it in
+          subst (λ o. MatchOption o (IsTrue (state g new).is_open → ArchiveIsUnchanged g old new) (λ why. ArchiveIsUnchanged g old new × (refuses (archive_of (state g old)) ≡ Some why)))
+          (sym is) (λ up. let left = rest up in (left.0, left.1 ∙ stays.1))
 
 -- a list that is not there
 pub not_there : (list : List ℕ) (a : Archive) → false ≡ has_list a list → list_refusal a list ≡ Some no_list

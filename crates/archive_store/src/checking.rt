@@ -1,9 +1,8 @@
 //! Whether a store is whole.
 ghost use Rattle.archive_tables.specs.Calls.{AnswersOnlyIfOpen};
 ghost use Rattle.archive_store.specs.Held.{store_connection};
-ghost use Rattle.archive_store.specs.Told.{E15MeansDiskFailed, EndsUnrefused};
+ghost use Rattle.archive_store.specs.Told.{E15MeansDiskFailed, EndsUnrefused, WritesNothing};
 ghost use Rattle.archive_store.specs.Checking.{FindsAllMessageNumbers, ChecksMessageAt, CheckE15MeansDiskFailed};
-ghost use Rattle.archive_port.specs.declared.checking.CheckError.TheVariants.{Failed};
 
 use crate::store::Store;
 use archive_database::checking::{DamagedMessage, find_damage};
@@ -14,26 +13,15 @@ use sqlite::Alter;
 use std::alloc::Global;
 
 impl<S: Alter> Store<S> {
-    ghost use Rattle.std.specs.Prelude.{◌≡◌, None, IfErr};
-    ghost use Rattle.archive_port.specs.Replies.{refusal_of_fault};
-    ghost use Rattle.archive_store.specs.Checking.{ChecksArchive};
-    ghost use Rattle.archive_port.specs.declared.checking.CheckError.TheVariants.{Failed};
-    ghost use Rattle.archive_tables.specs.Calls.{AnswersOnlyIfOpen};
-    ghost use Rattle.archive_store.specs.Held.{store_connection};
-    ghost use Rattle.archive_store.specs.Told.{CountsRefusals, HoldsTables, StoreHasCleanDisk, HasNoStepLimit, DiskHasFailed};
+    ghost use Rattle.archive_store.specs.Checking.{ChecksArchive, EndsCheck};
+    ghost use Rattle.archive_store.specs.Told.{WritesNothing};
 
     /// Looks at every message: whether its sender, arrival and text make a complete message, its key is that of the text, and it is
     /// filed by what the text says. E16 where one is not so. It holds the numbers of all messages, and one text at a time.
     pub fn check(&mut self, alloc: Global) -> Result<(), CheckError>
         ensures checked { ChecksArchive S.Store self.old self.new result }
-        ensures fault { IfErr result (λ stop. (fault : StoreFault) → stop ≡ Failed fault
-            → refusal_of_fault fault ≡ None) }
-        ensures was_open { AnswersOnlyIfOpen S.Store (store_connection self.old) (store_connection self.new) result }
-        ensures caused { StoreHasCleanDisk S.Store self.new → HoldsTables S.Store self.old
-            → HasNoStepLimit S.Store self.old
-            → IfErr result (λ stop. stop ≡ Failed StoreFault.Store
-            → DiskHasFailed S.Store self.old self.new) }
-        ensures counted { CountsRefusals (λ stop. stop ≡ Failed StoreFault.Memory) self.old self.new result }
+        ensures ends { EndsCheck S.Store self.old self.new result }
+        ensures writes_nothing { WritesNothing S.Store self.old self.new }
     {
         let places = find_all_places(self, alloc)?;
         for place in places.iter() {
@@ -51,6 +39,7 @@ fn find_all_places<S: Alter>(store: &mut Store<S>, alloc: Global) -> Result<Vec<
     ensures was_open { AnswersOnlyIfOpen S.Store (store_connection store.old) (store_connection store.new) result }
     ensures caused { E15MeansDiskFailed S.Store store.old store.new result }
     ensures ends { EndsUnrefused S.Store store.old store.new result }
+    ensures writes_nothing { WritesNothing S.Store store.old store.new }
 {
     let shown = texts::checking::all_rowids(&mut store.conn);
     let shown = store.wants.pass(shown)?;
@@ -66,6 +55,7 @@ fn damage_at<S: Alter>(
     ensures looked { ChecksMessageAt S.Store store.old store.new place result }
     ensures caused { CheckE15MeansDiskFailed S.Store store.old store.new place result }
     ensures ends { EndsUnrefused S.Store store.old store.new result }
+    ensures writes_nothing { WritesNothing S.Store store.old store.new }
 {
     let rows = texts::checking::filed_at(&mut store.conn, place);
     let rows = store.wants.pass(rows)?;

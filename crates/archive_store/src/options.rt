@@ -14,7 +14,7 @@ impl<S: Alter> Store<S> {
     ghost use Rattle.archive_model.specs.Machine.{step};
     ghost use Rattle.archive_model.specs.Questions.{merge_of, address_of, list_refusal, person_refusal};
     ghost use Rattle.archive_store.specs.Held.{store_connection};
-    ghost use Rattle.archive_store.specs.Told.{EndsQuestion, EndsQuestionOrUnreadable, EndsWrite};
+    ghost use Rattle.archive_store.specs.Told.{EndsQuestion, EndsQuestionOrUnreadable, EndsWrite, WritesNothing};
     ghost use Rattle.archive_store.specs.Refusals.{IsCommandRefused};
     ghost use Rattle.archive_model.specs.Commands.{merge_set, address_set, no_list, no_person, bad_text};
     ghost use Rattle.archive_store.specs.Crashes.{CrashSteps};
@@ -38,6 +38,7 @@ impl<S: Alter> Store<S> {
         ensures answer { AnswersStoreQuestion S.Store (store_connection self.old) (store_connection self.new) result
             (λ a. list_refusal a list.now) (λ a merge. merge ≡ merge_of a list.now) }
         ensures ends { EndsQuestion S.Store self.old self.new result (no_list ∷ []) }
+        ensures writes_nothing { WritesNothing S.Store self.old self.new }
     {
         let listed = texts::lists::has_list(&mut self.conn, list);
         if !self.wants.pass(listed)? {
@@ -76,6 +77,7 @@ impl<S: Alter> Store<S> {
             (λ a found. option_map string_bytes found ≡ address_of a person.now) }
         ensures ends { EndsQuestionOrUnreadable S.Store self.old self.new result (no_person ∷ [])
             (λ a. IsSomeAnd (address_of a person.now) (λ address. ¬ IsUtf8 address)) }
+        ensures writes_nothing { WritesNothing S.Store self.old self.new }
     {
         let known = texts::persons::has_person(&mut self.conn, person);
         if !self.wants.pass(known)? {

@@ -16,7 +16,7 @@ impl<S: Alter> Store<S> {
     ghost use Rattle.std.specs.Option.{IsSomeAnd};
     ghost use Rattle.archive_model.specs.Questions.{person_of_token, standing_of, standing_refusal};
     ghost use Rattle.archive_store.specs.Held.{store_connection};
-    ghost use Rattle.archive_store.specs.Told.{EndsQuestionOrUnreadable};
+    ghost use Rattle.archive_store.specs.Told.{EndsQuestionOrUnreadable, WritesNothing};
     ghost use Rattle.archive_store.specs.Replies.{AnswersStoreQuestion};
     ghost use Rattle.archive_model.specs.Commands.{no_list, no_person};
     ghost use Rattle.archive_port.specs.Words.{standing_rank};
@@ -27,6 +27,7 @@ impl<S: Alter> Store<S> {
             (λ a name. option_map string_bytes name ≡ person_of_token a token.now) }
         ensures ends { EndsQuestionOrUnreadable S.Store self.old self.new result []
             (λ a. IsSomeAnd (person_of_token a token.now) (λ name. ¬ IsUtf8 name)) }
+        ensures writes_nothing { WritesNothing S.Store self.old self.new }
     {
         let name = texts::persons::person_of_token(&mut self.conn, token);
         self.wants.pass(name)
@@ -41,6 +42,7 @@ impl<S: Alter> Store<S> {
         ensures ends { EndsQuestionOrUnreadable S.Store self.old self.new result (no_person ∷ no_list ∷ [])
             (λ a. (standing : Standing)
             → standing_rank standing ≢ standing_of a person.now list.now day) }
+        ensures writes_nothing { WritesNothing S.Store self.old self.new }
     {
         let known = texts::persons::has_person(&mut self.conn, person);
         if !self.wants.pass(known)? {

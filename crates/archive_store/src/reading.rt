@@ -13,9 +13,8 @@ impl<S: Alter> Store<S> {
     ghost use Rattle.std.specs.List.{All};
     ghost use Rattle.std.specs.Option.{IsSomeAnd};
     ghost use Rattle.archive_model.specs.Questions.{has_list, list_names, list_refusal, message_of, messages_in};
-    ghost use Rattle.archive_tables.specs.Crashes.{CrashAddsNothing};
     ghost use Rattle.archive_store.specs.Held.{store_connection};
-    ghost use Rattle.archive_store.specs.Told.{EndsQuestion, EndsQuestionOrUnreadable, SeesSameDatabase, WasOpen};
+    ghost use Rattle.archive_store.specs.Told.{EndsQuestion, EndsQuestionOrUnreadable, SeesSameDatabase, WasOpen, WritesNothing};
     ghost use Rattle.archive_port.specs.Messages.{AreDatedMarksOf, IsReadable};
     ghost use Rattle.archive_port.specs.Replies.{refusal_of_fault};
     ghost use Rattle.archive_store.specs.Replies.{AnswersStoreQuestion};
@@ -26,7 +25,7 @@ impl<S: Alter> Store<S> {
     pub fn has_list(&mut self, name: &str) -> Result<bool, StoreFault>
         ensures answer { AnswersStoreQuestion S.Store (store_connection self.old) (store_connection self.new) result (λ _. None)
             (λ a found. found ≡ has_list a name.now) }
-        ensures quiet { CrashAddsNothing S.Store (store_connection self.old) (store_connection self.new) }
+        ensures writes_nothing { WritesNothing S.Store self.old self.new }
         ensures same { SeesSameDatabase S.Store self.old self.new result }
         ensures ends { EndsQuestion S.Store self.old self.new result [] }
         ensures was_open { WasOpen S.Store self.old self.new refusal_of_fault result }
@@ -40,6 +39,7 @@ impl<S: Alter> Store<S> {
         ensures answer { AnswersStoreQuestion S.Store (store_connection self.old) (store_connection self.new) result (λ _. None)
             (λ a names. map string_bytes names.items ≡ list_names a) }
         ensures ends { EndsQuestionOrUnreadable S.Store self.old self.new result [] (λ a. ¬ All IsUtf8 a.lists) }
+        ensures writes_nothing { WritesNothing S.Store self.old self.new }
     {
         let shown = self.wants.pass(texts::lists::list_names(&mut self.conn))?;
         let names = read_names(alloc, &shown);
@@ -52,7 +52,7 @@ impl<S: Alter> Store<S> {
             (λ a. list_refusal a list.now)
             (λ a count. count ≡ length (messages_in a list.now)) }
         ensures same { SeesSameDatabase S.Store self.old self.new result }
-        ensures quiet { CrashAddsNothing S.Store (store_connection self.old) (store_connection self.new) }
+        ensures writes_nothing { WritesNothing S.Store self.old self.new }
         ensures ends { EndsQuestion S.Store self.old self.new result (no_list ∷ []) }
     {
         if !self.has_list(list)? {
@@ -70,10 +70,22 @@ impl<S: Alter> Store<S> {
         ensures ends { EndsQuestionOrUnreadable S.Store self.old self.new result (no_list ∷ [])
             (λ a. IsSomeAnd (message_of a list.now key.now) (λ m. ¬ IsReadable m)) }
         ensures was_open { WasOpen S.Store self.old self.new refusal_of_fault result }
+        ensures writes_nothing { WritesNothing S.Store self.old self.new }
     {
         if !self.has_list(list)? {
             return Err(StoreFault::NoList);
         }
+        self.find(list, key)
+    }
+
+    /// The same by one SELECT, for a caller who knows the list: `None`, too, where there is no such list.
+    pub fn find(&mut self, list: &str, key: &Key) -> Result<Option<Message>, StoreFault>
+        ensures answer { AnswersStoreQuestion S.Store (store_connection self.old) (store_connection self.new) result (λ _. None)
+            (λ a found. option_map (archived_message list.now) found ≡ message_of a list.now key.now) }
+        ensures ends { EndsQuestionOrUnreadable S.Store self.old self.new result []
+            (λ a. IsSomeAnd (message_of a list.now key.now) (λ m. ¬ IsReadable m)) }
+        ensures writes_nothing { WritesNothing S.Store self.old self.new }
+    {
         let found = texts::messages::message(&mut self.conn, list, key.as_str());
         match self.wants.pass(found)? {
             Some(row) => Ok(Some(self.wants.pass_fault(checked_message(row))?)),
@@ -90,6 +102,7 @@ impl<S: Alter> Store<S> {
         ensures ends { EndsQuestionOrUnreadable S.Store self.old self.new result (no_list ∷ [])
             (λ a. IsSomeAnd (message_of a list.now key.now) (λ m. ¬ IsReadable m)) }
         ensures was_open { WasOpen S.Store self.old self.new refusal_of_fault result }
+        ensures writes_nothing { WritesNothing S.Store self.old self.new }
     {
         if !self.has_list(list)? {
             return Err(StoreFault::NoList);

@@ -7,7 +7,7 @@ ghost use Rattle.archive_tables.specs.Rows.{rowid_result_row};
 ghost use Rattle.archive_store.specs.Held.{store_connection};
 ghost use Rattle.archive_model.specs.Commands.{no_list};
 ghost use Rattle.archive_port.specs.Replies.{IsRefusedOnlyFor};
-ghost use Rattle.archive_store.specs.Told.{EndsQuestion, EndsQuestionOrUnreadable, EndsUnrefused};
+ghost use Rattle.archive_store.specs.Told.{EndsQuestion, EndsQuestionOrUnreadable, EndsUnrefused, WritesNothing};
 ghost use Rattle.archive_port.specs.Messages.{IsReadable};
 ghost use Rattle.archive_store.specs.Walking.{GivesNext, GivesAll, E15MeansNextUnreadable, E15MeansSomeUnreadable, ShowsMessage, ShowsMarks, PeeksNextMarks, E15MeansMessageUnreadable};
 ghost use Rattle.archive_store.specs.Walking.{FindsMessageNumbers, IsWalkNotBegun, remaining_numbers, remaining_count, walk_over_store, selected_numbers};
@@ -47,7 +47,7 @@ impl<S: Alter> Store<S> {
     ghost use Rattle.std.specs.Prelude.{pos};
     ghost use Rattle.std.specs.List.{All};
     ghost use Rattle.archive_port.specs.Messages.{IsReadable};
-    ghost use Rattle.archive_store.specs.Told.{E15MeansDiskFailedOr};
+    ghost use Rattle.archive_store.specs.Told.{E15MeansDiskFailedOr, WritesNothing};
     ghost use Rattle.archive_model.specs.Filing.{messages_in_month, messages_by_author};
     ghost use Rattle.archive_store.specs.Walking.{BeginsListWalk, BeginsOver, WalkFailsToBegin, walk_over_store, selected_messages};
 
@@ -58,6 +58,7 @@ impl<S: Alter> Store<S> {
             (λ a found. map (archived_message list.now) found.items ≡ messages_in a list.now) }
         ensures ends { EndsQuestionOrUnreadable S.Store self.old self.new result (no_list ∷ [])
             (λ a. ¬ All IsReadable (messages_in a list.now)) }
+        ensures writes_nothing { WritesNothing S.Store self.old self.new }
     {
         self.read_selected(alloc, list, &Selection::Every)
     }
@@ -75,6 +76,7 @@ impl<S: Alter> Store<S> {
             (λ a found. map (archived_message list.now) found.items ≡ messages_in_month a list.now (pos month)) }
         ensures ends { EndsQuestionOrUnreadable S.Store self.old self.new result (no_list ∷ [])
             (λ a. ¬ All IsReadable (messages_in_month a list.now (pos month))) }
+        ensures writes_nothing { WritesNothing S.Store self.old self.new }
     {
         self.read_selected(alloc, list, &Selection::InMonth(month))
     }
@@ -91,6 +93,7 @@ impl<S: Alter> Store<S> {
             (λ a found. map (archived_message list.now) found.items ≡ messages_by_author a list.now key.now) }
         ensures ends { EndsQuestionOrUnreadable S.Store self.old self.new result (no_list ∷ [])
             (λ a. ¬ All IsReadable (messages_by_author a list.now key.now)) }
+        ensures writes_nothing { WritesNothing S.Store self.old self.new }
     {
         self.read_selected(alloc, list, &Selection::ByAuthor(key))
     }
@@ -107,6 +110,7 @@ impl<S: Alter> Store<S> {
             (λ a found. map (archived_message list.now) found.items ≡ selected_messages a list.now which.now) }
         ensures ends { EndsQuestionOrUnreadable S.Store self.old self.new result (no_list ∷ [])
             (λ a. ¬ All IsReadable (selected_messages a list.now which.now)) }
+        ensures writes_nothing { WritesNothing S.Store self.old self.new }
     {
         let mut walk = self.each_selected(alloc, list, which)?;
         read_rows(self, alloc, &mut walk)
@@ -117,6 +121,7 @@ impl<S: Alter> Store<S> {
         ensures refused { WalkFailsToBegin S.Store self.old list.now result self.new }
         ensures begun { IfOk result (λ walk. BeginsListWalk S.Store self.old list.now (walk_over_store self.new walk)) }
         ensures kind { IsRefusedOnlyFor result (no_list ∷ []) }
+        ensures writes_nothing { WritesNothing S.Store self.old self.new }
     {
         self.each_selected(alloc, list, &Selection::Every)
     }
@@ -132,6 +137,7 @@ impl<S: Alter> Store<S> {
         ensures begun { IfOk result (λ walk. BeginsOver S.Store self.old list.now
             (λ a. selected_messages a list.now which.now) (walk_over_store self.new walk)) }
         ensures kind { IsRefusedOnlyFor result (no_list ∷ []) }
+        ensures writes_nothing { WritesNothing S.Store self.old self.new }
     {
         let places = find_places(self, alloc, list, which)?;
         Ok(MessageWalk { places, at: 0 })
@@ -155,6 +161,7 @@ impl MessageWalk {
             (λ _. remaining_count self.new ≡ remaining_count self.old) }
         ensures caused { E15MeansNextUnreadable S.Store (walk_over_store store.old self.old) (walk_over_store store.new self.new) result }
         ensures ends { EndsUnrefused S.Store store.old store.new result }
+        ensures writes_nothing { WritesNothing S.Store store.old store.new }
     {
         let Some(place) = place_at(&self.places, self.at) else {
             return Ok(None);
@@ -172,6 +179,7 @@ impl MessageWalk {
         ensures shown { PeeksNextMarks S.Store (walk_over_store store.old self.now) (walk_over_store store.new self.now) result }
         ensures caused { E15MeansNextUnreadable S.Store (walk_over_store store.old self.now) (walk_over_store store.new self.now) result }
         ensures ends { EndsUnrefused S.Store store.old store.new result }
+        ensures writes_nothing { WritesNothing S.Store store.old store.new }
     {
         let Some(place) = place_at(&self.places, self.at) else {
             return Ok(None);
@@ -199,6 +207,7 @@ fn read_rows<S: Alter>(
     ensures given { GivesAll S.Store (walk_over_store store.old walk.old) (walk_over_store store.new walk.new) result }
     ensures caused { E15MeansSomeUnreadable S.Store (walk_over_store store.old walk.old) (walk_over_store store.new walk.new) result }
     ensures ends { EndsUnrefused S.Store store.old store.new result }
+    ensures writes_nothing { WritesNothing S.Store store.old store.new }
 {
     let mut found = match Vec::with_capacity(alloc, walk.left()) {
         Ok(found) => found,
@@ -224,6 +233,7 @@ fn find_places<S: Alter>(
     ensures found { FindsMessageNumbers S.Store store.old store.new list.now
         (λ trees. selected_numbers trees list.now which.now) result }
     ensures ends { EndsQuestion S.Store store.old store.new result (no_list ∷ []) }
+    ensures writes_nothing { WritesNothing S.Store store.old store.new }
 {
     if !store.has_list(list)? {
         return Err(StoreFault::NoList);
@@ -261,6 +271,7 @@ fn message_at<S: Alter>(store: &mut Store<S>, place: i64) -> Result<Message, Sto
     ensures shown { ShowsMessage S.Store store.old store.new place result }
     ensures caused { E15MeansMessageUnreadable S.Store store.old store.new place result }
     ensures ends { EndsUnrefused S.Store store.old store.new result }
+    ensures writes_nothing { WritesNothing S.Store store.old store.new }
 {
     let found = texts::messages::message_at(&mut store.conn, place);
     match store.wants.pass(found)? {
@@ -274,6 +285,7 @@ fn marks_at<S: Alter>(store: &mut Store<S>, place: i64) -> Result<DatedMarks, St
     ensures shown { ShowsMarks S.Store store.old store.new place result }
     ensures caused { E15MeansMessageUnreadable S.Store store.old store.new place result }
     ensures ends { EndsUnrefused S.Store store.old store.new result }
+    ensures writes_nothing { WritesNothing S.Store store.old store.new }
 {
     let found = texts::messages::marks_at(&mut store.conn, place);
     match store.wants.pass(found)? {

@@ -226,6 +226,8 @@ fn messages_by_key<S: Alter>(rt: &impl Abort, store: &mut Store<S>) -> Result<()
     let other = Key::of(&item("a at b", b"two")?);
     assert!(rt; store.row("other", &key)?.is_none() && store.row("other", &other)?.is_some());
     assert!(rt; matches!(store.row("xyz", &key), Err(StoreFault::NoList)));
+    is_first(rt, &store.find("soc", &key)?.ok_or("a message")?)?;
+    assert!(rt; store.find("other", &key)?.is_none() && store.find("xyz", &key)?.is_none());
     Ok(())
 }
 

@@ -26,6 +26,7 @@ loop-found-preserved g c = (
       (given_more (archived_message list) given c.loop-found.found.items c.push.new.self.items c.in-Some.message c.in-Ok-push.ensures.items) more),
   lasts_then _ _ _ c.loop-found.invariant.2 c.next.ensures.ends.remains_open,
   omega (arith, c.loop-found.invariant.3, c.in_ok-message.ensures.ends.refusals_counted.0),
+  (λ db may. c.loop-found.invariant.4 db (c.next.ensures.writes_nothing db may)),
 )
 
 pub returns-in-Err-push-clause-given : goal.returns-in-Err-push-clause-given

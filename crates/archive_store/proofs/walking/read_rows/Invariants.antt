@@ -2,7 +2,7 @@ use Rattle.std.proofs.Common.{◌≤◌, ◌++◌, ℕ, List, map}
 use Rattle.archive_model.specs.Records.{Archive, Message as Remembered}
 use Rattle.archive_model.specs.Messages.{archived_message}
 use Rattle.archive_store.specs.Held.{memory_refusal_count}
-use Rattle.archive_store.specs.Told.{StoreHasCleanDisk, StaysOpenUnlessDiskFails}
+use Rattle.archive_store.specs.Told.{StoreHasCleanDisk, StaysOpenUnlessDiskFails, WritesNothing}
 use Rattle.archive_store.specs.Walking.{WalksOver, remaining_count, walk_over_store}
 use Rattle.archive_store.proofs.walking.read_rows.Given as goal
 
@@ -13,6 +13,7 @@ invariant-loop-found g l =
     → WalksOver g.S.Store list all a given (walk_over_store l.fn.store l.fn.walk)
     → WalksOver g.S.Store list all a (given ++ map (archived_message list) l.found.items) (walk_over_store l.store l.walk))
     × StaysOpenUnlessDiskFails g.S.Store l.fn.store l.store × (memory_refusal_count l.fn.store ≤ memory_refusal_count l.store)
+    × WritesNothing g.S.Store l.fn.store l.store
 
 abbrev pub decreases-loop-found : goal.decreases-loop-found
 decreases-loop-found g l = remaining_count l.walk

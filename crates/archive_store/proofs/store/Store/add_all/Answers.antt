@@ -36,7 +36,7 @@ loop-done-init g c = (
   c.in-Ok.ensures.ends.refusals_counted.0,
   (λ clean kept safe.
       let counted = c.in-Ok.ensures.answer clean kept in
-      asked_safe g.S.Store c.args.self.now.conn c.count.new.self.conn c.count.ensures.quiet counted.0.1 clean safe),
+      asked_safe g.S.Store c.args.self.now.conn c.count.new.self.conn (λ clean db may. (c.count.ensures.writes_nothing db (clean, may)).1) counted.0.1 clean safe),
 )
 
 pub loop-done-preserved : goal.loop-done-preserved
@@ -112,7 +112,7 @@ pub returns-in-Err-clause-crash : goal.returns-in-Err-clause-crash
 returns-in-Err-clause-crash g c = broken_crash g.S.Store c.args.self.now.conn c.count.new.self.conn c.args.list.now c.args.items.now (record { done = 0; fault = c.in-Err.fault })
     (λ clean kept safe db may.
     let first = archive_of (state g.S.Store c.args.self.now.conn) in
-    (first, (0, omega arith, (omega arith, run_nothing first)), safe db (c.count.ensures.quiet clean db may)))
+    (first, (0, omega arith, (omega arith, run_nothing first)), safe db (c.count.ensures.writes_nothing db (clean, may)).1))
 
 pub returns-then-at-to-clause-crash : goal.returns-then-at-to-clause-crash
 returns-then-at-to-clause-crash g c = broken_crash g.S.Store c.args.self.now.conn c.add_batch.new.store.conn c.args.list.now c.args.items.now

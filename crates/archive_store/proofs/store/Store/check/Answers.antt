@@ -14,6 +14,7 @@ loop-place-init g c = (
   c.in_ok-places.ensures.ends.remains_open,
   c.in_ok-places.ensures.was_open,
   c.in_ok-places.ensures.ends.refusals_counted.0,
+  c.find_all_places.ensures.writes_nothing,
 )
 
 pub loop-place-preserved : goal.loop-place-preserved
@@ -30,6 +31,7 @@ loop-place-preserved g c =
       lasts_then _ _ _ c.loop-place.invariant.2 c.damage_at.ensures.ends.remains_open,
       (λ returned. c.loop-place.invariant.3 (c.damage_at.ensures.ends.remains_open.disk_was_clean returned)),
       omega (arith, c.loop-place.invariant.4, c.in_ok-list.ensures.ends.refusals_counted.0),
+      (λ db may. c.loop-place.invariant.5 db (c.damage_at.ensures.writes_nothing db may)),
     )
 
 pub returns-in_err-list-clause-checked : goal.returns-in_err-list-clause-checked
@@ -72,17 +74,27 @@ returns-clause-checked g c = (
       )),
 )
 
-pub returns-in_err-places-clause-caused : goal.returns-in_err-places-clause-caused
-returns-in_err-places-clause-caused g c = λ returned held free.
-    check_failed c.from_residual.result c.in_err-places.field-0.0 _ c.from_residual.ensures.1 (c.in_err-places.ensures.caused returned held free)
+pub returns-in_err-places-clause-ends : goal.returns-in_err-places-clause-ends
+returns-in_err-places-clause-ends g c = record {
+  was_open = search rules;
+  fault_is_no_refusal = search rules;
+  fault_has_cause = λ returned held free.
+      check_failed c.from_residual.result c.in_err-places.field-0.0 _ c.from_residual.ensures.1 (c.in_err-places.ensures.caused returned held free);
+  refusals_counted = search rules;
+}
 
-pub returns-in_err-list-clause-caused : goal.returns-in_err-list-clause-caused
-returns-in_err-list-clause-caused g c = λ returned held free.
-    let it : to_z w64 (of_z w64 (get_or c.deref-place-items.result.now c.loop-place.place-index (pos 0))) ≡ get_or c.deref-place-items.result.now c.loop-place.place-index (pos 0) = search rules in
-    let now = c.loop-place.self in
-    let so_far = c.loop-place.invariant.1 (c.damage_at.ensures.ends.remains_open.disk_was_clean returned) held in
-    let next = looks_next g.S.Store c.args.self.now now c.deref-place-items.result.now c.loop-place.place-index
-    (to_z w64 (of_z w64 (get_or c.deref-place-items.result.now c.loop-place.place-index (pos 0)))) (pos 0) so_far (omega (arith, c.loop-place-test.true)) it in
-    check_failed c.from_residual-in_err-list.result c.in_err-list.field-0.0 _ c.from_residual-in_err-list.ensures.1
-    (λ is. more_since (state g.S.Store c.args.self.now.conn) (state g.S.Store now.conn) (state g.S.Store c.damage_at.new.store.conn) c.loop-place.invariant.2
-    (c.in_err-list.ensures.caused returned so_far.stays.1 (c.loop-place.invariant.2.step_limit_is_same ∙ free) next.it next.found is))
+pub returns-in_err-list-clause-ends : goal.returns-in_err-list-clause-ends
+returns-in_err-list-clause-ends g c = record {
+  was_open = search rules;
+  fault_is_no_refusal = search rules;
+  fault_has_cause = λ returned held free.
+      let it : to_z w64 (of_z w64 (get_or c.deref-place-items.result.now c.loop-place.place-index (pos 0))) ≡ get_or c.deref-place-items.result.now c.loop-place.place-index (pos 0) = search rules in
+      let now = c.loop-place.self in
+      let so_far = c.loop-place.invariant.1 (c.damage_at.ensures.ends.remains_open.disk_was_clean returned) held in
+      let next = looks_next g.S.Store c.args.self.now now c.deref-place-items.result.now c.loop-place.place-index
+      (to_z w64 (of_z w64 (get_or c.deref-place-items.result.now c.loop-place.place-index (pos 0)))) (pos 0) so_far (omega (arith, c.loop-place-test.true)) it in
+      check_failed c.from_residual-in_err-list.result c.in_err-list.field-0.0 _ c.from_residual-in_err-list.ensures.1
+      (λ is. more_since (state g.S.Store c.args.self.now.conn) (state g.S.Store now.conn) (state g.S.Store c.damage_at.new.store.conn) c.loop-place.invariant.2
+      (c.in_err-list.ensures.caused returned so_far.stays.1 (c.loop-place.invariant.2.step_limit_is_same ∙ free) next.it next.found is));
+  refusals_counted = search rules;
+}

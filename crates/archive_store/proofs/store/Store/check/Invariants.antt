@@ -1,6 +1,6 @@
 use Rattle.std.specs.Prelude.{◌≤◌}
 use Rattle.archive_store.specs.Held.{memory_refusal_count}
-use Rattle.archive_store.specs.Told.{HoldsTables, StoreHasCleanDisk, IsOpen, StaysOpenUnlessDiskFails}
+use Rattle.archive_store.specs.Told.{HoldsTables, StoreHasCleanDisk, IsOpen, StaysOpenUnlessDiskFails, WritesNothing}
 use Rattle.archive_store.proofs.CheckLemmas.{HasLooked}
 use Rattle.archive_store.proofs.store.Store.check.Given as goal
 
@@ -11,3 +11,4 @@ invariant-loop-place g l =
     × StaysOpenUnlessDiskFails g.S.Store l.fn.self l.self
     × (StoreHasCleanDisk g.S.Store l.self → IsOpen g.S.Store l.fn.self)
     × (memory_refusal_count l.fn.self ≤ memory_refusal_count l.self)
+    × WritesNothing g.S.Store l.fn.self l.self

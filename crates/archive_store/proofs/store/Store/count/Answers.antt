@@ -64,15 +64,3 @@ returns-clause-same g c = λ clean.
     passes_same _ _ c.count_messages-count.result c.pass.result c.pass.ensures.passed
     (rows_asked (state g.S.Store c.args.self.now.conn) c.count_messages-count.result c.count_messages-count.ensures clean (c.in_ok-has_list.ensures.same was)
     (λ kept. (c.in_ok-has_list.ensures.answer was kept).0.0))
-
--- ---- a stop leaves nothing new
-
-pub returns-in_err-has_list-clause-quiet : goal.returns-in_err-has_list-clause-quiet
-returns-in_err-has_list-clause-quiet g c = c.has_list.ensures.quiet
-
-pub returns-then-not-branch-clause-quiet : goal.returns-then-not-branch-clause-quiet
-returns-then-not-branch-clause-quiet g c = c.has_list.ensures.quiet
-
-pub returns-clause-quiet : goal.returns-clause-quiet
-returns-clause-quiet g c = λ clean db may. c.has_list.ensures.quiet
-    (c.count_messages-count.ensures.ends_call.remains_open.disk_was_clean clean) db (c.count_messages-count.ensures.crash_adds_nothing clean db may)
