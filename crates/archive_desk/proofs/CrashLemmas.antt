@@ -5,12 +5,11 @@ use Rattle.sqlite.specs.Store.{Ghosts}
 use Rattle.mbox_core.specs.Division.{Item, DividesIntoItems}
 use Rattle.archive_model.specs.Records.{Archive}
 use Rattle.archive_model.specs.Questions.{has_list, list_refusal}
-use Rattle.archive_tables.specs.Crashes.{CrashAddsNothing}
 use Rattle.archive_model.specs.Runs.{taken}
 use Rattle.archive_store.specs.Crashes.{CrashAddsAllBatches, CrashOutcome}
 use Rattle.archive_port.specs.Adding.{HasAddedAtLeast}
 use Rattle.archive_store.specs.Held.{store_connection}
-use Rattle.archive_store.specs.Told.{RelatesArchivesUnder, StoreHasCleanDisk, HoldsTables, StaysOpenUnlessDiskFails, archive_in}
+use Rattle.archive_store.specs.Told.{RelatesArchivesUnder, StoreHasCleanDisk, HoldsTables, StaysOpenUnlessDiskFails, WritesNothing, archive_in}
 use Rattle.archive_port.specs.declared.reports.AddError.{AddError}
 use Rattle.archive_store.specs.declared.store.Store.{Store}
 use Rattle.archive_store.proofs.CrashLemmas.{asked_safe, leaves_as, leaves_now}
@@ -60,9 +59,9 @@ module _ {S : Type 0} (g : Ghosts S) (Premise : Store S → Type 0) where
 module _ {S : Type 0} (g : Ghosts S) where
   -- a question leaves what it left
   pub question_safe : (old new : Store S) (Says : Archive → Archive → Type 0) → ((a b : Archive) → Says a b → b ≡ a) → RelatesArchivesUnder g (HoldsTables g) old new Says
-      → CrashAddsNothing g (store_connection old) (store_connection new) → StaysSafe g (HoldsTables g) old new
+      → WritesNothing g old new → StaysSafe g (HoldsTables g) old new
   question_safe old new Says same goes quiet = λ returned held was.
-      asked_safe g (store_connection old) (store_connection new) quiet (same _ _ (goes.1 returned held).1) returned was
+      asked_safe g (store_connection old) (store_connection new) (λ clean db may. (quiet db (clean, may)).1) (same _ _ (goes.1 returned held).1) returned was
 
   -- ---- an import stops: it left so many first messages at whatever moment, since it does behind the call
 
@@ -79,10 +78,10 @@ module _ {S : Type 0} (g : Ghosts S) where
 
   -- ---- the file is not taken in
 
-  pub none_imported : (old new : Store S) (list text : List ℕ) (stop : ImportStop) → stop.done ≡ 0 → CrashAddsNothing g (store_connection old) (store_connection new)
+  pub none_imported : (old new : Store S) (list text : List ℕ) (stop : ImportStop) → stop.done ≡ 0 → WritesNothing g old new
       → CrashOutcome g (store_connection old) (store_connection new) (HasImportedAtLeast list text 0) {A = Report} (Err stop) (λ stop. HasImportedAtLeast list text stop.done)
   none_imported old new list text stop none quiet =
-      stops_import old new list text stop (λ returned held was db may. (archive_in g old, inl (none, refl), was db (quiet returned db may)))
+      stops_import old new list text stop (λ returned held was db may. (archive_in g old, inl (none, refl), was db (quiet db (returned, may)).1))
 
   -- ---- its messages are added
 
@@ -104,7 +103,7 @@ module _ {S : Type 0} (g : Ghosts S) where
   IsThere list a b = (b ≡ a) × (list_refusal a list ≡ None) × (has_list a list ≡ true)
 
   module _ (old mid new : Store S) (list text : List ℕ) (goes : RelatesArchivesUnder g (HoldsTables g) old mid (IsThere list))
-      (quiet : CrashAddsNothing g (store_connection old) (store_connection mid))
+      (quiet : WritesNothing g old mid)
       (items : List Item) (divided : DividesIntoItems text items) (lasts : StaysOpenUnlessDiskFails g mid new) where
     pub some_imported : (result : Result Report ImportStop) → CrashAfterTablesCall g mid new result (λ a stop b. HasAddedAtLeast list items stop.done a b)
         → CrashAfterTablesCall g old new result (λ a stop b. HasImportedAtLeast list text stop.done a b)

@@ -2,6 +2,7 @@
 ghost use Rattle.std.specs.Prelude.{◌≡◌, ◌∷◌, [], ◌<◌, ◌^◌, ◌-◌, ◌++◌, min, length, OnOk, IfOk, IfErr};
 ghost use Rattle.mbox_core.specs.Written.{AppendsPrefixOfText};
 ghost use Rattle.archive_model.specs.Messages.{archived_message};
+ghost use Rattle.archive_store.specs.Told.{WritesNothing};
 ghost use Rattle.archive_store.specs.Walking.{walk_over_store};
 ghost use Rattle.archive_desk.specs.Ending.{EndsExport, EndsWalk, LeavesPartialExport, ReportsWriterFailure};
 ghost use Rattle.archive_desk.specs.Exporting.{ExportsMbox, IsExportStop, exported_text, shown_mbox_text};
@@ -46,6 +47,7 @@ pub fn export<S: Alter, W: Sink>(
         (λ stop. IsExportStop (W.told out.old) (W.told out.new) (W.failures out.old)
         (W.failures out.new) stop.written stop.fault) }
     ensures ends { EndsExport S.Store store.old store.new ask.now result }
+    ensures writes_nothing { WritesNothing S.Store store.old store.new }
 {
     export_after(store, alloc, ask, b"", out)
 }
@@ -69,6 +71,7 @@ pub fn export_after<S: Alter, W: Sink>(
         (λ stop. IsExportStop (W.told out.old) (W.told out.new) (W.failures out.old)
         (W.failures out.new) stop.written stop.fault) }
     ensures ends { EndsExport S.Store store.old store.new ask.now result }
+    ensures writes_nothing { WritesNothing S.Store store.old store.new }
 {
     let reader = match resolve_reader(store, ask) {
         Ok(reader) => reader,
@@ -99,6 +102,7 @@ fn write_walk<S: Alter, W: Sink>(
         (λ stop. IsWalkStop (W.told out.old) (W.told out.new) (W.failures out.old)
         (W.failures out.new) stop.written stop.fault) }
     ensures ends { EndsWalk S.Store (walk_over_store store.old walk.old) (walk_over_store store.new walk.new) ask.now (λ stop. stop.fault) result }
+    ensures writes_nothing { WritesNothing S.Store store.old store.new }
 {
     if let Err(fault) = write_bytes(out, head) {
         return Err(ExportStop {
@@ -134,6 +138,7 @@ fn write_rows<S: Alter, W: Sink>(
         (λ fault. IsRowsStop (W.told out.old) (W.told out.new) (W.failures out.old)
         (W.failures out.new) count.old count.new fault) }
     ensures ends { EndsWalk S.Store (walk_over_store store.old walk.old) (walk_over_store store.new walk.new) ask.now (λ fault. fault) result }
+    ensures writes_nothing { WritesNothing S.Store store.old store.new }
 {
     loop {
         pass_withheld(store, ask, reader, walk)?;

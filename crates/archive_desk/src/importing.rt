@@ -3,11 +3,10 @@ ghost use Rattle.std.specs.Prelude.{◌≡◌, ◌∷◌, [], true, drop, IfOk, 
 ghost use Rattle.mbox_core.specs.Division.{DividesIntoItems};
 ghost use Rattle.archive_model.specs.Commands.{no_list};
 ghost use Rattle.archive_model.specs.Questions.{has_list, list_refusal};
-ghost use Rattle.archive_tables.specs.Crashes.{CrashAddsNothing};
 ghost use Rattle.archive_store.specs.Held.{store_connection};
 ghost use Rattle.archive_store.specs.Refusals.{RowsRefuseAnItem};
 ghost use Rattle.archive_port.specs.Replies.{refusal_of_fault};
-ghost use Rattle.archive_store.specs.Told.{AnswersFromStoreUnder, EndsQuestion, HoldsTables, WasOpen};
+ghost use Rattle.archive_store.specs.Told.{AnswersFromStoreUnder, EndsQuestion, HoldsTables, WasOpen, WritesNothing};
 ghost use Rattle.archive_store.specs.Crashes.{CrashOutcome};
 ghost use Rattle.archive_port.specs.Adding.{HasAddedAtLeast};
 ghost use Rattle.archive_desk.specs.Crashes.{CrashAfterTablesCall, HasImportedAtLeast};
@@ -119,7 +118,7 @@ pub fn check_list_exists<S: Alter>(store: &mut Store<S>, list: &str) -> Result<(
     ensures found { AnswersFromStoreUnder S.Store (HoldsTables S.Store) store.old store.new refusal_of_fault result
         (λ a. list_refusal a list.now)
         (λ a _. has_list a list.now ≡ true) }
-    ensures quiet { CrashAddsNothing S.Store (store_connection store.old) (store_connection store.new) }
+    ensures writes_nothing { WritesNothing S.Store store.old store.new }
     ensures was_open { WasOpen S.Store store.old store.new refusal_of_fault result }
     ensures ends { EndsQuestion S.Store store.old store.new result (no_list ∷ []) }
 {

@@ -3,7 +3,7 @@ ghost use Rattle.std.specs.Prelude.{◌≡◌, ◌∷◌, [], ◌++◌, filter, 
 ghost use Rattle.archive_model.specs.Messages.{archived_message};
 ghost use Rattle.archive_results.specs.Access.{is_shown};
 ghost use Rattle.archive_results.specs.Index.{AreSummariesOf, summary_of};
-ghost use Rattle.archive_store.specs.Told.{AnswersFromStoreUnder, HoldsTables};
+ghost use Rattle.archive_store.specs.Told.{AnswersFromStoreUnder, HoldsTables, WritesNothing};
 ghost use Rattle.archive_store.specs.Walking.{walk_over_store, selected_messages};
 ghost use Rattle.archive_desk.specs.Causes.{IsQuestionUnreadable};
 ghost use Rattle.archive_desk.specs.Ending.{EndsDeskQuestion, EndsWalk};
@@ -33,6 +33,7 @@ pub(crate) fn read_headers<S: Alter>(
         (λ a headers. AreSummariesOf (view_in a ask.now which.now) headers.items) }
     ensures ends { EndsDeskQuestion S.Store store.old store.new IsAskFault result
         (λ a. IsQuestionUnreadable a ask.now (selected_messages a ask.now.list which.now)) }
+    ensures writes_nothing { WritesNothing S.Store store.old store.new }
 {
     let reader = match resolve_reader(store, ask) {
         Ok(reader) => reader,
@@ -55,6 +56,7 @@ fn walk_headers<S: Alter>(
     ensures listed { ListsRows S.Store (walk_over_store store.old walk.old) (walk_over_store store.new walk.new) ask.now reader.now (map summary_of) result }
     ensures fault { IfErr result (λ fault. IsMemoryOrDatabaseFault fault) }
     ensures ends { EndsWalk S.Store (walk_over_store store.old walk.old) (walk_over_store store.new walk.new) ask.now (λ fault. fault) result }
+    ensures writes_nothing { WritesNothing S.Store store.old store.new }
 {
     let mut headers = Vec::new(alloc);
     loop {

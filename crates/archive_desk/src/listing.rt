@@ -7,7 +7,7 @@ ghost use Rattle.archive_results.specs.Index.{AreSummariesOf};
 ghost use Rattle.archive_results.specs.Filed.{indexed_author_lines, indexed_month_lines};
 ghost use Rattle.archive_results.specs.Results.{author_lines, month_lines, tree_lines, thread_lines};
 ghost use Rattle.archive_results.specs.Shown.{shown_message};
-ghost use Rattle.archive_store.specs.Told.{AnswersFromReadyStore, AnswersFromStoreUnder, HoldsTables};
+ghost use Rattle.archive_store.specs.Told.{AnswersFromReadyStore, AnswersFromStoreUnder, HoldsTables, WritesNothing};
 ghost use Rattle.archive_desk.specs.Causes.{IsQuestionUnreadable};
 ghost use Rattle.archive_desk.specs.Ending.{EndsDeskCall, EndsDeskQuestion};
 ghost use Rattle.archive_desk.specs.Faults.{IsAskFault, ask_reason, missing_list_reason, refusal_reason};
@@ -41,6 +41,7 @@ pub fn month<S: Alter>(
         (λ a lines. lines.items ≡ indexed_month_lines a ask.now (pos month)) }
     ensures ends { EndsDeskQuestion S.Store store.old store.new IsAskFault result
         (λ a. IsQuestionUnreadable a ask.now (messages_in_month a ask.now.list (pos month))) }
+    ensures writes_nothing { WritesNothing S.Store store.old store.new }
 {
     read_lines(store, alloc, ask, &Selection::InMonth(month))
 }
@@ -61,6 +62,7 @@ pub fn author<S: Alter>(
         (λ a lines. lines.items ≡ indexed_author_lines a ask.now key.now) }
     ensures ends { EndsDeskQuestion S.Store store.old store.new IsAskFault result
         (λ a. IsQuestionUnreadable a ask.now (messages_by_author a ask.now.list key.now)) }
+    ensures writes_nothing { WritesNothing S.Store store.old store.new }
 {
     read_lines(store, alloc, ask, &Selection::ByAuthor(key))
 }
@@ -77,6 +79,7 @@ fn read_lines<S: Alter>(
         (λ a lines. lines.items ≡ lines_shown (view_in a ask.now which.now)) }
     ensures ends { EndsDeskQuestion S.Store store.old store.new IsAskFault result
         (λ a. IsQuestionUnreadable a ask.now (selected_messages a ask.now.list which.now)) }
+    ensures writes_nothing { WritesNothing S.Store store.old store.new }
 {
     let headers = match read_headers(store, alloc, ask, which) {
         Ok(headers) => headers,
@@ -105,6 +108,7 @@ pub fn threads<T: Threader, S: Alter>(
         (map shown_message (view_of a ask.now))) }
     ensures ends { EndsDeskQuestion S.Store store.old store.new IsAskFault result
         (λ a. IsQuestionUnreadable a ask.now (messages_in a ask.now.list)) }
+    ensures writes_nothing { WritesNothing S.Store store.old store.new }
 {
     let index = match read_view_summaries(store, alloc, ask) {
         Ok(index) => index,
@@ -135,6 +139,7 @@ pub fn thread<T: Threader, S: Alter>(
         (map shown_message (view_of a ask.now)) ≡ Some rows.items) }
     ensures ends { EndsDeskQuestion S.Store store.old store.new IsThreadFault result
         (λ a. IsQuestionUnreadable a ask.now (messages_in a ask.now.list)) }
+    ensures writes_nothing { WritesNothing S.Store store.old store.new }
 {
     let index = match read_view_summaries(store, alloc, ask) {
         Ok(index) => index,
@@ -172,6 +177,7 @@ pub fn read_view_summaries<S: Alter>(
         × (index.merge ≡ merge_of a ask.now.list)) }
     ensures ends { EndsDeskQuestion S.Store store.old store.new IsAskFault result
         (λ a. IsQuestionUnreadable a ask.now (messages_in a ask.now.list)) }
+    ensures writes_nothing { WritesNothing S.Store store.old store.new }
 {
     let headers = match read_headers(store, alloc, ask, &Selection::Every) {
         Ok(headers) => headers,
@@ -189,6 +195,7 @@ fn find_merge<S: Alter>(store: &mut Store<S>, ask: &Ask<'_>) -> Result<bool, Des
         (λ a. missing_list_reason a ask.now)
         (λ a merge. merge ≡ merge_of a ask.now.list) }
     ensures ends { EndsDeskCall S.Store store.old store.new IsAskFault result (λ _. ⊥) }
+    ensures writes_nothing { WritesNothing S.Store store.old store.new }
 {
     Ok(store.merge_of(ask.list)?)
 }

@@ -3,7 +3,7 @@ ghost use Rattle.std.specs.Prelude.{◌≡◌, ◌⊎◌, None, option_map};
 ghost use Rattle.archive_model.specs.Questions.{message_of};
 ghost use Rattle.archive_model.specs.Messages.{archived_message};
 ghost use Rattle.archive_results.specs.Access.{asked_for_key, asked_of_message, message_facts, reader_facts, spec_asked};
-ghost use Rattle.archive_store.specs.Told.{AnswersFromStoreUnder, HoldsTables};
+ghost use Rattle.archive_store.specs.Told.{AnswersFromStoreUnder, HoldsTables, WritesNothing};
 ghost use Rattle.archive_desk.specs.Asking.{standing_reason};
 ghost use Rattle.archive_desk.specs.Causes.{IsMessageUnreadable, IsReaderUnreadable};
 ghost use Rattle.archive_desk.specs.Ending.{EndsDeskCall, EndsDeskQuestion};
@@ -32,6 +32,7 @@ pub fn message<'p, S: Alter>(
         (λ a answer. spec_asked answer ≡ asked_for_key a ask.entry.now key.now) }
     ensures ends { EndsDeskQuestion S.Store store.old store.new IsAskFault result
         (λ a. IsMessageUnreadable a ask.entry.now key.now ⊎ IsReaderUnreadable a ask.entry.now) }
+    ensures writes_nothing { WritesNothing S.Store store.old store.new }
 {
     match find_row(store, ask, key) {
         Ok(held) => answer_on(store, alloc, ask, &held),
@@ -50,6 +51,7 @@ pub fn find_row<S: Alter>(
         (λ a found. option_map (archived_message ask.now.list) found ≡ message_of a ask.now.list key.now) }
     ensures ends { EndsDeskQuestion S.Store store.old store.new IsAskFault result
         (λ a. IsMessageUnreadable a ask.now key.now) }
+    ensures writes_nothing { WritesNothing S.Store store.old store.new }
 {
     Ok(store.row(ask.list, key)?)
 }
@@ -66,6 +68,7 @@ pub fn find_message_facts<S: Alter>(
         (λ a found. found ≡ option_map (message_facts None) (message_of a ask.now.list key.now)) }
     ensures ends { EndsDeskQuestion S.Store store.old store.new IsAskFault result
         (λ a. IsMessageUnreadable a ask.now key.now) }
+    ensures writes_nothing { WritesNothing S.Store store.old store.new }
 {
     let found = store.marks(ask.list, key)?;
     Ok(weighed_found(found))
@@ -84,6 +87,7 @@ fn answer_on<'p, S: Alter>(
         (option_map (archived_message ask.entry.now.list) held.now)) }
     ensures ends { EndsDeskCall S.Store store.old store.new IsAskFault result
         (λ a. IsReaderUnreadable a ask.entry.now) }
+    ensures writes_nothing { WritesNothing S.Store store.old store.new }
 {
     let reader = find_marks(store, ask)?;
     match lookup_message(alloc, ask, &reader, held) {

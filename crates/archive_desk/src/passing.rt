@@ -5,7 +5,7 @@ ghost use Rattle.std.specs.Option.{IsSomeAnd};
 ghost use Rattle.archive_model.specs.Records.{Message as Remembered};
 ghost use Rattle.archive_port.specs.Messages.{AreDatedMarksOf};
 ghost use Rattle.archive_results.specs.Access.{message_facts};
-ghost use Rattle.archive_store.specs.Told.{CountsRefusals, StaysOpenUnlessDiskFails};
+ghost use Rattle.archive_store.specs.Told.{CountsRefusals, StaysOpenUnlessDiskFails, WritesNothing};
 ghost use Rattle.archive_store.specs.Walking.{walk_over_store};
 ghost use Rattle.archive_port.specs.Wanting.{IsMemoryRefusal};
 ghost use Rattle.archive_desk.specs.Walking.{SkipsAtMostOne, SkipsWithheldMessages, E15MeansDiskFailedOrMessageUnreadable};
@@ -26,6 +26,7 @@ pub(crate) fn pass_withheld<S: Alter>(
     ensures lasts { StaysOpenUnlessDiskFails S.Store store.old store.new }
     ensures caused { E15MeansDiskFailedOrMessageUnreadable S.Store (walk_over_store store.old walk.old) (walk_over_store store.new walk.new) ask.now result }
     ensures counted { CountsRefusals IsMemoryRefusal store.old store.new result }
+    ensures writes_nothing { WritesNothing S.Store store.old store.new }
 {
     while pass_next(store, ask, reader, walk)? {}
     Ok(())
@@ -42,6 +43,7 @@ fn pass_next<S: Alter>(
     ensures lasts { StaysOpenUnlessDiskFails S.Store store.old store.new }
     ensures caused { E15MeansDiskFailedOrMessageUnreadable S.Store (walk_over_store store.old walk.old) (walk_over_store store.new walk.new) ask.now result }
     ensures counted { CountsRefusals IsMemoryRefusal store.old store.new result }
+    ensures writes_nothing { WritesNothing S.Store store.old store.new }
 {
     if asks_author(ask, reader) {
         return Ok(false);

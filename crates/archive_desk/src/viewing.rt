@@ -3,7 +3,7 @@ ghost use Rattle.std.specs.Prelude.{◌≡◌, map, filter, IfOk, Some, option_m
 ghost use Rattle.archive_model.specs.Questions.{address_of, messages_in, standing_of, standing_refusal};
 ghost use Rattle.archive_model.specs.Messages.{archived_message};
 ghost use Rattle.archive_results.specs.Access.{is_shown, standing_of_rank, view_of};
-ghost use Rattle.archive_store.specs.Told.{AnswersFromStoreUnder, HoldsTables};
+ghost use Rattle.archive_store.specs.Told.{AnswersFromStoreUnder, HoldsTables, WritesNothing};
 ghost use Rattle.archive_desk.specs.Asking.{DeterminesVerdicts, person_reason, standing_reason};
 ghost use Rattle.archive_desk.specs.Causes.{HasUnreadableMessage, IsAddressUnreadable, IsPersonUnreadable, IsRankUnknown};
 ghost use Rattle.archive_desk.specs.Causes.{IsReaderUnreadable, IsQuestionUnreadable};
@@ -31,6 +31,7 @@ pub fn view<S: Alter>(
         (λ a found. map (archived_message ask.now.list) found.items ≡ view_of a ask.now) }
     ensures ends { EndsDeskCall S.Store store.old store.new IsAskFault result
         (λ a. IsQuestionUnreadable a ask.now (messages_in a ask.now.list)) }
+    ensures writes_nothing { WritesNothing S.Store store.old store.new }
 {
     let messages = match read_list(store, alloc, ask) {
         Ok(messages) => messages,
@@ -60,6 +61,7 @@ pub(crate) fn read_list<S: Alter>(
         (λ a found. map (archived_message ask.now.list) found.items ≡ messages_in a ask.now.list) }
     ensures ends { EndsDeskCall S.Store store.old store.new IsAskFault result
         (λ a. HasUnreadableMessage (messages_in a ask.now.list)) }
+    ensures writes_nothing { WritesNothing S.Store store.old store.new }
 {
     Ok(store.rows(alloc, ask.list)?)
 }
@@ -76,6 +78,7 @@ pub fn resolve_reader<S: Alter>(
         (λ a reader. DeterminesVerdicts a ask.now reader) }
     ensures ends { EndsDeskQuestion S.Store store.old store.new IsAskFault result
         (λ a. IsReaderUnreadable a ask.now) }
+    ensures writes_nothing { WritesNothing S.Store store.old store.new }
 {
     match check_list_exists(store, ask.list) {
         Ok(()) => find_marks(store, ask),
@@ -93,6 +96,7 @@ pub(crate) fn find_marks<S: Alter>(
         (λ a reader. DeterminesVerdicts a ask.now reader) }
     ensures ends { EndsDeskCall S.Store store.old store.new IsAskFault result
         (λ a. IsReaderUnreadable a ask.now) }
+    ensures writes_nothing { WritesNothing S.Store store.old store.new }
 {
     match ask.reader {
         Reader::Nobody => Ok(ReaderFacts {
@@ -115,6 +119,7 @@ fn person_marks<S: Alter>(
         (λ a reader. DeterminesVerdicts a (record ask.now { reader = Some name.now }) reader) }
     ensures ends { EndsDeskCall S.Store store.old store.new IsAskFault result
         (λ a. IsPersonUnreadable a ask.now name.now) }
+    ensures writes_nothing { WritesNothing S.Store store.old store.new }
 {
     let standing = match find_standing(store, ask, name) {
         Ok(standing) => standing,
@@ -144,6 +149,7 @@ fn find_standing<S: Alter>(
         (standing_of a name.now ask.now.list ask.now.day)) }
     ensures ends { EndsDeskCall S.Store store.old store.new IsAskFault result
         (λ a. IsRankUnknown a ask.now name.now) }
+    ensures writes_nothing { WritesNothing S.Store store.old store.new }
 {
     Ok(store.standing(name, ask.list, ask.day)?)
 }
@@ -155,6 +161,7 @@ fn find_address<S: Alter>(store: &mut Store<S>, name: &str) -> Result<Option<Str
         (λ a address. option_map string_bytes address ≡ address_of a name.now) }
     ensures ends { EndsDeskCall S.Store store.old store.new IsAskFault result
         (λ a. IsAddressUnreadable a name.now) }
+    ensures writes_nothing { WritesNothing S.Store store.old store.new }
 {
     Ok(store.address(name)?)
 }

@@ -9,13 +9,12 @@ use Rattle.mbox_core.specs.declared.faults.MboxFault.TheVariants.{Memory as NoRo
 use Rattle.mbox_stream.specs.Stream.{settled_items}
 use Rattle.archive_model.specs.Records.{Archive}
 use Rattle.archive_model.specs.Runs.{taken}
-use Rattle.archive_tables.specs.Crashes.{CrashAddsNothing}
 use Rattle.archive_store.specs.Batches.{AddsAllMessages}
 use Rattle.archive_port.specs.Adding.{HasAddedFirstItems}
 use Rattle.archive_store.specs.Crashes.{CrashAddsAllBatches}
 use Rattle.archive_port.specs.Adding.{HasAddedAtLeast}
 use Rattle.archive_store.specs.Held.{store_connection}
-use Rattle.archive_store.specs.Told.{RelatesArchivesUnder, HoldsTables, StaysOpenUnlessDiskFails, archive_in}
+use Rattle.archive_store.specs.Told.{RelatesArchivesUnder, HoldsTables, StaysOpenUnlessDiskFails, WritesNothing, archive_in}
 use Rattle.archive_desk.specs.Holding.{CallsStoreWithTables, RelatesTableArchives}
 use Rattle.archive_port.specs.declared.reports.AddReport.{AddReport}
 use Rattle.archive_port.specs.declared.reports.AddError.{AddError}
@@ -185,17 +184,17 @@ module _ {S : Type 0} (g : Ghosts S) where
   -- ---- the whole call
 
   -- the list is there
-  pub found_safe : (old new : Store S) (list : List ℕ) → RelatesArchivesUnder g (HoldsTables g) old new (IsFound list) → CrashAddsNothing g (store_connection old) (store_connection new)
+  pub found_safe : (old new : Store S) (list : List ℕ) → RelatesArchivesUnder g (HoldsTables g) old new (IsFound list) → WritesNothing g old new
       → KeepsSafe old new
   found_safe old new list goes quiet = λ returned held was. question_safe g old new (IsFound list) (λ a b it. it.0) goes quiet returned held was
 
   -- there is no such list, or it was not found out
-  pub found_crash : (old new : Store S) (list text : List ℕ) (ends : ℕ) (fault : StoreFault) → CrashAddsNothing g (store_connection old) (store_connection new)
+  pub found_crash : (old new : Store S) (list text : List ℕ) (ends : ℕ) (fault : StoreFault) → WritesNothing g old new
       → CrashAfterTablesCall g old new {A = Report} (Err (record { done = 0; fault = Stored fault })) (LeavesFile list text ends)
   found_crash old new list text ends fault quiet = λ returned held was db may. (
     archive_in g old,
     (settled_items text, inl refl, at_least list (settled_items text) 0 (archive_in g old) (archive_in g old) (omega arith, run_nothing (archive_in g old))),
-    was db (quiet returned db may),
+    was db (quiet db (returned, may)).1,
   )
 
   module _ (old mid new : Store S) (list : List ℕ) (i : IntakeState) (is : i ≡ no_intake) (safe : KeepsSafe old mid) (found : RelatesTableArchives g old mid (IsFound list))

@@ -19,6 +19,7 @@ loop-walk-init g c = (
   refl,
   rows_none g.S.Store c.args.ask.now c.args.reader.now (walk_over_store c.args.store.now c.args.walk.now) (g.W.Sink.told c.args.out.now) c.args.count.now c.requires,
   omega arith,
+  (λ db may. may),
 )
 
 pub loop-walk-preserved : goal.loop-walk-preserved
@@ -35,6 +36,7 @@ loop-walk-preserved g c =
           (λ returned all a given w. rw c.in-Some.is at (c.in_ok-message.ensures.given returned c.args.ask.now.list all a given w))
           (g.W.Sink.told c.write_shown.new.out) c.in-Ok.more c.saturating_add.result c.in-Ok.ensures.ok c.in-Ok.ensures.count c.saturating_add.ensures,
       omega (arith, so_far.3, c.in_ok-pass_withheld.ensures.counted.0, c.in_ok-message.ensures.ends.refusals_counted.0),
+      (λ db may. so_far.4 db (c.pass_withheld.ensures.writes_nothing db (c.next.ensures.writes_nothing db may))),
     )
 
 pub returns-in_err-message-clause-written : goal.returns-in_err-message-clause-written

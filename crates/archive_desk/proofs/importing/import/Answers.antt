@@ -27,7 +27,7 @@ returns-in-Ok g c =
     record {
       imports = imports;
       crash = import_crash g.S.Store store new list mbox c.add_items.result imports
-          (some_imported g.S.Store store mid new list mbox found c.in_default.ensures.quiet items divided lasts c.add_items.result c.add_items.ensures.crash);
+          (some_imported g.S.Store store mid new list mbox found c.in_default.ensures.writes_nothing items divided lasts c.add_items.result c.add_items.ensures.crash);
       ends = import_ends_after g.S.Store (HoldsTables g.S.Store) IsImportStoreMemoryRefusal store mid new (IsThere g.S.Store list) found lasts c.in_default.ensures.ends.refusals_counted.0
           (λ a done db. RowsRefuseAnItem list (drop done items) db) (λ a done db. RowsRefuseImportItem list mbox done db) (λ a b done db there stops. (items, divided, stops))
           c.add_items.result c.add_items.ensures.ends;
@@ -42,7 +42,8 @@ returns-in-Err-Mbox-clause-imports g c =
 pub returns-in-Err-Mbox-clause-crash : goal.returns-in-Err-Mbox-clause-crash
 returns-in-Err-Mbox-clause-crash g c =
     rw c.in-Err-Mbox.field-0-is
-    (none_imported g.S.Store c.args.store.now c.check_list_exists.new.store c.args.list.now c.args.mbox.now (record { done = 0; fault = Mbox c.in-Err-Mbox.fault }) refl c.in_default.ensures.quiet)
+    (none_imported g.S.Store c.args.store.now c.check_list_exists.new.store c.args.list.now c.args.mbox.now (record { done = 0; fault = Mbox c.in-Err-Mbox.fault }) refl
+    c.in_default.ensures.writes_nothing)
 
 pub returns-in-Err-Mbox-clause-ends : goal.returns-in-Err-Mbox-clause-ends
 returns-in-Err-Mbox-clause-ends g c =
@@ -54,7 +55,7 @@ returns-in-Err-Mbox-clause-ends g c =
 pub returns-in-Err-Refused : goal.returns-in-Err-Refused
 returns-in-Err-Refused g c = record {
   imports = no_room_to_cut g.S.Store c.args.store.now c.check_list_exists.new.store c.args.list.now c.args.mbox.now c.in_default.ensures.found;
-  crash = none_imported g.S.Store c.args.store.now c.check_list_exists.new.store c.args.list.now c.args.mbox.now (record { done = 0; fault = Stored Memory }) refl c.in_default.ensures.quiet;
+  crash = none_imported g.S.Store c.args.store.now c.check_list_exists.new.store c.args.list.now c.args.mbox.now (record { done = 0; fault = Stored Memory }) refl c.in_default.ensures.writes_nothing;
   ends =
       let grows = c.in_default.ensures.ends.refusals_counted.0 in
       import_unbroken g.S.Store (HoldsTables g.S.Store) IsImportStoreMemoryRefusal c.args.store.now _ Report Report
@@ -65,7 +66,8 @@ returns-in-Err-Refused g c = record {
 pub returns-in-Err : goal.returns-in-Err
 returns-in-Err g c = record {
   imports = list_not_found g.S.Store c.args.store.now c.check_list_exists.new.store c.args.list.now c.args.mbox.now c.in-Err.fault c.in-Err.ensures.found;
-  crash = none_imported g.S.Store c.args.store.now c.check_list_exists.new.store c.args.list.now c.args.mbox.now (record { done = 0; fault = Stored c.in-Err.fault }) refl c.in-Err.ensures.quiet;
+  crash = none_imported g.S.Store c.args.store.now c.check_list_exists.new.store c.args.list.now c.args.mbox.now (record { done = 0; fault = Stored c.in-Err.fault }) refl
+      c.in-Err.ensures.writes_nothing;
   ends = import_stopped g.S.Store (HoldsTables g.S.Store) IsImportStoreMemoryRefusal c.args.store.now c.check_list_exists.new.store (Unit {0}) Report
       (λ a done db. RowsRefuseImportItem c.args.list.now c.args.mbox.now done db) (λ store held. held) wanted_by (DiskHasFailed g.S.Store c.args.store.now c.check_list_exists.new.store)
       c.in-Err.fault (no_list ∷ []) 0

@@ -27,6 +27,7 @@ loop-headers-preserved g c =
           (walk_over_store c.next.new.store c.next.new.self) c.loop-headers.headers.items past c.next.ensures.ends.remains_open.disk_was_clean c.in-Some.message c.push_header.new.headers.items
           (λ returned all a given w. rw c.in-Some.is at (c.in_ok-message.ensures.given returned c.args.ask.now.list all a given w)) c.in-Ok.ensures,
       omega (arith, so_far.2, c.in_ok-pass_withheld.ensures.counted.0, c.in_ok-message.ensures.ends.refusals_counted.0),
+      (λ db may. so_far.3 db (c.pass_withheld.ensures.writes_nothing db (c.next.ensures.writes_nothing db may))),
     )
 
 pub returns-in-Err-clause-listed : goal.returns-in-Err-clause-listed

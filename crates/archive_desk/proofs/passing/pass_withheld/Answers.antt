@@ -14,6 +14,7 @@ loop-init g c = (
       (walk_over_store c.args.store.now c.args.walk.now) w),
   omega arith,
   omega arith,
+  (λ db may. may),
 )
 
 pub loop-preserved : goal.loop-preserved
@@ -24,6 +25,7 @@ loop-preserved g c = (
       c.in_ok-pass_next.ensures.passed.skips_withheld,
   omega (arith, c.loop.invariant.2, c.in_ok-pass_next.ensures.passed.skips_withheld.remaining_never_grows),
   omega (arith, c.loop.invariant.3, c.in_ok-pass_next.ensures.counted.0),
+  (λ db may. c.loop.invariant.4 db (c.pass_next.ensures.writes_nothing db may)),
 )
 
 pub returns-clause-passed : goal.returns-clause-passed

@@ -132,7 +132,7 @@ returns-in-Err-clause-crash g c = λ text ends told ended.
     let store = c.args.store.now in
     let mid = c.check_list_exists.new.store in
     stops_reading g.S.Store store mid c.args.list.now text ends (record { done = 0; fault = Stored c.in-Err.fault })
-    (found_crash g.S.Store store mid c.args.list.now text ends c.in-Err.fault c.in-Err.ensures.quiet)
+    (found_crash g.S.Store store mid c.args.list.now text ends c.in-Err.fault c.in-Err.ensures.writes_nothing)
 
 pub returns-in-Err-add_settled-clause-crash : goal.returns-in-Err-add_settled-clause-crash
 returns-in-Err-add_settled-clause-crash g c = λ text ends told ended.
@@ -144,7 +144,7 @@ returns-in-Err-add_settled-clause-crash g c = λ text ends told ended.
     let stream = c.add_settled.new.cutter.stream in
     let found = c.in_default.ensures.found in
     stops_reading g.S.Store store new list text ends stop
-    (begun_crash g.S.Store store mid new list c.new-intake.result c.new-intake.ensures (found_safe g.S.Store store mid list c.in_default.ensures.found c.in_default.ensures.quiet) found
+    (begun_crash g.S.Store store mid new list c.new-intake.result c.new-intake.ensures (found_safe g.S.Store store mid list c.in_default.ensures.found c.in_default.ensures.writes_nothing) found
     (read_lasts g.S.Store mid new list stream 0 [] c.new-intake.result (λ b d _. Begun list [] c.add_settled.new.cutter.taken c.new-intake.result c.add_settled.new.intake b d) stop
     c.in-Err-add_settled.ensures.adds)
     text ends stop
@@ -165,7 +165,7 @@ returns-in-Ok-add_last-clause-crash g c = λ text ends told ended.
     let new = c.add_last.new.store in
     let found = c.in_default.ensures.found in
     let begun = found_begun g.S.Store store mid later list c.new-intake.result c.new-intake.ensures found cutter.taken intake c.in-Ok.ensures.adds in
-    let safe = safe_then g.S.Store store mid later (IsFound list) (found_safe g.S.Store store mid list c.in_default.ensures.found c.in_default.ensures.quiet) found c.in-Ok.ensures.adds.0
+    let safe = safe_then g.S.Store store mid later (IsFound list) (found_safe g.S.Store store mid list c.in_default.ensures.found c.in_default.ensures.writes_nothing) found c.in-Ok.ensures.adds.0
     c.in-Ok.ensures.crash in
     subst (λ n. CrashImportsInput g.S.Store store new list text n (Ok c.report.result)) (omega (arith, ended, c.in-Ok.ensures.read.ok_means_end))
     (subst (λ t. CrashImportsInput g.S.Store store new list t 1 (Ok c.report.result)) (read_all _ cutter.stream text _ c.add_settled.ensures.read.stream_is_read told)
@@ -186,7 +186,7 @@ returns-clause-crash g c = λ text ends told ended.
     let new = c.add_last.new.store in
     let stop = c.in-Err-add_last.stop in
     let found = c.in_default.ensures.found in
-    let safe = safe_then g.S.Store store mid later (IsFound list) (found_safe g.S.Store store mid list c.in_default.ensures.found c.in_default.ensures.quiet) found c.in-Ok.ensures.adds.0
+    let safe = safe_then g.S.Store store mid later (IsFound list) (found_safe g.S.Store store mid list c.in_default.ensures.found c.in_default.ensures.writes_nothing) found c.in-Ok.ensures.adds.0
     c.in-Ok.ensures.crash in
     stops_reading g.S.Store store new list text ends stop
     (ended_crash g.S.Store store later new list cutter.taken intake safe
