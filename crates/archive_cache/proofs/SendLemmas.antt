@@ -1,5 +1,5 @@
 -- Messages that are written by the keys of lines.
-use Rattle.std.proofs.Common.{◌≡◌, ◌≢◌, refl, sym, ap, ◌∙◌, subst, inl, inr, ℕ, ◌+◌, ◌<◌, ◌≤◌, ◌^◌, min, Bool, true, false, not, ◌&&◌, cond, List, [], ◌∷◌, ◌++◌}
+use Rattle.std.proofs.Common.{◌≡◌, refl, sym, ap, ◌∙◌, subst, inl, inr, ℕ, ◌+◌, ◌<◌, ◌≤◌, ◌^◌, min, Bool, true, false, not, ◌&&◌, cond, List, [], ◌∷◌, ◌++◌}
 use Rattle.std.proofs.Common.{length, take, filter, map, Option, Some, None, Result, Ok, Err, arith, append_assoc, length-append, length-take}
 use Rattle.std.specs.Prelude.{◌||◌, find, option_map, bytes_eq, IfErr, IfSome, MatchOption}
 use Rattle.std.specs.List.{All, list_any}
@@ -13,8 +13,8 @@ use Rattle.sqlite.specs.Store.{Ghosts}
 use Rattle.mbox_core.specs.Division.{Item}
 use Rattle.mbox_core.specs.Written.{AppendsPrefixOfText, written_item}
 use Rattle.archive_model.specs.Records.{Archive, Message as Remembered}
-use Rattle.archive_model.specs.Commands.{Refusal, no_list}
-use Rattle.archive_model.specs.Questions.{has_list, is_message_at_key, list_refusal, message_of, messages_in}
+use Rattle.archive_model.specs.Commands.{Refusal}
+use Rattle.archive_model.specs.Questions.{is_message_at_key, message_of, messages_in}
 use Rattle.archive_model.specs.Messages.{archived_message}
 use Rattle.archive_model.specs.declared.messages.Message.{Message}
 use Rattle.archive_tables.specs.Tables.{HaveDistinctKeys, same_message_key}
@@ -22,9 +22,9 @@ use Rattle.archive_tables.proofs.LastLemmas.{lasts_then, lasts_same}
 use Rattle.archive_port.specs.Messages.{IsReadable}
 use Rattle.archive_store.specs.Held.{store_connection, memory_refusal_count}
 use Rattle.archive_store.specs.Replies.{AnswersStoreQuestion}
-use Rattle.archive_port.specs.Replies.{IsOneOf, IsRefusedOnlyFor, refusal_of_fault}
+use Rattle.archive_port.specs.Replies.{IsOneOf, refusal_of_fault}
 use Rattle.archive_store.specs.Told.{E15MeansDiskFailedOr as StoreCausedOr, CountsRefusals, RelatesArchivesUnder, RelatesArchivesUnderIfOpen}
-use Rattle.archive_store.specs.Told.{StoreHasCleanDisk, HoldsTables, IsOpen, StaysOpenUnlessDiskFails, archive_in}
+use Rattle.archive_store.specs.Told.{StoreHasCleanDisk, HoldsTables, IsOpen, StaysOpenUnlessDiskFails, WritesNothing, archive_in}
 use Rattle.archive_port.specs.Wanting.{IsMemoryRefusal}
 use Rattle.archive_store.specs.declared.store.Store.{Store}
 use Rattle.archive_port.specs.declared.faults.StoreFault.{StoreFault}
@@ -44,25 +44,9 @@ use Rattle.archive_desk.proofs.CauseLemmas.{cause_after, each_fault, store_cause
 use Rattle.archive_desk.proofs.WalkLemmas.{cut_behind}
 use Rattle.archive_desk.proofs.WantLemmas.{wants_of_store}
 use Rattle.archive_cache.specs.Sending.{EndsMboxOfLines, LooksUpMessage, RemembersArchive, RemembersAfterFault}
-use Rattle.archive_cache.specs.Sending.{WritesMboxOfLines, WritesMboxAfterHead, mbox_text_of_line, mbox_text_of_lines, message_in}
+use Rattle.archive_cache.specs.Sending.{WritesMboxOfLines, WritesMboxAfterHead, mbox_text_of_line, mbox_text_of_lines}
 
--- ---- which message is looked for
-
-module _ (a : Archive) (list key : List ℕ) where
-  by_listed : (listed : Bool) (why : Option Refusal) → cond (not listed) (Some no_list) None ≡ None → cond listed (message_of a list key) None ≡ message_of a list key
-  by_listed true why is = refl
-  by_listed false why is = absurd (cc)
-
-  -- of a list that is there
-  pub listed_message : list_refusal a list ≡ None → message_in a list key ≡ message_of a list key
-  listed_message is = by_listed (has_list a list) None is
-
-  by_unlisted : (listed : Bool) (why : Refusal) → cond (not listed) (Some no_list) None ≡ Some why → cond listed (message_of a list key) None ≡ None
-  by_unlisted true why is = absurd (cc)
-  by_unlisted false why is = refl
-
-  pub unlisted_message : (why : Refusal) → list_refusal a list ≡ Some why → message_in a list key ≡ None
-  unlisted_message why is = by_unlisted (has_list a list) why is
+-- ---- a message of a list
 
 -- one that cannot be read is one of the list's
 module _ (list key : List ℕ) where
@@ -89,27 +73,23 @@ unread_in a list key bad = unread_among list key a.messages bad
 
 -- ---- a fault of the store
 
-only : (why : Refusal) → IsOneOf why (no_list ∷ []) → why ≡ no_list
-only why (inl is) = is
-only why (inr bad) = absurd bad
-
--- which is no want of a list
-pub unlisted : (fault : StoreFault) → fault ≢ faults.NoList → IfSome (refusal_of_fault fault) (λ why. IsOneOf why (no_list ∷ [])) → IsMemoryOrDatabaseFault (desk_error_of fault)
-unlisted faults.BadName other it = absurd (let is = only _ it in cc)
-unlisted faults.BadText other it = absurd (let is = only _ it in cc)
-unlisted faults.ListExists other it = absurd (let is = only _ it in cc)
-unlisted faults.NoList other it = absurd (other refl)
-unlisted faults.PersonExists other it = absurd (let is = only _ it in cc)
-unlisted faults.NoPerson other it = absurd (let is = only _ it in cc)
-unlisted faults.TokenTaken other it = absurd (let is = only _ it in cc)
-unlisted faults.NoMessage other it = absurd (let is = only _ it in cc)
-unlisted faults.AlreadyWithdrawn other it = absurd (let is = only _ it in cc)
-unlisted faults.NotWithdrawn other it = absurd (let is = only _ it in cc)
-unlisted faults.BadDays other it = absurd (let is = only _ it in cc)
-unlisted faults.ListFull other it = absurd (let is = only _ it in cc)
-unlisted faults.TooLarge other it = absurd (let is = only _ it in cc)
-unlisted faults.Memory other it = refl
-unlisted faults.Store other it = refl
+-- which has no reason
+pub unrefused : (fault : StoreFault) → IfSome (refusal_of_fault fault) (λ why. IsOneOf why []) → IsMemoryOrDatabaseFault (desk_error_of fault)
+unrefused faults.BadName it = absurd it
+unrefused faults.BadText it = absurd it
+unrefused faults.ListExists it = absurd it
+unrefused faults.NoList it = absurd it
+unrefused faults.PersonExists it = absurd it
+unrefused faults.NoPerson it = absurd it
+unrefused faults.TokenTaken it = absurd it
+unrefused faults.NoMessage it = absurd it
+unrefused faults.AlreadyWithdrawn it = absurd it
+unrefused faults.NotWithdrawn it = absurd it
+unrefused faults.BadDays it = absurd it
+unrefused faults.ListFull it = absurd it
+unrefused faults.TooLarge it = absurd it
+unrefused faults.Memory it = refl
+unrefused faults.Store it = refl
 
 module _ {S : Type 0} (g : Ghosts S) (old new : Store S) (list key : List ℕ) where
   abbrev Says : Archive → Option Message → Type 0
@@ -120,37 +100,31 @@ module _ {S : Type 0} (g : Ghosts S) (old new : Store S) (list key : List ℕ) w
 
   module _ (lasts : StaysOpenUnlessDiskFails g old new) where
     -- it was looked for
-    pub looked : (found : Option Message) → AnswersStoreQuestion g (store_connection old) (store_connection new) (Ok found) (λ a. list_refusal a list) Says
+    pub looked : (found : Option Message) → AnswersStoreQuestion g (store_connection old) (store_connection new) (Ok found) (λ _. None) Says
         → StoreHasCleanDisk g new → HoldsTables g old → LooksUpMessage g new (archive_in g old) list key (Ok found)
     looked found clause returned held =
-        let it = (store_asked g old new (Ok found) (λ a. list_refusal a list) Says lasts clause).1 returned held in
-        ((it.0, it.1.0), it.1.2 ∙ sym (listed_message (archive_in g old) list key it.1.1))
-
-    -- the list is not there
-    pub looked_in_none : AnswersStoreQuestion g (store_connection old) (store_connection new) {A = Option Message} (Err faults.NoList) (λ a. list_refusal a list) Says
-        → StoreHasCleanDisk g new → HoldsTables g old → LooksUpMessage g new (archive_in g old) list key (Ok None)
-    looked_in_none clause returned held =
-        let it = (store_asked g {A = Option Message} old new (Err faults.NoList) (λ a. list_refusal a list) Says lasts clause).1 returned held in
-        ((it.0, it.1.0), sym (unlisted_message (archive_in g old) list key no_list it.1.1))
+        let it = (store_asked g old new (Ok found) (λ _. None) Says lasts clause).1 returned held in
+        ((it.0, it.1.0), it.1.2)
 
     -- the store fails
-    pub looked_failed : (fault : StoreFault) → AnswersStoreQuestion g (store_connection old) (store_connection new) {A = Option Message} (Err fault) (λ a. list_refusal a list) Says
+    pub looked_failed : (fault : StoreFault) → AnswersStoreQuestion g (store_connection old) (store_connection new) {A = Option Message} (Err fault) (λ _. None) Says
         → StoreHasCleanDisk g new → HoldsTables g old → LooksUpMessage g new (archive_in g old) list key (Err (desk_error_of fault))
     looked_failed fault clause returned held =
         subst (λ r. MatchOption r (IsOpen g new → RemembersArchive g new (archive_in g old)) (λ _. RemembersArchive g new (archive_in g old))) (sym (reasoned fault))
-        (by_reason (refusal_of_fault fault) (store_asked g {A = Option Message} old new (Err fault) (λ a. list_refusal a list) Says lasts clause))
+        (by_reason (refusal_of_fault fault) (store_asked g {A = Option Message} old new (Err fault) (λ _. None) Says lasts clause))
       where
         by_reason : (r : Option Refusal)
             → MatchOption r (RelatesArchivesUnderIfOpen g (HoldsTables g) old new (λ a b. b ≡ a))
-            (λ why. RelatesArchivesUnder g (HoldsTables g) old new (λ a b. (b ≡ a) × (list_refusal a list ≡ Some why)))
+            (λ why. RelatesArchivesUnder g (HoldsTables g) old new (λ a b. (b ≡ a) × (None ≡ Some why)))
             → MatchOption (option_map reason_of_refusal r) (IsOpen g new → RemembersArchive g new (archive_in g old)) (λ _. RemembersArchive g new (archive_in g old))
         by_reason None it = λ up. it.1 returned held up
         by_reason (Some why) it = let there = it.1 returned held in (there.0, there.1.0)
 
-    pub look_ends : (fault : StoreFault) → CountsRefusals {A = Option Message} IsMemoryRefusal old new (Err fault) → StoreCausedOr g old new {A = Option Message} (Err fault) Unread
-        → EndsMboxOfLines g old new list {A = Option Message} (λ f. f) (Err (desk_error_of fault))
-    look_ends fault counted caused = record {
+    pub look_ends : (fault : StoreFault) → WritesNothing g old new → CountsRefusals {A = Option Message} IsMemoryRefusal old new (Err fault)
+        → StoreCausedOr g old new {A = Option Message} (Err fault) Unread → EndsMboxOfLines g old new list {A = Option Message} (λ f. f) (Err (desk_error_of fault))
+    look_ends fault quiet counted caused = record {
       remains_open = lasts;
+      writes_nothing = quiet;
       fault_has_cause = λ bad returned held free. elim (store_cause g old new fault Unread caused bad returned held free) [
         | inl more ↦ inl more
         | inr unread ↦ inr (unread_in (archive_in g old) list key unread)
@@ -165,11 +139,11 @@ module _ (a : Archive) (list : List ℕ) (line : Line) where
   one_line = append-nil (mbox_text_of_line a list line)
 
   -- its message is not there
-  pub line_none : option_map (archived_message list) None ≡ message_in a list line.key → mbox_text_of_lines a list (line ∷ []) ≡ []
+  pub line_none : option_map (archived_message list) None ≡ message_of a list line.key → mbox_text_of_lines a list (line ∷ []) ≡ []
   line_none is = one_line ∙ ap (λ o. option_map_or (λ (m : Remembered). written_item (shown_message m).item) o []) (sym is)
 
   -- or it is
-  pub line_some : (message : Message) (item : Item) → option_map (archived_message list) (Some message) ≡ message_in a list line.key → item ≡ message.item
+  pub line_some : (message : Message) (item : Item) → option_map (archived_message list) (Some message) ≡ message_of a list line.key → item ≡ message.item
       → mbox_text_of_lines a list (line ∷ []) ≡ written_item item
   line_some message item is same = one_line ∙ ap (λ o. option_map_or (λ (m : Remembered). written_item (shown_message m).item) o []) (sym is) ∙ ap written_item (sym same)
 
@@ -215,6 +189,7 @@ module _ {S : Type 0} (g : Ghosts S) (list : List ℕ) where
   -- The text of these lines was written, and it was counted.
   pub record LinesSoFar (old now : Store S) (lines : List Line) (before after : List ℕ) (counted counts : ℕ) : Type 0 where
     pub lasts : StaysOpenUnlessDiskFails g old now
+    pub writes_nothing : WritesNothing g old now
     pub grows : memory_refusal_count old ≤ memory_refusal_count now
     pub more : AddsToByteCount before after counted counts
     pub wrote : StoreHasCleanDisk g now → HoldsTables g old → WritesMboxOfLines g now (archive_in g old) list lines before after counted counts (Ok tt)
@@ -222,6 +197,7 @@ module _ {S : Type 0} (g : Ghosts S) (list : List ℕ) where
   pub lines_none : (store : Store S) (told : List ℕ) (counted : ℕ) → counted < 2 ^ 64 → LinesSoFar store store [] told told counted counted
   lines_none store told counted fits = record {
     lasts = lasts_same _;
+    writes_nothing = λ db may. may;
     grows = omega arith;
     more = counts_none told counted fits;
     wrote = λ returned held. ((held, refl), sym (append-nil told), omega (arith, fits));
@@ -253,6 +229,7 @@ module _ {S : Type 0} (g : Ghosts S) (list : List ℕ) where
     pub ends_since : {A : Type 0} (result : Result A DeskError) → EndsMboxOfLines g mid new list (λ f. f) result → EndsMboxOfLines g old new list (λ f. f) result
     ends_since result it = record {
       remains_open = lasts_then _ _ _ s.lasts it.remains_open;
+      writes_nothing = λ db may. s.writes_nothing db (it.writes_nothing db may);
       fault_has_cause = each_fault (λ fault. IsDeskDatabaseFault fault → HasCause g mid new Unreadable) (λ fault. IsDeskDatabaseFault fault → HasCause g old new Unreadable)
           (λ fault why bad. cause_after g old mid new left it.remains_open Unreadable (why bad)) result it.fault_has_cause;
       refusals_counted = raises_after IsDeskMemoryRefusal (memory_refusal_count old) (memory_refusal_count mid) (memory_refusal_count new) result s.grows it.refusals_counted;
@@ -267,11 +244,12 @@ module _ {S : Type 0} (g : Ghosts S) (list : List ℕ) where
           subst (λ a. WritesMboxOfLines g new a list (line ∷ []) middle after count counts result) so.0.1 (wrote returned so.0.0)
 
       -- one more
-      pub lines_more : memory_refusal_count mid ≤ memory_refusal_count new → AddsToByteCount middle after count counts
+      pub lines_more : WritesNothing g mid new → memory_refusal_count mid ≤ memory_refusal_count new → AddsToByteCount middle after count counts
           → (StoreHasCleanDisk g new → HoldsTables g mid → WritesMboxOfLines g new (archive_in g mid) list (line ∷ []) middle after count counts (Ok tt))
           → LinesSoFar old new (xs ++ line ∷ []) before after counted counts
-      lines_more grows more wrote = record {
+      lines_more quiet grows more wrote = record {
         lasts = lasts_then _ _ _ s.lasts lasts;
+        writes_nothing = λ db may. s.writes_nothing db (quiet db may);
         grows = omega (arith, s.grows, grows);
         more = counts_then before middle after counted count counts s.more more;
         wrote = λ returned held.
@@ -408,14 +386,12 @@ module _ (list : List ℕ) where
       by_test rest false = rest
 
   -- the text of the lines of messages is theirs
-  text_of_each : (a : Archive) → list_refusal a list ≡ None → (ms : List Remembered) → Each a.messages ms
-      → mbox_text_of_lines a list (lines_of (map shown_message ms)) ≡ export_text (map shown_message ms)
-  text_of_each a there [] each = refl
-  text_of_each a there (m ∷ ms) each =
-      ap (λ x. x ++ mbox_text_of_lines a list (lines_of (map shown_message ms)))
-      (ap (λ o. option_map_or (λ (m : Remembered). written_item (shown_message m).item) o []) (listed_message a list m.key there ∙ each.0))
-      ∙ ap (λ x. written_item (shown_message m).item ++ x) (text_of_each a there ms each.1)
+  text_of_each : (a : Archive) (ms : List Remembered) → Each a.messages ms → mbox_text_of_lines a list (lines_of (map shown_message ms)) ≡ export_text (map shown_message ms)
+  text_of_each a [] each = refl
+  text_of_each a (m ∷ ms) each =
+      ap (λ x. x ++ mbox_text_of_lines a list (lines_of (map shown_message ms))) (ap (λ o. option_map_or (λ (m : Remembered). written_item (shown_message m).item) o []) each.0)
+      ∙ ap (λ x. written_item (shown_message m).item ++ x) (text_of_each a ms each.1)
 
-  pub view_text : (a : Archive) (p : Remembered → Bool) → HaveDistinctKeys same_message_key a.messages → list_refusal a list ≡ None
+  pub view_text : (a : Archive) (p : Remembered → Bool) → HaveDistinctKeys same_message_key a.messages
       → mbox_text_of_lines a list (lines_of (map shown_message (filter p (messages_in a list)))) ≡ export_text (map shown_message (filter p (messages_in a list)))
-  view_text a p apart there = text_of_each a there (filter p (messages_in a list)) (each_kept a.messages p (messages_in a list) (each_found a.messages apart))
+  view_text a p apart = text_of_each a (filter p (messages_in a list)) (each_kept a.messages p (messages_in a list) (each_found a.messages apart))

@@ -1,6 +1,7 @@
 //! The outline of a part of a view, out of what is kept or read of a store.
 ghost use Rattle.std.specs.Prelude.{◌≡◌, ◌<◌, length, Some, IfOk};
 ghost use Rattle.archive_model.specs.Questions.{messages_in};
+ghost use Rattle.archive_store.specs.Told.{WritesNothing};
 ghost use Rattle.archive_desk.specs.Causes.{IsQuestionUnreadable};
 ghost use Rattle.archive_desk.specs.Ending.{EndsDeskCall, EndsDeskQuestion};
 ghost use Rattle.archive_desk.specs.Faults.{IsAskFault, ask_reason, refusal_reason};
@@ -31,6 +32,7 @@ fn read_threads<T: Threader, S: Alter>(
         (λ a outline. outline ≡ index_for_ask a ask.now whole) }
     ensures ends { EndsDeskCall S.Store store.old store.new IsAskFault result
         (λ a. IsQuestionUnreadable a ask.now (messages_in a ask.now.list)) }
+    ensures writes_nothing { WritesNothing S.Store store.old store.new }
 {
     let index = match read_view_summaries(store, alloc, ask) {
         Ok(index) => index,
@@ -58,6 +60,7 @@ fn find_whole<T: Threader, S: Alter>(
     ensures ends { EndsDeskCall S.Store store.old store.new IsAskFault result
         (λ a. IsQuestionUnreadable a ask.now (messages_in a ask.now.list)) }
     ensures there { IfOk result (λ place. place < length kept.new.views) }
+    ensures writes_nothing { WritesNothing S.Store store.old store.new }
 {
     if let Some(place) = kept.find(ask.list, reader, &ViewPart::Whole) {
         return Ok(place);
@@ -90,6 +93,7 @@ fn find_part<T: Threader, S: Alter>(
     ensures ends { EndsDeskCall S.Store store.old store.new IsAskFault result
         (λ a. IsQuestionUnreadable a ask.now (messages_in a ask.now.list)) }
     ensures there { IfOk result (λ place. place < length kept.new.views) }
+    ensures writes_nothing { WritesNothing S.Store store.old store.new }
 {
     if let Some(place) = kept.find(ask.list, reader, part) {
         return Ok(place);
@@ -131,6 +135,7 @@ pub fn get_or_build_index<T: Threader, S: Alter>(
     ensures ends { EndsDeskQuestion S.Store store.old store.new IsAskFault result
         (λ a. IsQuestionUnreadable a ask.now (messages_in a ask.now.list)) }
     ensures there { IfOk result (λ place. place < length kept.new.views) }
+    ensures writes_nothing { WritesNothing S.Store store.old store.new }
 {
     match resolve_reader(store, ask) {
         Ok(reader) => find_part(store, kept, alloc, ask, &reader, part, threader),

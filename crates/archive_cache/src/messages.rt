@@ -3,14 +3,13 @@ ghost use Rattle.std.specs.Prelude.{◌≡◌, ◌⊎◌, IfErr, IfSome};
 ghost use Rattle.archive_model.specs.Records.{Archive};
 ghost use Rattle.archive_model.specs.Questions.{message_of};
 ghost use Rattle.archive_results.specs.Access.{asked_for_key, asked_of_message, denied_by, spec_asked};
-ghost use Rattle.archive_store.specs.Told.{AnswersFromStoreUnder, HoldsTables};
+ghost use Rattle.archive_store.specs.Told.{AnswersFromStoreUnder, HoldsTables, WritesNothing};
 ghost use Rattle.archive_desk.specs.Asking.{DeterminesVerdicts};
 ghost use Rattle.archive_desk.specs.Causes.{IsMessageUnreadable, IsReaderUnreadable};
 ghost use Rattle.archive_desk.specs.Ending.{EndsDeskCall, EndsDeskQuestion};
 ghost use Rattle.archive_desk.specs.Faults.{IsAskFault, ask_reason, missing_list_reason, refusal_reason};
 ghost use Rattle.archive_desk.specs.Holding.{AnswersFromStoreTables};
-ghost use Rattle.archive_cache.specs.Coherence.{IsCacheCoherent, AreWithheldCoherent, KeepsCacheCoherent};
-ghost use Rattle.archive_cache.specs.Views.{IsCacheBounded};
+ghost use Rattle.archive_cache.specs.Coherence.{IsCacheCoherent, AreWithheldCoherent, ChangesOnlyWithheld, KeepsCacheCoherent};
 
 use crate::cache::Cache;
 use archive_desk::{DeskError, find_message_facts, find_row, resolve_reader};
@@ -39,6 +38,7 @@ pub fn find_message<'p, S: Alter>(
     ensures keeps { KeepsCacheCoherent S.Store store.old store.new ask.entry.now.rules ask.entry.now.day kept.old kept.new }
     ensures ends { EndsDeskQuestion S.Store store.old store.new IsAskFault result
         (λ a. IsMessageUnreadable a ask.entry.now key.now ⊎ IsReaderUnreadable a ask.entry.now) }
+    ensures writes_nothing { WritesNothing S.Store store.old store.new }
 {
     let reader = match resolve_reader(store, ask) {
         Ok(reader) => reader,
@@ -83,10 +83,10 @@ fn judge_message<'p, S: Alter>(
         (message_of a ask.entry.now.list key.now)
         × (AreWithheldCoherent a kept.old.withheld → AreWithheldCoherent a kept.new.withheld)) }
     ensures same { IfErr result (λ _. kept.new ≡ kept.old) }
-    ensures rest { kept.new ≡ record kept.old { withheld = kept.new.withheld } }
-    ensures bounded { IsCacheBounded kept.old → IsCacheBounded kept.new }
+    ensures rest { ChangesOnlyWithheld kept.old kept.new }
     ensures ends { EndsDeskCall S.Store store.old store.new IsAskFault result
         (λ a. IsMessageUnreadable a ask.entry.now key.now) }
+    ensures writes_nothing { WritesNothing S.Store store.old store.new }
 {
     if asks_author(ask, reader) || kept.find_line(ask.list, reader, key).is_some() {
         return read_message(store, alloc, ask, reader, key);
@@ -121,6 +121,7 @@ fn read_message<'p, S: Alter>(
         (message_of a ask.entry.now.list key.now)) }
     ensures ends { EndsDeskCall S.Store store.old store.new IsAskFault result
         (λ a. IsMessageUnreadable a ask.entry.now key.now) }
+    ensures writes_nothing { WritesNothing S.Store store.old store.new }
 {
     let held = match find_row(store, ask, key) {
         Ok(held) => held,

@@ -6,7 +6,7 @@ ghost use Rattle.archive_cache.specs.Sending.{EndsMboxOfLines, LooksUpMessage, I
 
 use archive_desk::{DeskError, ExportStop};
 use archive_results::Line;
-use archive_store::{Message, Store, StoreFault};
+use archive_store::{Message, Store};
 use mbox_core::device::{Sink, write_bytes};
 use mbox_core::{write_item, written_len};
 use sqlite::Alter;
@@ -104,7 +104,7 @@ fn write_line<S: Alter, W: Sink>(
     }
 }
 
-/// The message of a line. `None` where the list does not hold it, or is not there.
+/// The message of a line. `None` where the list does not hold it.
 fn find_line<S: Alter>(
     store: &mut Store<S>,
     list: &str,
@@ -114,11 +114,8 @@ fn find_line<S: Alter>(
     ensures fault { IfErr result IsMemoryOrDatabaseFault }
     ensures ends { EndsMboxOfLines S.Store store.old store.new list.now (λ fault. fault) result }
 {
-    match store.row(list, &line.key) {
+    match store.find(list, &line.key) {
         Ok(found) => Ok(found),
-        Err(fault) => match fault {
-            StoreFault::NoList => Ok(None),
-            _ => Err(DeskError::from(fault)),
-        },
+        Err(fault) => Err(DeskError::from(fault)),
     }
 }

@@ -15,7 +15,7 @@ loop-line-preserved g c =
     let upto : take (i + 1) lines ≡ take i lines ++ line ∷ [] = take_more lines i line c.loop-line-test.true ∙ ap (λ x. take i lines ++ x ∷ []) (sym is) in (
       subst (λ xs. LinesSoFar g.S.Store c.args.list.now c.args.store.now c.write_line.new.store xs before after c.args.count.now c.write_line.new.count) (sym upto)
           (lines_more g.S.Store c.args.list.now c.args.store.now c.loop-line.store c.write_line.new.store before (g.W.Sink.told c.loop-line.out) c.args.count.now
-          c.loop-line.count (take i lines) so_far.0 line c.in-Ok.ensures.ends.remains_open after c.write_line.new.count c.in-Ok.ensures.ends.refusals_counted.0
+          c.loop-line.count (take i lines) so_far.0 line c.in-Ok.ensures.ends.remains_open after c.write_line.new.count c.in-Ok.ensures.ends.writes_nothing c.in-Ok.ensures.ends.refusals_counted.0
           c.in-Ok.ensures.more c.in-Ok.ensures.written),
       c.in-Ok.ensures.writer.no_failure_if_ok ∙ so_far.1,
       omega (arith, c.in-Ok.ensures.more.2),
