@@ -4,8 +4,7 @@ use Rattle.std.specs.Prelude.{option_map, if◌then◌else◌}
 use Rattle.std.specs.Option.{option_map_or}
 use Rattle.std.specs.Fmt.{digits}
 use Rattle.archive_model.specs.Records.{Archive}
-use Rattle.archive_model.specs.Questions.{has_list, has_person, list_refusal}
-use Rattle.archive_model.specs.Commands.{no_list as unknown_list}
+use Rattle.archive_model.specs.Questions.{has_list, has_person}
 use Rattle.archive_results.specs.Access.{Ask, no_list, no_person}
 use Rattle.archive_desk.specs.Exporting.{HasWrittenBytes}
 use Rattle.archive_desk.specs.Faults.{RefusalReason, refused, ask_reason}
@@ -23,10 +22,6 @@ listed_by false unknown is = absurd (cc)
 
 pub on_listed : (a : Archive) (ask : Ask) (made : Reply) → ask_reason a ask ≡ None → reply_if_list_exists a ask.list made ≡ made
 on_listed a ask made is = ap (λ b. cond b made not_found)
-    (listed_by (has_list a ask.list) (option_map_or (λ person. not (has_person a person)) ask.reader false) is)
-
-pub list_there : (a : Archive) (ask : Ask) → ask_reason a ask ≡ None → list_refusal a ask.list ≡ None
-list_there a ask is = ap (λ b. cond (not b) (Some unknown_list) None)
     (listed_by (has_list a ask.list) (option_map_or (λ person. not (has_person a person)) ask.reader false) is)
 
 unlisted_by : (listed unknown : Bool) → refusal_by listed unknown ≡ Some (refused no_list) → listed ≡ false

@@ -34,7 +34,7 @@ use Rattle.archive_pages.specs.Replies.{IsReplyOr503, Reply, SendsReply, mbox_re
 use Rattle.archive_pages.specs.Serving.{IsTrueOfEveryArchive, SendsFromArchive}
 use Rattle.archive_pages.specs.declared.faults.ServeFault.{ServeFault}
 use Rattle.archive_pages.specs.declared.faults.ServeFault.TheVariants.{Write, Broken}
-use Rattle.archive_pages.proofs.DeskLemmas.{list_there, mbox_head, mbox_head_is, on_listed, on_unlisted}
+use Rattle.archive_pages.proofs.DeskLemmas.{mbox_head, mbox_head_is, on_listed, on_unlisted}
 use Rattle.archive_pages.proofs.ServingLemmas.{found_sent, sends_as, sent_after}
 
 -- ---- the lines of a list
@@ -143,7 +143,7 @@ module _ {S : Type 0} (g : Ghosts S) (ask : Ask) (kept later : CacheState) (old 
         let same : outline ≡ index_for_ask a ask whole = some_is outline (index_for_ask a ask whole) (there ∙ at.1) in
         is
         ∙ ap (λ (o : ListIndex). mbox_reply (mbox_text_of_lines a ask.list o.lines)) same
-        ∙ ap mbox_reply (view_text ask.list a (is_shown ask (reader_facts a ask)) know.1 (list_there a ask at.0))
+        ∙ ap mbox_reply (view_text ask.list a (is_shown ask (reader_facts a ask)) know.1)
         ∙ sym (on_listed a ask (mbox_reply (export_text (shown_view a ask))) at.0)
 
     -- an archive without lists has no outline

@@ -1,6 +1,7 @@
 //! Answering a request: from the bytes of its head to the bytes of the reply.
 ghost use Rattle.std.specs.Prelude.{◌≡◌, ◌++◌, ⊤, ℕ, List, OnOk, IfErr, IfSome};
 ghost use Rattle.httparse.specs.Grammar.{HasNoRequest};
+ghost use Rattle.archive_store.specs.Told.{WritesNothing};
 ghost use Rattle.archive_desk.specs.Holding.{RelatesTableArchives};
 ghost use Rattle.archive_requests.specs.Reading.{IsRequestReadOfInput};
 ghost use Rattle.archive_pages.specs.Answered.{AnswersRequestFromStore, IfAnsweredOrUnread, IsAnsweredFromStore, Sends404IfUnrouted, ReadsRequestInput};
@@ -44,6 +45,7 @@ fn answer_read<T: Threader, S: Alter, W: Sink>(
     ensures stays { StoreKeepsArchive S.Store store.old store.new result }
     ensures ends { EndsReplyFromPages S.Store W.Sink store.old store.new output.old output.new result
         (IsReadRequestDataUnreadable pages.old.policy.now pages.old.day read.now) pages.old pages.new }
+    ensures writes_nothing { WritesNothing S.Store store.old store.new }
 {
     match read {
         RequestRead::Whole(request) => answer_request(store, pages, request, output),
@@ -104,12 +106,7 @@ pub fn answer<T: Threader, S: Alter, R: Source, W: Sink>(
         ((given : List ℕ) × (R.told input.new ≡ R.told input.old ++ given) × HasNoRequest given
         × (W.told output.new ≡ W.told output.old)
         × RelatesTableArchives S.Store store.old store.new (λ a b. b ≡ a)) }
-    ensures stays { StoreKeepsArchive S.Store store.old store.new result }
-    ensures quiet { OnOk result ((R.failures input.new ≡ R.failures input.old)
-        × (W.failures output.new ≡ W.failures output.old)) }
-    ensures cause { IfErr result (λ fault. HasServeFaultCause (W.told output.old) (W.told output.new)
-        (R.failures input.old) (R.failures input.new)
-        (W.failures output.old) (W.failures output.new) fault) }
+    ensures ends { EndsAnswer S.Store R.Source W.Sink store.old store.new input.old input.new output.old output.new result }
     ensures caused { ServesOr503 S.Store store.old store.new result (IsInputDataUnreadable
         (R.told input.old) (R.told input.new) policy.now day) }
 {

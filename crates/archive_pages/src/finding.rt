@@ -1,6 +1,7 @@
 //! What is asked of the store and of the desk.
 ghost use Rattle.std.specs.Prelude.{◌≡◌, option_map, string_bytes};
 ghost use Rattle.archive_model.specs.Questions.{person_of_token};
+ghost use Rattle.archive_store.specs.Told.{WritesNothing};
 ghost use Rattle.archive_desk.specs.Readable.{AreListsUnreadable, IsTokenHolderUnreadable};
 ghost use Rattle.archive_pages.specs.Answers.{lists_reply, reply_for_message};
 ghost use Rattle.archive_cache.specs.Coherence.{KeepsCacheCoherent};
@@ -26,6 +27,7 @@ pub(crate) fn find_person<S: Alter>(
         (λ a name. option_map string_bytes name ≡ person_of_token a token.now) }
     ensures caused { FindsOrHasCause S.Store store.old store.new result
         (λ a. IsTokenHolderUnreadable a token.now) }
+    ensures writes_nothing { WritesNothing S.Store store.old store.new }
 {
     match store.person_of_token(token) {
         Ok(name) => Ok(name),
@@ -40,6 +42,7 @@ pub(crate) fn find_lists<S: Alter>(
 ) -> Result<Reply<'static>, Unavailable>
     ensures found { FindsReply S.Store store.old store.new result lists_reply }
     ensures why { EndsFindingReply S.Store store.old store.new result AreListsUnreadable }
+    ensures writes_nothing { WritesNothing S.Store store.old store.new }
 {
     let names = match store.lists(alloc) {
         Ok(names) => names,
@@ -67,6 +70,7 @@ pub(crate) fn find_message<'p, S: Alter>(
     ensures keeps { KeepsCacheCoherent S.Store store.old store.new ask.entry.now.rules ask.entry.now.day kept.old kept.new }
     ensures why { EndsFindingReply S.Store store.old store.new result
         (IsUnreadableOrReaderUnknown (IsMessageDataUnreadable ask.entry.now key.now) ask.entry.now.reader) }
+    ensures writes_nothing { WritesNothing S.Store store.old store.new }
 {
     let Some(key) = Key::read(key) else {
         return Ok(Reply::Failed(Failure::NotFound));

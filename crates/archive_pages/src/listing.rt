@@ -2,6 +2,7 @@
 ghost use Rattle.std.specs.Prelude.{◌<◌, IfOk, IfSome, length};
 ghost use Rattle.percent_encoding.specs.Percent.{percent_decode};
 ghost use Rattle.archive_requests.specs.Routes.{author, month, thread, threads};
+ghost use Rattle.archive_store.specs.Told.{WritesNothing};
 ghost use Rattle.archive_cache.specs.Coherence.{KeepsCacheCoherent};
 ghost use Rattle.archive_cache.specs.Parts.{model_part};
 ghost use Rattle.archive_pages.specs.Answers.{list_reply};
@@ -36,6 +37,7 @@ pub(crate) fn find_place<T: Threader, S: Alter>(
     ensures keeps { KeepsCacheCoherent S.Store store.old store.new ask.now.rules ask.now.day kept.old kept.new }
     ensures caused { FindsOrHasCause S.Store store.old store.new result
         (IsUnreadableOrReaderUnknown (IsListDataUnreadable ask.now) ask.now.reader) }
+    ensures writes_nothing { WritesNothing S.Store store.old store.new }
 {
     match get_or_build_index(store, kept, alloc, ask, part, threader) {
         Ok(place) => Ok(Some(place)),
@@ -60,6 +62,7 @@ pub(crate) fn find_month<T: Threader, S: Alter>(
     ensures keeps { KeepsCacheCoherent S.Store store.old store.new ask.now.rules ask.now.day kept.old kept.new }
     ensures why { EndsFindingReply S.Store store.old store.new result
         (IsUnreadableOrReaderUnknown (IsListDataUnreadable ask.now) ask.now.reader) }
+    ensures writes_nothing { WritesNothing S.Store store.old store.new }
 {
     let Some(asked) = Month::read(text.as_bytes()) else {
         return Ok(Reply::Failed(Failure::NotFound));
@@ -94,6 +97,7 @@ pub(crate) fn find_author<T: Threader, S: Alter>(
     ensures keeps { KeepsCacheCoherent S.Store store.old store.new ask.now.rules ask.now.day kept.old kept.new }
     ensures why { EndsFindingReply S.Store store.old store.new result
         (IsUnreadableOrReaderUnknown (IsListDataUnreadable ask.now) ask.now.reader) }
+    ensures writes_nothing { WritesNothing S.Store store.old store.new }
 {
     let key = match percent_decoded(alloc, text) {
         Ok(key) => key,
@@ -130,6 +134,7 @@ pub(crate) fn find_threads<T: Threader, S: Alter>(
     ensures keeps { KeepsCacheCoherent S.Store store.old store.new ask.now.rules ask.now.day kept.old kept.new }
     ensures why { EndsFindingReply S.Store store.old store.new result
         (IsUnreadableOrReaderUnknown (IsListDataUnreadable ask.now) ask.now.reader) }
+    ensures writes_nothing { WritesNothing S.Store store.old store.new }
 {
     let Some(place) = find_place(store, kept, alloc, ask, &ViewPart::Whole, threader)? else {
         return Ok(Reply::Failed(Failure::NotFound));
@@ -160,6 +165,7 @@ pub(crate) fn find_thread<T: Threader, S: Alter>(
     ensures keeps { KeepsCacheCoherent S.Store store.old store.new ask.now.rules ask.now.day kept.old kept.new }
     ensures why { EndsFindingReply S.Store store.old store.new result
         (IsUnreadableOrReaderUnknown (IsListDataUnreadable ask.now) ask.now.reader) }
+    ensures writes_nothing { WritesNothing S.Store store.old store.new }
 {
     let Some(key) = Key::read(key) else {
         return Ok(Reply::Failed(Failure::NotFound));

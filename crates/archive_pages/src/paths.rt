@@ -4,6 +4,7 @@ ghost use Rattle.std.specs.Option.{option_map_or};
 ghost use Rattle.archive_requests.specs.Asked.{model_request};
 ghost use Rattle.archive_requests.specs.Routes.{route_of};
 ghost use Rattle.archive_requests.specs.Routing.{model_route};
+ghost use Rattle.archive_store.specs.Told.{WritesNothing};
 ghost use Rattle.archive_results.specs.Access.{reader_name};
 ghost use Rattle.archive_pages.specs.Answers.{pathless_reply, path_reply, reader_of, request_reply, unrouted_reply};
 ghost use Rattle.archive_pages.specs.Calls.{IsPagesCacheCoherent, EndsReplyFromPages, ServesReplyIf, WritesReply, WritesReplyIfWanted};
@@ -59,6 +60,7 @@ fn answer_path<T: Threader, S: Alter, W: Sink>(
         (IsUnreadableOrReaderUnknown (IsPathDataUnreadable pages.old.policy.now pages.old.day path.now
         (reader_name reader.entry)) (reader_name reader.entry))
         pages.old pages.new }
+    ensures writes_nothing { WritesNothing S.Store store.old store.new }
 {
     match find_route(pages.alloc, &pages.routes, path) {
         Ok(Some(route)) => answer_route(store, pages, reader, &route, output),
@@ -85,6 +87,7 @@ fn answer_holder<T: Threader, S: Alter, W: Sink>(
     ensures ends { EndsReplyFromPages S.Store W.Sink store.old store.new output.old output.new result
         (IsTokenDataUnreadable pages.old.policy.now pages.old.day token.now path.now)
         pages.old pages.new }
+    ensures writes_nothing { WritesNothing S.Store store.old store.new }
 {
     match find_person(store, token) {
         Ok(Some(name)) => answer_path(store, pages, Reader::Person(name.as_str()), path, output),
@@ -111,6 +114,7 @@ pub(crate) fn answer_request<T: Threader, S: Alter, W: Sink>(
     ensures ends { EndsReplyFromPages S.Store W.Sink store.old store.new output.old output.new result
         (IsRequestDataUnreadable pages.old.policy.now pages.old.day (model_request request.now))
         pages.old pages.new }
+    ensures writes_nothing { WritesNothing S.Store store.old store.new }
 {
     match request {
         Request::Bad => write_failure(output, Failure::BadRequest),

@@ -3,7 +3,7 @@ ghost use Rattle.std.specs.Prelude.{◌≡◌, ◌≤◌, MatchResult};
 ghost use Rattle.archive_requests.specs.Routes.{mbox};
 ghost use Rattle.archive_requests.specs.Routing.{model_route};
 ghost use Rattle.archive_results.specs.Access.{reader_name};
-ghost use Rattle.archive_store.specs.Told.{StaysOpenUnlessDiskFails};
+ghost use Rattle.archive_store.specs.Told.{StaysOpenUnlessDiskFails, WritesNothing};
 ghost use Rattle.archive_cache.specs.Coherence.{KeepsCacheCoherent};
 ghost use Rattle.archive_cache.specs.Sending.{mbox_text_of_lines};
 ghost use Rattle.archive_pages.specs.Answers.{ask_of_reader, list_reply, reply_unless_mbox, route_reply};
@@ -64,6 +64,7 @@ fn find_page<'a: 'p, 'p, T: Threader, S: Alter>(
         (IsRouteDataUnreadable (ask_of_reader pages.old.policy.now pages.old.day (reader_name reader.entry))
         (model_route route.now)) (reader_name reader.entry)) }
     ensures keeps { ChangesOnlyPagesCache S.Store store.old store.new pages.old pages.new }
+    ensures writes_nothing { WritesNothing S.Store store.old store.new }
 {
     let alloc = pages.alloc;
     let policy = pages.policy;
@@ -133,6 +134,7 @@ fn answer_mbox<T: Threader, S: Alter, W: Sink>(
     ensures caused { ServesOr503 S.Store store.old store.new result
         (IsUnreadableOrReaderUnknown (IsListDataUnreadable ask.now) ask.now.reader) }
     ensures keeps { KeepsCacheCoherent S.Store store.old store.new ask.now.rules ask.now.day kept.old kept.new }
+    ensures writes_nothing { WritesNothing S.Store store.old store.new }
 {
     let place = match find_place(store, kept, alloc, ask, &ViewPart::Whole, threader) {
         Ok(Some(place)) => place,
@@ -159,6 +161,7 @@ fn write_mbox<S: Alter, W: Sink>(
     ensures ends { EndsReply W.Sink output.old output.new result }
     ensures caused { ServesOr503 S.Store store.old store.new result
         (IsUnreadableOrReaderUnknown (IsListDataUnreadable ask.now) ask.now.reader) }
+    ensures writes_nothing { WritesNothing S.Store store.old store.new }
 {
     let stop = match export_lines(store, ask.list, lines, MBOX_HEAD, output) {
         Ok(_) => return Ok(StatusCode::OK),
@@ -189,6 +192,7 @@ pub(crate) fn answer_route<T: Threader, S: Alter, W: Sink>(
         (ask_of_reader pages.old.policy.now pages.old.day (reader_name reader.entry))
         (model_route route.now)) (reader_name reader.entry))
         pages.old pages.new }
+    ensures writes_nothing { WritesNothing S.Store store.old store.new }
 {
     let alloc = pages.alloc;
     match route {

@@ -21,6 +21,7 @@ returns-clause-answered g c = λ of.
 pub returns-clause-ends : goal.returns-clause-ends
 returns-clause-ends g c = record {
   stays = c.answer_read.ensures.stays;
+  writes_nothing = c.answer_read.ensures.writes_nothing;
   quiet = outcome_quiet c.answer_read.result _ _ c.in-Ok.ensures.quiet c.answer_read.ensures.ends.ends_reply.no_failure_if_ok;
   cause = outcome_cause c.answer_read.result (g.W.Sink.told c.args.output.now) (g.W.Sink.told c.answer_read.new.output) (g.R.Source.failures c.args.input.now)
       (g.R.Source.failures c.read_request.new.input) (g.W.Sink.failures c.args.output.now) (g.W.Sink.failures c.answer_read.new.output)

@@ -52,6 +52,7 @@ returns-in_default g c =
       sent = lines_broken g.S.Store old new ask.list lines before after lasts stop.written stop.fault
           (subst (λ l. Wrote g.S.Store old new l lines before after lasts (Err stop)) is c.in-Err.ensures.written) c.if-written-gt0.true;
       lasts = lasts;
+      writes_nothing = c.in-Err.ensures.ends.writes_nothing;
       ends = record { no_failure_if_ok = tt; cause = (why.0, c.if-written-gt0.true, why.1) };
       caused = (
         c.in-Err.ensures.ends.refusals_counted.0,
@@ -83,6 +84,7 @@ returns-in_default-2 g c =
       sent = lines_unsent g.S.Store old new ask.list lines before after lasts stop.written stop.fault
           (subst (λ l. Wrote g.S.Store old new l lines before after lasts (Err stop)) is c.in-Err.ensures.written) last result same c.write_failure.ensures.sent;
       lasts = lasts;
+      writes_nothing = c.in-Err.ensures.ends.writes_nothing;
       ends = record {
         no_failure_if_ok = subst (λ n. OnOk result (more ≡ n)) why.0 c.write_failure.ensures.ends.no_failure_if_ok;
         cause = subst (λ m. IfErr result (λ f. HasReplyFaultCause m last failed more f)) same

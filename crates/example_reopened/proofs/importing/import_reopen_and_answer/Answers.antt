@@ -12,7 +12,7 @@ returns-clause-answered g c =
     (λ archive. AnswersRequestFromArchive archive c.args.policy.now c.args.day (g.R.Source.told c.args.input.now) (g.R.Source.told c.answer-answered.new.input)
     (g.R.Source.ends c.args.input.now) (g.R.Source.ends c.answer-answered.new.input) (g.W.Sink.told c.args.output.now)
     (g.W.Sink.told c.answer-answered.new.output) c.answer-answered.result)
-    c.in-Ok.ensures.imported c.answer-answered.ensures.stays.archive_is_same
+    c.in-Ok.ensures.imported c.answer-answered.ensures.ends.stays.archive_is_same
     (λ returned held. answers_first over_files c.in-Ok.done.0 c.answer-answered.new.store returned held c.args.policy.now c.args.day c.answer-answered.result
     (g.R.Source.told c.args.input.now) (g.R.Source.told c.answer-answered.new.input) (g.R.Source.ends c.args.input.now)
     (g.R.Source.ends c.answer-answered.new.input) (g.W.Sink.told c.args.output.now) (g.W.Sink.told c.answer-answered.new.output)
@@ -21,4 +21,4 @@ returns-clause-answered g c =
 pub returns-clause-stays : goal.returns-clause-stays
 returns-clause-stays g c =
     leads_still c.args.files c.in-Ok.done.0 c.answer-answered.new.store (λ a b. IsImported c.args.list.now c.args.mbox.now a b c.in-Ok.done.1)
-    c.in-Ok.ensures.imported c.answer-answered.ensures.stays.archive_is_same
+    c.in-Ok.ensures.imported c.answer-answered.ensures.ends.stays.archive_is_same

@@ -8,7 +8,7 @@ use Rattle.example_reopened.proofs.opening.open_and_answer.Goals as goal
 
 pub returns-clause-answered : goal.returns-clause-answered
 returns-clause-answered g c =
-    serves_held_archive c.args.files c.in_ok-store.store c.answer-answered.new.store c.in_ok-store.ensures.opened c.answer-answered.ensures.stays.archive_is_same.0
+    serves_held_archive c.args.files c.in_ok-store.store c.answer-answered.new.store c.in_ok-store.ensures.opened c.answer-answered.ensures.ends.stays.archive_is_same.0
     (λ archive. AnswersRequestFromArchive archive c.args.policy.now c.args.day (g.R.Source.told c.args.peer.now.input) (g.R.Source.told c.answer-answered.new.input)
     (g.R.Source.ends c.args.peer.now.input) (g.R.Source.ends c.answer-answered.new.input) (g.W.Sink.told c.args.peer.now.output)
     (g.W.Sink.told c.answer-answered.new.output) c.answer-answered.result)
@@ -28,10 +28,10 @@ returns-clause-commanded g c =
 pub returns-clause-ends : goal.returns-clause-ends
 returns-clause-ends g c = record {
   archive_is_kept = leads_still c.args.files c.in_ok-store.store c.answer-answered.new.store (λ a b. b ≡ a)
-      (leads_to c.args.files c.in_ok-store.store c.in_ok-store.ensures.opened) c.answer-answered.ensures.stays.archive_is_same;
-  no_failure_if_ok = c.answer-answered.ensures.quiet;
-  cause = c.answer-answered.ensures.cause;
-  fault_has_cause = caused_since c.args.files c.in_ok-store.store c.answer-answered.new.store c.in_ok-store.ensures.opened c.answer-answered.ensures.stays.archive_is_same.0
+      (leads_to c.args.files c.in_ok-store.store c.in_ok-store.ensures.opened) c.answer-answered.ensures.ends.stays.archive_is_same;
+  no_failure_if_ok = c.answer-answered.ensures.ends.quiet;
+  cause = c.answer-answered.ensures.ends.cause;
+  fault_has_cause = caused_since c.args.files c.in_ok-store.store c.answer-answered.new.store c.in_ok-store.ensures.opened c.answer-answered.ensures.ends.stays.archive_is_same.0
       c.answer-answered.result (g.R.Source.told c.args.peer.now.input) (g.R.Source.told c.answer-answered.new.input) c.args.policy.now c.args.day
       c.in_ok-store.ensures.unlimited c.answer-answered.ensures.caused;
 }
