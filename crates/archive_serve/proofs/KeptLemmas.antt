@@ -7,7 +7,7 @@ use Rattle.sqlite.specs.Held.{state}
 use Rattle.policy_core.specs.Rules.{Rule}
 use Rattle.archive_model.specs.Records.{Archive}
 use Rattle.archive_store.specs.Held.{store_connection}
-use Rattle.archive_store.specs.Told.{StoreHasCleanDisk, HoldsTables, IsOpen, archive_in}
+use Rattle.archive_store.specs.Told.{StoreHasCleanDisk, HoldsTables, IsOpen, WritesNothing, archive_in}
 use Rattle.archive_store.specs.declared.store.Store.{Store}
 use Rattle.archive_cache.specs.Coherence.{IsCacheCoherent, KeepsCacheCoherent}
 use Rattle.archive_pages.specs.Answered.{AnswersRequestFromStore}
@@ -50,18 +50,18 @@ module _ {S T : Type 0} (g : Ghosts S) (pages later : Pages T) (old new : Store 
   pub answers_kept : (outcome : ConnectionResult) → outcome ≡ connection_result_of result
       → (IsTrueOfRememberedArchive g old new (IsPagesCacheCoherent pages)
       → AnswersRequestFromStore g old new pages.policy.now pages.day before.read after.read before.ends after.ends before.written after.written result)
-      → ChangesOnlyPagesCache g old new pages later → StoreKeepsArchive g old new result
+      → ChangesOnlyPagesCache g old new pages later → StoreKeepsArchive g old new result → WritesNothing g old new
       → OnOk result ((after.read_failures ≡ before.read_failures) × (after.write_failures ≡ before.write_failures))
       → IfErr result (λ fault. HasServeFaultCause before.written after.written before.read_failures after.read_failures before.write_failures after.write_failures fault)
       → ServesOr503 g old new result (IsInputDataUnreadable before.read after.read pages.policy.now pages.day) → IfSome pages.routes (λ _. Answers404IfUnrouted before after result)
       → AnswersFromCache g (record { rules = pages.policy.now; day = pages.day; routes = is_some pages.routes; kept = pages.kept })
       (record { rules = later.policy.now; day = later.day; routes = is_some later.routes; kept = later.kept })
       old new before after outcome
-  answers_kept outcome is answered keeps stays quiet cause caused unrouted = record {
+  answers_kept outcome is answered keeps stays writes_nothing quiet cause caused unrouted = record {
     result = result;
     is = is;
     answered = answered;
-    ends = record { archive_is_kept = stays; no_failure_if_ok = quiet; cause = cause; fault_has_cause = caused };
+    ends = record { archive_is_kept = stays; writes_nothing = writes_nothing; no_failure_if_ok = quiet; cause = cause; fault_has_cause = caused };
     unrouted = with_routes pages.routes unrouted;
     same_rules = ap (λ (p : Pages T). p.policy.now) keeps.only_cache_differs;
     same_day = ap (λ (p : Pages T). p.day) keeps.only_cache_differs;

@@ -1,3 +1,4 @@
 mod SteadyLemmas
 pub mod PeerLemmas
 mod KeptLemmas
+pub mod QuietLemmas

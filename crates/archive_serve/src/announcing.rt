@@ -1,5 +1,6 @@
 //! Saying where the archive listens, and then serving it.
 ghost use Rattle.std.specs.Prelude.{◌≡◌, ◌≢◌, ◌≤◌, ◌<◌, Err, IfErr, OnOk};
+ghost use Rattle.archive_store.specs.Told.{WritesNothing};
 ghost use Rattle.archive_listen.specs.Connections.{error_stream_state};
 ghost use Rattle.archive_listen.specs.Serving.{ServesAllConnections, ServesFewerConnections, server_state};
 ghost use Rattle.archive_serve.specs.Announced.{WritesListeningLine};
@@ -67,6 +68,7 @@ pub fn serve<T: Threader, S: Alter, L: Listener, O: BufferedSink, E: Sink>(
         × (stop ≡ ServingError.Write → (store.new ≡ store.old) × (O.failures output.old < O.failures output.new))
         × (stop ≡ ServingError.Memory → OnlyCountsRefusal store.old store.new × (output.new ≡ output.old))) }
     ensures failures { E.failures faults.old ≤ E.failures faults.new }
+    ensures writes_nothing { WritesNothing S.Store store.old store.new }
 {
     let mut service = PageService::new(terms, store)?;
     announce(port, output)?;

@@ -1,5 +1,6 @@
 //! Answering connections out of a store.
 ghost use Rattle.std.specs.Prelude.{◌≡◌, ◌≢◌, ◌≤◌, Err, IfErr, OnOk};
+ghost use Rattle.archive_store.specs.Told.{WritesNothing};
 ghost use Rattle.archive_listen.specs.Connections.{error_stream_state};
 ghost use Rattle.archive_listen.specs.Serving.{ServesAllConnections, ServesFewerConnections, server_state};
 ghost use Rattle.archive_serve.specs.Pages.{OnlyCountsRefusal};
@@ -35,6 +36,7 @@ pub fn serve_on<T: Threader, S: Alter, L: Listener, E: Sink>(
     ensures untouched { IfErr result (λ stop. stop ≢ ServingError.Listen → (stop ≡ ServingError.Memory)
         × OnlyCountsRefusal store.old store.new × (listener.new ≡ listener.old) × (faults.new ≡ faults.old)) }
     ensures failures { E.failures faults.old ≤ E.failures faults.new }
+    ensures writes_nothing { WritesNothing S.Store store.old store.new }
 {
     let mut service = PageService::new(terms, store)?;
     match serve_each(&mut service, store, listener, count, faults) {

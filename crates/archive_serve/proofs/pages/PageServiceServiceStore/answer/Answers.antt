@@ -19,5 +19,5 @@ returns g c =
     (g.W.Sink.failures c.args.output.now))
     (connection_transcript (g.R.Source.told answer.new.input) (g.R.Source.ends answer.new.input) (g.R.Source.failures answer.new.input) (g.W.Sink.told answer.new.output)
     (g.W.Sink.failures answer.new.output))
-    answer.result c.match-answered.result ends answer.ensures.answered answer.ensures.keeps answer.ensures.ends.stays answer.ensures.ends.quiet answer.ensures.ends.cause
-    answer.ensures.caused answer.ensures.unrouted)
+    answer.result c.match-answered.result ends answer.ensures.answered answer.ensures.keeps answer.ensures.ends.stays answer.ensures.ends.writes_nothing answer.ensures.ends.quiet
+    answer.ensures.ends.cause answer.ensures.caused answer.ensures.unrouted)
