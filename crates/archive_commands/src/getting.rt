@@ -1,4 +1,5 @@
 //! One message, asked for by its list and its key.
+ghost use Rattle.archive_store.specs.Told.{WritesNothing};
 ghost use Rattle.archive_commands.specs.Working.{EndsGet, GetsMessage};
 
 use archive_desk::{DeskError, message};
@@ -28,6 +29,7 @@ pub fn get<'p, S: Alter>(
 ) -> Result<Vec<u8>, GetError<'p>>
     ensures got { GetsMessage S.Store store.old store.new ask.entry.now key.now result }
     ensures ends { EndsGet S.Store store.old store.new ask.entry.now key.now result }
+    ensures writes_nothing { WritesNothing S.Store store.old store.new }
 {
     let Some(key) = Key::read(key) else {
         return Err(GetError::NoMessage);

@@ -4,7 +4,7 @@ use Rattle.sqlite.specs.Store.{Ghosts}
 use Rattle.byte_device.specs.declared.devices.Source.{Ghosts as Reads}
 use Rattle.archive_store.specs.Crashes.{CrashSteps}
 use Rattle.archive_store.specs.Held.{store_connection}
-use Rattle.archive_store.specs.Told.{archive_in}
+use Rattle.archive_store.specs.Told.{WritesNothing, archive_in}
 use Rattle.archive_store.specs.declared.store.Store.{Store as Open}
 use Rattle.archive_desk.specs.declared.importing.Report.{Report}
 use Rattle.archive_desk.specs.declared.importing.ImportStop.{ImportStop}
@@ -21,6 +21,10 @@ use Rattle.archive_run.specs.declared.world.Environment.{Environment}
 module _ {S : Type 0} (g : Ghosts S) where
   pub crash_leaves_same : (store : Open S) → CrashLeavesSameArchive g store store
   crash_leaves_same store = λ clean rests safe db may. (archive_in g store, refl, safe db may)
+
+  -- a question
+  pub crash_of_question : (old new : Open S) → WritesNothing g old new → CrashLeavesSameArchive g old new
+  crash_of_question old new quiet = λ clean rests safe db may. (archive_in g old, refl, safe db (quiet db (clean, may)).1)
 
   pub crash_of_command : (old new : Open S) (command : StoreCommand) → CrashSteps g (store_connection old) (store_connection new) (λ a. command_outcome a command)
       → CrashCarriesOutCommand g old new command
@@ -55,10 +59,10 @@ module _ {Y S F D C P T R O E I L K A B M : Type 0} (dev : DeviceContracts S F I
   crash_of_unread new same (Sift order) = tt
   crash_of_unread new same (Table order) = inl same
   crash_of_unread new same (Import order) = inl same
-  crash_of_unread new same (Get order) = tt
-  crash_of_unread new same (Export order) = tt
-  crash_of_unread new same (Check order) = tt
-  crash_of_unread new same (Serve order) = tt
+  crash_of_unread new same (Get order) = inl same
+  crash_of_unread new same (Export order) = inl same
+  crash_of_unread new same (Check order) = inl same
+  crash_of_unread new same (Serve order) = inl same
 
   -- where a refusal was told, or not, behind the order
   pub crash_of_finished : (new : Environment Y S F D C P T R O E I L K A B M) (faults : E) (order : Order) → CrashRunsOrder dev old new order
@@ -66,7 +70,7 @@ module _ {Y S F D C P T R O E I L K A B M : Type 0} (dev : DeviceContracts S F I
   crash_of_finished new faults (Sift order) it = tt
   crash_of_finished new faults (Table order) it = it
   crash_of_finished new faults (Import order) it = it
-  crash_of_finished new faults (Get order) it = tt
-  crash_of_finished new faults (Export order) it = tt
-  crash_of_finished new faults (Check order) it = tt
-  crash_of_finished new faults (Serve order) it = tt
+  crash_of_finished new faults (Get order) it = it
+  crash_of_finished new faults (Export order) it = it
+  crash_of_finished new faults (Check order) it = it
+  crash_of_finished new faults (Serve order) it = it

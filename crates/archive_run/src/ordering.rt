@@ -3,7 +3,8 @@ ghost use Rattle.std.specs.Prelude.{◌≡◌, ◌++◌, decimal, true, IfErr, I
 ghost use Rattle.sift_run.specs.Running.{IsReadingDay, IsPolicyErrorCause, AreRulesOfPolicyFile};
 ghost use Rattle.sift_run.specs.Streams.{WritesAndFlushesOrFails, output_stream_state};
 ghost use Rattle.archive_run.specs.Crashing.{CrashCarriesOutCommand, CrashImportsFile};
-ghost use Rattle.archive_run.specs.Databases.{UsesDatabaseIfOpened};
+ghost use Rattle.archive_run.specs.Databases.{LeavesOrUsesDatabase, UsesDatabaseIfOpened};
+ghost use Rattle.archive_store.specs.Told.{WritesNothing};
 ghost use Rattle.archive_run.specs.Refusals.{IsCommandErrorWith};
 ghost use Rattle.archive_run.specs.Orders.{RunExportsListOnDay, RunGetsMessageOnDay, RunsCheck, RunsExport, RunsGet, RunsImport, RunsStoreCommand, ask_of_values};
 ghost use Rattle.archive_run.specs.Working.{WritesTextOrFails, report_line};
@@ -124,7 +125,9 @@ pub(crate) fn run_check<Y: Platform>(
     world: &mut Environment<Y>,
     order: &CheckArgs<'_>,
 ) -> Result<(), RunError>
-    ensures { RunsCheck world.old world.new Y.Output.Sink Y.Output.BufferedSink.own Y.Storage.Store Y.Databases.Databases order.now result }
+    ensures runs { RunsCheck world.old world.new Y.Output.Sink Y.Output.BufferedSink.own Y.Storage.Store Y.Databases.Databases order.now result }
+    ensures crash { UsesDatabaseIfOpened Y.Databases.Databases world.old.databases world.new.databases order.now.file
+        (WritesNothing Y.Storage.Store) }
 {
     match work_check(alloc, &mut world.databases, order) {
         Ok(()) => send(&mut world.output, b"ok\n"),
@@ -164,8 +167,10 @@ fn get_by<Y: Platform>(
     policy: &Policy,
     order: &GetArgs<'_>,
 ) -> Result<(), RunError>
-    ensures { RunGetsMessageOnDay world.old world.new Y.Output.Sink Y.Output.BufferedSink.own Y.Storage.Store Y.Databases.Databases
+    ensures runs { RunGetsMessageOnDay world.old world.new Y.Output.Sink Y.Output.BufferedSink.own Y.Storage.Store Y.Databases.Databases
         Y.Clock.DayClock order.now policy.now result }
+    ensures crash { LeavesOrUsesDatabase Y.Databases.Databases world.old.databases world.new.databases order.now.ask.file
+        (WritesNothing Y.Storage.Store) }
 {
     let Some(day) = asking_day(order.asked.day, &mut world.clock) else {
         return Err(RunError::Run(CommandError::Clock));
@@ -187,8 +192,10 @@ pub(crate) fn run_get<Y: Platform>(
     world: &mut Environment<Y>,
     order: &GetArgs<'_>,
 ) -> Result<(), RunError>
-    ensures { RunsGet world.old world.new Y.Output.Sink Y.Output.BufferedSink.own Y.Storage.Store Y.Databases.Databases
+    ensures runs { RunsGet world.old world.new Y.Output.Sink Y.Output.BufferedSink.own Y.Storage.Store Y.Databases.Databases
         Y.Clock.DayClock Y.Files.ReadFiles order.now result }
+    ensures crash { LeavesOrUsesDatabase Y.Databases.Databases world.old.databases world.new.databases order.now.ask.file
+        (WritesNothing Y.Storage.Store) }
 {
     let policy = named_policy(alloc, &world.files, order.asked.policy)?;
     get_by(alloc, world, &policy, order)
@@ -201,8 +208,10 @@ fn export_by<Y: Platform>(
     policy: &Policy,
     order: &ReaderArgs<'_>,
 ) -> Result<(), RunError>
-    ensures { RunExportsListOnDay world.old world.new Y.Output.Sink Y.Output.BufferedSink.own Y.Storage.Store Y.Databases.Databases
+    ensures runs { RunExportsListOnDay world.old world.new Y.Output.Sink Y.Output.BufferedSink.own Y.Storage.Store Y.Databases.Databases
         Y.Clock.DayClock order.now policy.now result }
+    ensures crash { LeavesOrUsesDatabase Y.Databases.Databases world.old.databases world.new.databases order.now.file
+        (WritesNothing Y.Storage.Store) }
 {
     let Some(day) = asking_day(order.day, &mut world.clock) else {
         return Err(RunError::Run(CommandError::Clock));
@@ -223,8 +232,10 @@ pub(crate) fn run_export<Y: Platform>(
     world: &mut Environment<Y>,
     order: &ReaderArgs<'_>,
 ) -> Result<(), RunError>
-    ensures { RunsExport world.old world.new Y.Output.Sink Y.Output.BufferedSink.own Y.Storage.Store Y.Databases.Databases
+    ensures runs { RunsExport world.old world.new Y.Output.Sink Y.Output.BufferedSink.own Y.Storage.Store Y.Databases.Databases
         Y.Clock.DayClock Y.Files.ReadFiles order.now result }
+    ensures crash { LeavesOrUsesDatabase Y.Databases.Databases world.old.databases world.new.databases order.now.file
+        (WritesNothing Y.Storage.Store) }
 {
     let policy = named_policy(alloc, &world.files, order.policy)?;
     export_by(alloc, world, &policy, order)

@@ -1,6 +1,8 @@
 //! Serving an archive: the policy is read, the day asked and the database opened once, and then connections are answered.
 ghost use Rattle.std.specs.Prelude.{◌≡◌, ◌≤◌, Ok, Err, MatchResult};
+ghost use Rattle.archive_store.specs.Told.{WritesNothing};
 ghost use Rattle.archive_listen.specs.declared.faults.ListenError.{ListenError};
+ghost use Rattle.archive_run.specs.Databases.{LeavesOrUsesDatabase};
 ghost use Rattle.archive_run.specs.Serving.{AnnouncesThenServesAll, RunsServe, RunServesDatabase, RefusesServing, ServesOpenStore, RunServesDatabaseOnDay, max_cache_bytes, server_output};
 
 use crate::databases::Databases;
@@ -79,6 +81,7 @@ fn serve_listening<T: Threader, S: Alter, P: Ports, O: BufferedSink, E: Sink>(
         (server_output O.Sink O.BufferedSink.own E.Sink output.old faults.old)
         (server_output O.Sink O.BufferedSink.own E.Sink output.new faults.new) count) }
     ensures failures { E.failures faults.old ≤ E.failures faults.new }
+    ensures writes_nothing { WritesNothing S.Store store.old store.new }
 {
     let BoundListener { listener, port } = listening;
     let mut listener = listener;
@@ -106,6 +109,7 @@ fn serve_store<Y: Platform, T: Threader>(
     ensures served { ServesOpenStore world.old world.new Y.Output.Sink Y.Output.BufferedSink.own Y.Faults.Sink Y.Storage.Store
         Y.Ports.listens Y.Ports.Listener.accepts Y.Ports.Listener.closes Y.Ports.Listener.over Y.Ports.went store.old store.new order.now policy.now day result }
     ensures failures { Y.Faults.failures world.old.faults ≤ Y.Faults.failures world.new.faults }
+    ensures writes_nothing { WritesNothing Y.Storage.Store store.old store.new }
 {
     let listening = listen_on(&mut world.ports, order.port)?;
     serve_listening(
@@ -134,6 +138,8 @@ fn work_serve<Y: Platform, T: Threader>(
     ensures served { RunServesDatabase world.old world.new Y.Output.Sink Y.Output.BufferedSink.own Y.Faults.Sink Y.Storage.Store
         Y.Ports.listens Y.Ports.Listener.accepts Y.Ports.Listener.closes Y.Ports.Listener.over Y.Ports.went Y.Databases.Databases order.now policy.now day result }
     ensures failures { Y.Faults.failures world.old.faults ≤ Y.Faults.failures world.new.faults }
+    ensures crash { LeavesOrUsesDatabase Y.Databases.Databases world.old.databases world.new.databases order.now.file
+        (WritesNothing Y.Storage.Store) }
 {
     let mut store = match world.databases.open(alloc, order.file) {
         Ok(store) => store,
@@ -155,6 +161,8 @@ fn serve_by<Y: Platform, T: Threader>(
     ensures served { RunServesDatabaseOnDay world.old world.new Y.Output.Sink Y.Output.BufferedSink.own Y.Faults.Sink Y.Storage.Store Y.Ports.listens
         Y.Ports.Listener.accepts Y.Ports.Listener.closes Y.Ports.Listener.over Y.Ports.went Y.Databases.Databases Y.Clock.DayClock order.now policy.now result }
     ensures failures { Y.Faults.failures world.old.faults ≤ Y.Faults.failures world.new.faults }
+    ensures crash { LeavesOrUsesDatabase Y.Databases.Databases world.old.databases world.new.databases order.now.file
+        (WritesNothing Y.Storage.Store) }
 {
     let Some(day) = asking_day(order.day, &mut world.clock) else {
         return Err(RunError::Run(CommandError::Clock));
@@ -169,8 +177,10 @@ pub(crate) fn run_serve<Y: Platform>(
     world: &mut Environment<Y>,
     order: &ServeArgs<'_>,
 ) -> Result<(), RunError>
-    ensures { RunsServe world.old world.new Y.Output.Sink Y.Output.BufferedSink.own Y.Faults.Sink Y.Storage.Store Y.Ports.listens
+    ensures runs { RunsServe world.old world.new Y.Output.Sink Y.Output.BufferedSink.own Y.Faults.Sink Y.Storage.Store Y.Ports.listens
         Y.Ports.Listener.accepts Y.Ports.Listener.closes Y.Ports.Listener.over Y.Ports.went Y.Databases.Databases Y.Clock.DayClock Y.Files.ReadFiles Y.Threaders.makes order.now result }
+    ensures crash { LeavesOrUsesDatabase Y.Databases.Databases world.old.databases world.new.databases order.now.file
+        (WritesNothing Y.Storage.Store) }
 {
     let Some(threader) = world.threaders.threader() else {
         return Err(RunError::Run(CommandError::Read));

@@ -6,6 +6,7 @@ ghost use Rattle.archive_run.specs.Databases.{UsesDatabase, UsesDatabaseIfOpened
 ghost use Rattle.archive_run.specs.Working.{AnswersOrFails, RefusesCommand, RefusesCheck, RefusesExport, RefusesGet, ImportsFile, RefusesImport, ExportsWholeList, RefusesOpening};
 ghost use Rattle.sift_run.specs.Streams.{output_stream_state};
 ghost use Rattle.archive_store.specs.Checking.{ChecksArchive};
+ghost use Rattle.archive_store.specs.Told.{WritesNothing};
 
 use crate::databases::Databases;
 use crate::faults::RunError;
@@ -98,6 +99,7 @@ fn get_text<S: Alter>(
     ensures got { MatchResult result
         (λ text. GetsMessage S.Store store.old store.new ask.now key.now (Ok text))
         (λ refusal. RefusesGet S.Store store.old store.new ask.now key.now refusal) }
+    ensures writes_nothing { WritesNothing S.Store store.old store.new }
 {
     match get(store, alloc, ask, key) {
         Ok(text) => Ok(text),
@@ -121,9 +123,10 @@ pub(crate) fn work_get<S: Alter, D: Databases<Store<S>>>(
     ask: &Ask<'_>,
     key: &str,
 ) -> Result<Vec<u8>, RunError>
-    ensures { AnswersOrFails D.Databases databases.old databases.new file.now result
+    ensures worked { AnswersOrFails D.Databases databases.old databases.new file.now result
         (λ text o c. GetsMessage S.Store o c ask.now key.now (Ok text))
         (λ o c. RefusesGet S.Store o c ask.now key.now) }
+    ensures crash { UsesDatabaseIfOpened D.Databases databases.old databases.new file.now (WritesNothing S.Store) }
 {
     let mut store = match databases.open(alloc, file) {
         Ok(store) => store,
@@ -139,6 +142,7 @@ fn check_store<S: Alter>(store: &mut Store<S>, alloc: Global) -> Result<(), RunE
     ensures checked { MatchResult result
         (λ _. ChecksArchive S.Store store.old store.new (Ok tt))
         (λ refusal. RefusesCheck S.Store store.old store.new refusal) }
+    ensures writes_nothing { WritesNothing S.Store store.old store.new }
 {
     match store.check(alloc) {
         Ok(()) => Ok(()),
@@ -153,8 +157,10 @@ pub(crate) fn work_check<S: Alter, D: Databases<Store<S>>>(
     databases: &mut D,
     order: &CheckArgs<'_>,
 ) -> Result<(), RunError>
-    ensures { AnswersOrFails D.Databases databases.old databases.new order.now.file result
+    ensures worked { AnswersOrFails D.Databases databases.old databases.new order.now.file result
         (λ _ o c. ChecksArchive S.Store o c (Ok tt)) (λ o c. RefusesCheck S.Store o c) }
+    ensures crash { UsesDatabaseIfOpened D.Databases databases.old databases.new order.now.file
+        (WritesNothing S.Store) }
 {
     let mut store = match databases.open(alloc, order.file) {
         Ok(store) => store,
@@ -172,11 +178,12 @@ fn export_text<S: Alter, O: BufferedSink>(
     ask: &Ask<'_>,
     output: &mut O,
 ) -> Result<(), RunError>
-    ensures { MatchResult result
+    ensures exported { MatchResult result
         (λ _. ExportsWholeList S.Store store.old store.new ask.now (output_stream_state O.Sink O.BufferedSink.own output.old)
         (output_stream_state O.Sink O.BufferedSink.own output.new))
         (RefusesExport S.Store store.old store.new ask.now (output_stream_state O.Sink O.BufferedSink.own output.old)
         (output_stream_state O.Sink O.BufferedSink.own output.new)) }
+    ensures writes_nothing { WritesNothing S.Store store.old store.new }
 {
     match export(store, alloc, ask, output) {
         Ok(_count) => {}
@@ -196,7 +203,7 @@ pub(crate) fn work_export<S: Alter, D: Databases<Store<S>>, O: BufferedSink>(
     ask: &Ask<'_>,
     output: &mut O,
 ) -> Result<(), RunError>
-    ensures { MatchResult result
+    ensures worked { MatchResult result
         (λ _. UsesDatabase D.Databases databases.old databases.new file.now
         (λ o c. ExportsWholeList S.Store o c ask.now
         (output_stream_state O.Sink O.BufferedSink.own output.old) (output_stream_state O.Sink O.BufferedSink.own output.new)))
@@ -205,6 +212,7 @@ pub(crate) fn work_export<S: Alter, D: Databases<Store<S>>, O: BufferedSink>(
         ⊎ UsesDatabase D.Databases databases.old databases.new file.now
         (λ o c. RefusesExport S.Store o c ask.now
         (output_stream_state O.Sink O.BufferedSink.own output.old) (output_stream_state O.Sink O.BufferedSink.own output.new) refusal)) }
+    ensures crash { UsesDatabaseIfOpened D.Databases databases.old databases.new file.now (WritesNothing S.Store) }
 {
     let mut store = match databases.open(alloc, file) {
         Ok(store) => store,

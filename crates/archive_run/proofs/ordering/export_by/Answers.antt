@@ -1,7 +1,8 @@
-use Rattle.std.proofs.Common.{◌≡◌, ap, inl, inr, refl, true, List, ℕ, Some}
+use Rattle.std.proofs.Common.{◌≡◌, ap, inl, inr, refl, subst, true, List, ℕ, Some}
+use Rattle.archive_store.specs.Told.{WritesNothing}
 use Rattle.archive_results.specs.Access.{Ask}
 use Rattle.archive_args.specs.Values.{AskValues}
-use Rattle.archive_run.specs.Databases.{UsesDatabase}
+use Rattle.archive_run.specs.Databases.{UsesDatabase, UsesDatabaseIfOpened}
 use Rattle.archive_run.specs.Orders.{RunExportsListOnDay}
 use Rattle.sift_run.specs.Running.{IsReadingDay}
 use Rattle.sift_run.specs.Streams.{output_stream_state}
@@ -9,8 +10,8 @@ use Rattle.archive_run.specs.Working.{RefusesExport, ExportsWholeList, RefusesOp
 use Rattle.sift_run.proofs.ResultLemmas.{at_two, by_result}
 use Rattle.archive_run.proofs.ordering.export_by.Goals as goal
 
-pub returns : goal.returns
-returns g c =
+pub returns-clause-runs : goal.returns-clause-runs
+returns-clause-runs g c =
     let old = c.args.world.now in
     let order = c.args.order.now in
     let clock = c.asking_day.new.clock in
@@ -24,7 +25,7 @@ returns g c =
     let is_ask = c.ask_of-ask.ensures in
     let given : IsReadingDay g.Y.Clock.DayClock order.day true old.clock clock (Some day) = rw is_day at c.in-Some.ensures in
     by_result (RunExportsListOnDay old new g.Y.Output.Sink g.Y.Output.BufferedSink g.Y.Storage.Store g.Y-Databases-Databases g.Y.Clock.DayClock order c.args.policy.now) _ _
-    c.work_export.result c.work_export.ensures
+    c.work_export.result c.work_export.ensures.worked
     (λ u done. (
       clock,
       day,
@@ -51,3 +52,9 @@ returns g c =
         )
       ],
     ))
+
+pub returns-clause-crash : goal.returns-clause-crash
+returns-clause-crash g c =
+    let old = c.args.world.now in
+    inr (subst (λ f. UsesDatabaseIfOpened g.Y-Databases-Databases old.databases c.work_export.new.databases f (WritesNothing g.Y.Storage.Store))
+    (ap (λ (o : AskValues). o.file) c.order.view_is) c.work_export.ensures.crash)

@@ -1,8 +1,9 @@
-use Rattle.std.proofs.Common.{◌≡◌, ◌∙◌, ap, inl, inr, refl, true, List, ℕ, Some, Ok}
+use Rattle.std.proofs.Common.{◌≡◌, ◌∙◌, ap, inl, inr, refl, subst, true, List, ℕ, Some, Ok}
+use Rattle.archive_store.specs.Told.{WritesNothing}
 use Rattle.archive_results.specs.Access.{Ask}
 use Rattle.archive_args.specs.Values.{GetValues}
 use Rattle.archive_commands.specs.Working.{GetsMessage}
-use Rattle.archive_run.specs.Databases.{UsesDatabase}
+use Rattle.archive_run.specs.Databases.{UsesDatabase, UsesDatabaseIfOpened}
 use Rattle.archive_run.specs.Orders.{RunGetsMessageOnDay}
 use Rattle.sift_run.specs.Running.{IsReadingDay}
 use Rattle.sift_run.specs.Streams.{output_stream_state}
@@ -10,8 +11,8 @@ use Rattle.archive_run.specs.Working.{FailsOnDatabase, RefusesGet}
 use Rattle.sift_run.proofs.ResultLemmas.{at_three, by_result, err_at, sent_as}
 use Rattle.archive_run.proofs.ordering.get_by.Goals as goal
 
-pub returns-in_err-text : goal.returns-in_err-text
-returns-in_err-text g c =
+pub returns-in_err-text-clause-runs : goal.returns-in_err-text-clause-runs
+returns-in_err-text-clause-runs g c =
     let old = c.args.world.now in
     let order = c.args.order.now in
     let asked = c.order-inside.inside.0.0 in
@@ -34,13 +35,13 @@ returns-in_err-text g c =
       given,
       inl (
         at_three (λ (f : List ℕ) (a : Ask) (k : List ℕ). FailsOnDatabase g.Y-Databases-Databases old.databases new.databases f (λ o x. RefusesGet g.Y.Storage.Store o x a k) refusal)
-            _ _ _ _ _ _ is_file is_ask is_key c.in_err-text.ensures,
+            _ _ _ _ _ _ is_file is_ask is_key c.in_err-text.ensures.worked,
         refl,
       ),
     ))
 
-pub returns : goal.returns
-returns g c =
+pub returns-clause-runs : goal.returns-clause-runs
+returns-clause-runs g c =
     let old = c.args.world.now in
     let order = c.args.order.now in
     let asked = c.order-inside.inside.0.0 in
@@ -58,8 +59,22 @@ returns g c =
     let is_ask = rw is_asked at c.ask_of-ask.ensures in
     let given : IsReadingDay g.Y.Clock.DayClock order.ask.day true old.clock clock (Some day) = rw is_day at c.in-Some.ensures in
     let got = at_three (λ (f : List ℕ) (a : Ask) (k : List ℕ). UsesDatabase g.Y-Databases-Databases old.databases new.databases f (λ o x. GetsMessage g.Y.Storage.Store o x a k (Ok text)))
-    _ _ _ _ _ _ is_file is_ask is_key c.in_ok-text.ensures in
+    _ _ _ _ _ _ is_file is_ask is_key c.in_ok-text.ensures.worked in
     by_result (RunGetsMessageOnDay old new g.Y.Output.Sink g.Y.Output.BufferedSink g.Y.Storage.Store g.Y-Databases-Databases g.Y.Clock.DayClock order c.args.policy.now) _ _
     c.send.result (sent_as _ before after c.deref.result.now _ c.send.result c.deref.ensures.value c.send.ensures)
     (λ u sends. (clock, day, given, (text, got, (sends, refl))))
     (λ e part. inr (clock, day, given, inr (text, got, (part.0, part.1, refl))))
+
+pub returns-in_err-text-clause-crash : goal.returns-in_err-text-clause-crash
+returns-in_err-text-clause-crash g c =
+    let old = c.args.world.now in
+    let is_file : c.order-inside.inside.0.0.file.now ≡ c.args.order.now.ask.file =
+    ap (λ i. i.asked.file) c.order-inside.view_is ∙ ap (λ (o : GetValues). o.ask.file) c.order.view_is in
+    inr (subst (λ f. UsesDatabaseIfOpened g.Y-Databases-Databases old.databases c.work_get.new.databases f (WritesNothing g.Y.Storage.Store)) is_file c.work_get.ensures.crash)
+
+pub returns-clause-crash : goal.returns-clause-crash
+returns-clause-crash g c =
+    let old = c.args.world.now in
+    let is_file : c.order-inside.inside.0.0.file.now ≡ c.args.order.now.ask.file =
+    ap (λ i. i.asked.file) c.order-inside.view_is ∙ ap (λ (o : GetValues). o.ask.file) c.order.view_is in
+    inr (subst (λ f. UsesDatabaseIfOpened g.Y-Databases-Databases old.databases c.work_get.new.databases f (WritesNothing g.Y.Storage.Store)) is_file c.work_get.ensures.crash)

@@ -7,8 +7,8 @@ use Rattle.archive_run.proofs.OrderLemmas.{by_policy}
 use Rattle.sift_run.proofs.ResultLemmas.{err_at}
 use Rattle.archive_run.proofs.serving.run_serve.Goals as goal
 
-pub returns-in_err-policy : goal.returns-in_err-policy
-returns-in_err-policy g c =
+pub returns-in_err-policy-clause-runs : goal.returns-in_err-policy-clause-runs
+returns-in_err-policy-clause-runs g c =
     let old = c.args.world.now in
     let order = c.args.order.now in
     let refusal = c.in_err-policy.field-0.0 in
@@ -18,8 +18,8 @@ returns-in_err-policy g c =
     c.from_residual.result refusal c.from_residual.ensures.1
     (inl (c.in-Some.ensures, inl (subst P (ap (λ (o : ServeValues). o.policy) c.order.view_is) c.in_err-policy.ensures.refused, refl), omega arith))
 
-pub returns : goal.returns
-returns g c =
+pub returns-clause-runs : goal.returns-clause-runs
+returns-clause-runs g c =
     let old = c.args.world.now in
     let new = c.serve_by.new.world in
     let order = c.args.order.now in

@@ -1,4 +1,5 @@
 use Rattle.std.proofs.Common.{◌≡◌, ap, inr, subst, ℕ, List, Ok}
+use Rattle.archive_store.specs.Told.{WritesNothing}
 use Rattle.archive_args.specs.Values.{ServeValues}
 use Rattle.archive_run.specs.Serving.{ListensAndServes, RefusesListeningOrServing, RunServesDatabase, server_output}
 use Rattle.archive_run.proofs.OrderLemmas.{databases_of, with_databases}
@@ -42,3 +43,16 @@ returns-clause-served g c =
           before after e) it,
       frame,
     ))
+
+pub returns-clause-crash : goal.returns-clause-crash
+returns-clause-crash g c =
+    let old = c.args.world.now in
+    let order = c.args.order.now in
+    let done = c.serve_store-served in
+    let keeps = g.Y-Databases-Databases in
+    let P : List ℕ → Type 0 = λ f. keeps.opens old.databases c.open.new.self f (Ok c.in-Ok.store) in
+    let opened = subst P (ap (λ (o : ServeValues). o.file) c.order.view_is) c.in-Ok.ensures.opened in
+    let C : g.row.Y-Databases.Denot → Type 0 = λ d. keeps.closes d c.close.new.self done.new.store in
+    let closed = subst C (databases_of _ _ done.ensures.served.1) c.close.ensures in
+    inr (inr (works keeps old.databases c.open.new.self c.close.new.self order.file c.in-Ok.store done.new.store opened closed (λ o x. WritesNothing g.Y.Storage.Store o x)
+    done.ensures.writes_nothing))

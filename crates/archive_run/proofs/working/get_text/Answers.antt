@@ -11,4 +11,4 @@ returns-in-Err-Fault g c =
     let P : GetError → Type 0 =
     λ s. GetsMessage g.S.Store old new c.args.ask.now c.args.key.now (Err s) × EndsGet g.S.Store old new c.args.ask.now c.args.key.now (Err s) in
     let it = subst P arm.field-0-is (arm.ensures.got, arm.ensures.ends) in
-    record { got = (it.0, (it.1.refusals_counted.1, it.1.fault_has_cause)) }
+    record { got = (it.0, (it.1.refusals_counted.1, it.1.fault_has_cause)); writes_nothing = c.get.ensures.writes_nothing }

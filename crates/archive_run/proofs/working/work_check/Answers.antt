@@ -1,11 +1,12 @@
-use Rattle.std.proofs.Common.{Ok}
+use Rattle.std.proofs.Common.{inr, Ok}
+use Rattle.archive_store.specs.Told.{WritesNothing}
 use Rattle.archive_store.specs.Checking.{ChecksArchive}
 use Rattle.archive_run.specs.Working.{RefusesCheck, RefusesOpening}
-use Rattle.archive_run.proofs.WorkLemmas.{worked}
+use Rattle.archive_run.proofs.WorkLemmas.{worked, works}
 use Rattle.archive_run.proofs.working.work_check.Goals as goal
 
-pub returns : goal.returns
-returns g c =
+pub returns-clause-worked : goal.returns-clause-worked
+returns-clause-worked g c =
     let done = c.check_store-checked in
     rw (← c.order.view_is) (worked g.D.Databases c.args.databases.now c.open.new.self c.close.new.self c.order.inside.file.now c.in-Ok.store
     done.new.store c.in-Ok.ensures.opened c.close.ensures done.result
@@ -13,3 +14,9 @@ returns g c =
     (λ refusal o x. RefusesCheck g.S.Store o x refusal)
     (λ refusal. RefusesOpening g.D.Databases c.args.databases.now c.close.new.self c.order.inside.file.now refusal)
     done.ensures.checked)
+
+pub returns-clause-crash : goal.returns-clause-crash
+returns-clause-crash g c =
+    let done = c.check_store-checked in
+    rw (← c.order.view_is) (inr (works g.D.Databases c.args.databases.now c.open.new.self c.close.new.self c.order.inside.file.now c.in-Ok.store done.new.store
+    c.in-Ok.ensures.opened c.close.ensures (λ o x. WritesNothing g.S.Store o x) done.ensures.writes_nothing))

@@ -1,11 +1,12 @@
-use Rattle.std.proofs.Common.{Ok}
+use Rattle.std.proofs.Common.{inr, Ok}
+use Rattle.archive_store.specs.Told.{WritesNothing}
 use Rattle.archive_commands.specs.Working.{GetsMessage}
 use Rattle.archive_run.specs.Working.{RefusesGet, RefusesOpening}
-use Rattle.archive_run.proofs.WorkLemmas.{worked}
+use Rattle.archive_run.proofs.WorkLemmas.{worked, works}
 use Rattle.archive_run.proofs.working.work_get.Goals as goal
 
-pub returns : goal.returns
-returns g c =
+pub returns-clause-worked : goal.returns-clause-worked
+returns-clause-worked g c =
     let done = c.get_text-text in
     worked g.D.Databases c.args.databases.now c.open.new.self c.close.new.self c.args.file.now c.in-Ok.store
     done.new.store c.in-Ok.ensures.opened c.close.ensures done.result
@@ -13,3 +14,9 @@ returns g c =
     (λ refusal o x. RefusesGet g.S.Store o x c.args.ask.now c.args.key.now refusal)
     (λ refusal. RefusesOpening g.D.Databases c.args.databases.now c.close.new.self c.args.file.now refusal)
     done.ensures.got
+
+pub returns-clause-crash : goal.returns-clause-crash
+returns-clause-crash g c =
+    let done = c.get_text-text in
+    inr (works g.D.Databases c.args.databases.now c.open.new.self c.close.new.self c.args.file.now c.in-Ok.store done.new.store c.in-Ok.ensures.opened c.close.ensures
+    (λ o x. WritesNothing g.S.Store o x) done.ensures.writes_nothing)
