@@ -13,7 +13,7 @@ use Rattle.archive_model.specs.Runs.{run, taken, tally_replies}
 use Rattle.archive_model.specs.Sound.{IsIndexedCorrectly}
 use Rattle.archive_store.specs.Crashes.{CrashLeavesRelatedArchive}
 use Rattle.archive_store.specs.Held.{store_connection}
-use Rattle.archive_store.specs.Told.{archive_in}
+use Rattle.archive_store.specs.Told.{WritesNothing, archive_in}
 use Rattle.archive_store.specs.declared.store.Store.{Store as Open}
 use Rattle.archive_store.proofs.CrashLemmas.{KeepsCommit, live_is_safe}
 use Rattle.archive_import.specs.Streaming.{AreItemsOfReadText, HasAddedReadAtLeast}
@@ -24,6 +24,7 @@ use Rattle.archive_commands.specs.Commands.{command_outcome, has_valid_key, mode
 use Rattle.archive_listen.specs.declared.connections.BoundListener.{BoundListener}
 use Rattle.sift_run.specs.declared.faults.CommandError.TheVariants.{Memory}
 use Rattle.archive_run.specs.Crashing.{CrashImportsFile}
+use Rattle.archive_run.specs.Databases.{LeavesOrUsesDatabase}
 use Rattle.archive_run.specs.Holding.{HasServedUntilF4}
 use Rattle.archive_run.specs.Remembering.{ClosedDatabaseHoldsArchive, OpenedStoreHoldsArchive}
 use Rattle.archive_run.specs.Runs.{RunsOrder}
@@ -31,9 +32,10 @@ use Rattle.archive_run.specs.Environments.{DeviceContracts}
 use Rattle.archive_run.specs.declared.faults.RunError.{RunError}
 use Rattle.archive_run.specs.declared.faults.RunError.TheVariants.{Run, Net}
 use Rattle.archive_run.specs.declared.world.Environment.{Environment}
+use Rattle.archive_run.proofs.CrashLemmas.{crash_of_question}
 use Rattle.archive_life.specs.Histories.{Ending, LeavesCarriedOut, printed, cut_off}
-use Rattle.archive_life.specs.Restarts.{AnswersConnectionsFrom, AnswersFrom, FindsAfter, FindsCrashed, IsOverDatabase, IsReadOfIfOpened, IsSoundStore, ReadsMbox, RunEnds}
-use Rattle.archive_life.specs.Restarts.{ServerStaysOpen, commands_of_order, served_until_end, store_of_run, store_of_server}
+use Rattle.archive_life.specs.Restarts.{AnswersConnectionsFrom, AnswersFrom, FindsAfter, FindsCrashed, FindsHeld, IsOverDatabase, IsReadOfIfOpened, IsSoundStore, ReadsMbox, RunEnds}
+use Rattle.archive_life.specs.Restarts.{ServerStaysOpen, commands_of_order, served_until_end, store_if_used, store_of_run, store_of_server, store_until_end}
 use Rattle.archive_life.proofs.SentLemmas.{refused_sends_nothing}
 
 -- ---- commands
@@ -189,6 +191,17 @@ module _ {Y S F D C P T R O E I L K A B M : Type 0} (dev : DeviceContracts S F I
         crashed_import dev opens settles order.file order.list mbox order.mbox Holds old.files old.databases uses.device uses.store_before uses.store_after archive held uses.opens_database sound finds
         uses.store_changes read
 
+    -- a question or a server, which means no command
+    question_cut_off : (file : List ℕ) → dev.databases.holds old.databases file archive
+        → (crash : LeavesOrUsesDatabase dev.databases old.databases new.databases file (WritesNothing dev.pages)) → IfSome (store_if_used crash) (IsSoundStore dev)
+        → MatchOption (store_if_used crash) (FindsHeld dev file Holds old.databases) (λ s. FindsCrashed dev file Holds s.last) → LeavesCarriedOut Holds cut_off [] archive
+    question_cut_off file held (inl same) sound finds = none_of Holds [] archive (finds archive held)
+    question_cut_off file held (inr (inl unopened)) sound finds = none_of Holds [] archive (finds archive held)
+    question_cut_off file held (inr (inr uses)) sound finds =
+        let it = found_crashed dev opens settles file Holds old.databases uses.device uses.store_before uses.store_after archive (λ a b. b ≡ a)
+        held uses.opens_database sound (crash_of_question dev.pages uses.store_before uses.store_after uses.store_changes) finds in
+        none_of Holds [] archive (subst Holds it.1 it.2)
+
     -- of the database of an order, whatever it is
     pub leaves_archive : (file : List ℕ) (ending : Ending) (order : Order) (mbox : List ℕ) (ends : RunEnds dev old new ending order) → IsOverDatabase file order
         → LeavesArchive file ending order mbox ends
@@ -202,10 +215,14 @@ module _ {Y S F D C P T R O E I L K A B M : Type 0} (dev : DeviceContracts S F I
     leaves_archive file cut_off (Sift order) mbox ends over = λ held right sound up read finds. none_of Holds [] archive (finds archive held)
     leaves_archive file cut_off (Table order) mbox ends over = subst (λ f. LeavesArchive f cut_off (Table order) mbox ends) over (command_cut_off order mbox ends)
     leaves_archive file cut_off (Import order) mbox ends over = subst (λ f. LeavesArchive f cut_off (Import order) mbox ends) over (import_cut_off order mbox ends)
-    leaves_archive file cut_off (Get order) mbox ends over = λ held right sound up read finds. none_of Holds [] archive (finds archive held)
-    leaves_archive file cut_off (Export order) mbox ends over = λ held right sound up read finds. none_of Holds [] archive (finds archive held)
-    leaves_archive file cut_off (Check order) mbox ends over = λ held right sound up read finds. none_of Holds [] archive (finds archive held)
-    leaves_archive file cut_off (Serve order) mbox ends over = λ held right sound up read finds. none_of Holds [] archive (finds archive held)
+    leaves_archive file cut_off (Get order) mbox ends over = subst (λ f. LeavesArchive f cut_off (Get order) mbox ends) over
+        (λ held right sound up read finds. question_cut_off order.ask.file held ends sound finds)
+    leaves_archive file cut_off (Export order) mbox ends over = subst (λ f. LeavesArchive f cut_off (Export order) mbox ends) over
+        (λ held right sound up read finds. question_cut_off order.file held ends sound finds)
+    leaves_archive file cut_off (Check order) mbox ends over = subst (λ f. LeavesArchive f cut_off (Check order) mbox ends) over
+        (λ held right sound up read finds. question_cut_off order.file held ends sound finds)
+    leaves_archive file cut_off (Serve order) mbox ends over = subst (λ f. LeavesArchive f cut_off (Serve order) mbox ends) over
+        (λ held right sound up read finds. question_cut_off order.file held ends.0 sound finds)
 
   -- ---- what was printed, or sent
 
@@ -213,7 +230,8 @@ module _ {Y S F D C P T R O E I L K A B M : Type 0} (dev : DeviceContracts S F I
       → (dev.went after ≡ dev.went before) × (dev.over listening.listener ≡ [])) (old new : Environment Y S F D C P T R O E I L K A B M) (archive : Archive) where
     abbrev pub AnswersFound : (file : List ℕ) (ending : Ending) (order : Order) → RunEnds dev old new ending order → Type 0
     AnswersFound file ending order ends = dev.databases.holds old.databases file archive → IsIndexedCorrectly archive
-        → IfSome (store_of_run dev old new ending order ends) (IsSoundStore dev) → AnswersFrom dev old new ending order ends archive
+        → IfSome (store_of_run dev old new ending order ends) (IsSoundStore dev) → IfSome (store_until_end dev old new ending order ends) (IsSoundStore dev)
+        → AnswersFrom dev old new ending order ends archive
 
     served_until : (order : ServeValues) (stopped : Environment Y S F D C P T R O E I L K A B M) (refusal : RunError)
         → ((refusal ≡ Run Memory) × (stopped ≡ old)) ⊎ RunsOrder dev old stopped (Serve order) (Err refusal) → (it : HasServedUntilF4 dev old stopped (Serve order) refusal)
@@ -225,7 +243,8 @@ module _ {Y S F D C P T R O E I L K A B M : Type 0} (dev : DeviceContracts S F I
     served_until order stopped Net cause (inr served) held sound = (served.serves_held_archive sound.is_clean archive held).0
     served_until order stopped refusal cause it held sound = λ other. refused_sends_nothing dev listens_none old stopped order refusal other cause
 
-    import_reported : (order : ImportValues) (ends : RunEnds dev old new printed (Import order)) → AnswersFound order.file printed (Import order) ends
+    import_reported : (order : ImportValues) (ends : RunEnds dev old new printed (Import order)) → dev.databases.holds old.databases order.file archive → IsIndexedCorrectly archive
+        → IfSome (store_of_run dev old new printed (Import order) ends) (IsSoundStore dev) → AnswersFrom dev old new printed (Import order) ends archive
     import_reported order ends held right sound =
         let uses = ends.runs_order.1 in
         let input = uses.store_changes in
@@ -238,23 +257,23 @@ module _ {Y S F D C P T R O E I L K A B M : Type 0} (dev : DeviceContracts S F I
         ∙ ap (λ is. tally_replies (taken archive order.list is).replies) (sym all)
 
     pub answers_found : (file : List ℕ) (ending : Ending) (order : Order) (ends : RunEnds dev old new ending order) → IsOverDatabase file order → AnswersFound file ending order ends
-    answers_found file printed (Sift order) ends over = λ held right sound. tt
+    answers_found file printed (Sift order) ends over = λ held right sound was. tt
     answers_found file printed (Table order) ends over = subst (λ f. AnswersFound f printed (Table order) ends) over
-        (λ held right sound. (ends.runs_on_archive.2.store_changes sound.is_clean archive held right).1.1)
-    answers_found file printed (Import order) ends over = subst (λ f. AnswersFound f printed (Import order) ends) over (import_reported order ends)
+        (λ held right sound was. (ends.runs_on_archive.2.store_changes sound.is_clean archive held right).1.1)
+    answers_found file printed (Import order) ends over = subst (λ f. AnswersFound f printed (Import order) ends) over (λ held right sound was. import_reported order ends held right sound)
     answers_found file printed (Get order) ends over = subst (λ f. AnswersFound f printed (Get order) ends) over
-        (λ held right sound. (ends.runs_on_archive.2.3.2.store_changes sound.is_clean archive held).0)
+        (λ held right sound was. (ends.runs_on_archive.2.3.2.store_changes sound.is_clean archive held).0)
     answers_found file printed (Export order) ends over = subst (λ f. AnswersFound f printed (Export order) ends) over
-        (λ held right sound. (ends.runs_on_archive.2.3.store_changes sound.is_clean archive held).0)
+        (λ held right sound was. (ends.runs_on_archive.2.3.store_changes sound.is_clean archive held).0)
     answers_found file printed (Check order) ends over = subst (λ f. AnswersFound f printed (Check order) ends) over
-        (λ held right sound. (ends.runs_on_archive.store_changes sound.is_clean archive held).0)
+        (λ held right sound was. (ends.runs_on_archive.store_changes sound.is_clean archive held).0)
     answers_found file printed (Serve order) ends over = subst (λ f. AnswersFound f printed (Serve order) ends) over
-        (λ held right sound. (ends.runs_on_archive.serves_held_archive sound.is_clean archive held).0)
-    answers_found file cut_off (Sift order) ends over = λ held right sound. tt
-    answers_found file cut_off (Table order) ends over = λ held right sound. tt
-    answers_found file cut_off (Import order) ends over = λ held right sound. tt
-    answers_found file cut_off (Get order) ends over = λ held right sound. tt
-    answers_found file cut_off (Export order) ends over = λ held right sound. tt
-    answers_found file cut_off (Check order) ends over = λ held right sound. tt
+        (λ held right sound was. (ends.runs_on_archive.serves_held_archive sound.is_clean archive held).0)
+    answers_found file cut_off (Sift order) ends over = λ held right sound was. tt
+    answers_found file cut_off (Table order) ends over = λ held right sound was. tt
+    answers_found file cut_off (Import order) ends over = λ held right sound was. tt
+    answers_found file cut_off (Get order) ends over = λ held right sound was. tt
+    answers_found file cut_off (Export order) ends over = λ held right sound was. tt
+    answers_found file cut_off (Check order) ends over = λ held right sound was. tt
     answers_found file cut_off (Serve order) ends over = subst (λ f. AnswersFound f cut_off (Serve order) ends) over
-        (λ held right sound. served_until order ends.stopped ends.refusal ends.cause ends.served_until_f4 held sound)
+        (λ held right sound was. served_until order ends.1.stopped ends.1.refusal ends.1.cause ends.1.served_until_f4 held was)

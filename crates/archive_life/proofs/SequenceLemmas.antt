@@ -139,7 +139,8 @@ module _ {Y S F D C P T R O E I L K A B M : Type 0} (dev : DeviceContracts S F I
       ending_is = refl;
       ordered_is = refl;
       holds_found = held;
-      answers_from_found = answers_found dev opens closes settles listens_none r.old r.new archive file r.ending r.order r.ends trusted.is_over_database held right trusted.store_is_sound;
+      answers_from_found = answers_found dev opens closes settles listens_none r.old r.new archive file r.ending r.order r.ends trusted.is_over_database held right trusted.store_is_sound
+          trusted.store_was_sound;
     }
 
     from_run : (archive : Archive) (r : ProgramRun Y K A B M dev) (runs : List (ProgramRun Y K A B M dev))

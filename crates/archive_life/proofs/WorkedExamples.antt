@@ -96,7 +96,7 @@ module _ {Y S F D C P T R O E I L K A B M : Type 0} (dev : DeviceContracts S F I
     is_indexed_correctly = right;
     runs_in_turn = (
       λ a h. h,
-      record { is_over_database = refl; store_is_sound = sound; server_stays_open = tt; mbox_is_read = tt },
-      (λ a h. h, record { is_over_database = refl; store_is_sound = tt; server_stays_open = tt; mbox_is_read = tt }, tt),
+      record { is_over_database = refl; store_is_sound = sound; store_was_sound = tt; server_stays_open = tt; mbox_is_read = tt },
+      (λ a h. h, record { is_over_database = refl; store_is_sound = tt; store_was_sound = tt; server_stays_open = tt; mbox_is_read = tt }, tt),
     );
   }

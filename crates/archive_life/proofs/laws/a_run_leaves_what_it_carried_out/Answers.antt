@@ -20,6 +20,7 @@ returns-clause-answers g c =
     λ file archive order mbox ending ends held right trusted.
     answers_found dev g.met.Y.Platform.opens_held g.met.Y.Platform.closes_held (λ connection db up may. g.met.Y.Storage.Store.settled connection.store db up may) g.met.Y.Ports.Ports.listens_none
     c.args.before.now c.args.after.now archive file ending order ends trusted.is_over_database held right trusted.store_is_sound
+    trusted.store_was_sound
 
 pub returns-clause-withdrawn : goal.returns-clause-withdrawn
 returns-clause-withdrawn g c = λ file list key by mbox archive ends told. withdrawal_done list key by archive ends.runs_on_archive.0 told
