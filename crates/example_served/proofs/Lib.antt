@@ -1,2 +1,4 @@
 pub mod PublishLemmas
+mod ServerLemmas
+mod RestartLemmas
 mod WorkedExamples

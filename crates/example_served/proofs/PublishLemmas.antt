@@ -1,11 +1,13 @@
 -- From three orders that were carried out, one behind the other, to one archive.
-use Rattle.std.proofs.Common.{◌≡◌, ◌≢◌, ◌≤◌, ◌∙◌, ◌⊎◌, inl, inr, ap, subst, sym, refl, arith, ℕ, ℤ, Bool, true, false, List, Some, Ok, if◌then◌else◌}
+use Rattle.std.proofs.Common.{◌≡◌, ◌≢◌, ◌≤◌, ◌∙◌, ◌⊎◌, inl, inr, ap, subst, sym, refl, arith, ℕ, Bool, true, false, List, Some, Ok, if◌then◌else◌}
 use Rattle.policy_core.specs.declared.access.WithdrawnBy.{WithdrawnBy}
 use Rattle.policy_core.specs.Numbers.{withdrawn_by_number}
 use Rattle.archive_model.specs.Records.{Archive}
 use Rattle.archive_model.specs.Commands.{Command, CommandReply, done, was_there, taken_in, already_known, refused, no_message, withdraw as withdrawal}
 use Rattle.archive_model.specs.Keys.{is_key}
 use Rattle.archive_model.specs.Machine.{refuse, step}
+use Rattle.archive_model.specs.Sound.{IsIndexedCorrectly}
+use Rattle.archive_store.specs.Told.{StoreHasCleanDisk}
 use Rattle.archive_args.specs.Orders.{IsOrderStopOf}
 use Rattle.archive_args.specs.Values.{withdraw}
 use Rattle.archive_args.specs.declared.orders.Order.{Order}
@@ -18,7 +20,7 @@ use Rattle.archive_run.specs.Holding.{RunsOrderOnArchive}
 use Rattle.archive_run.specs.Runs.{OrderIsCarriedOut, OrderIsRefused, RunsOrder, RunReportsOrderStop}
 use Rattle.archive_run.specs.Environments.{DeviceContracts}
 use Rattle.archive_run.specs.declared.world.Environment.{Environment}
-use Rattle.example_served.specs.Publishing.{CommandLineSucceeds, CommandLineFails, ImportsWithdrawsAndServes, Publishing, import_args_of, serve_args_of, withdraw_args_of}
+use Rattle.example_served.specs.Publishing.{CommandLineSucceeds, CommandLineFails, ImportsWithdrawsAndServes, MakesPublishedArchive, Publishing, import_args_of, serve_args_of, withdraw_args_of}
 
 -- ---- a withdrawal that was answered
 
@@ -45,6 +47,25 @@ withdrawn_so list key by a b answer same told =
 -- ---- three orders
 
 module _ {Y S F D C P T R O E I L K A B M : Type 0} (dev : DeviceContracts S F I D C P L T R O E) where
+  -- what the first two make of an archive
+  pub archive_made : (old first second new : Environment Y S F D C P T R O E I L K A B M) (it : Publishing)
+      (taken : RunsOrderOnArchive dev old first (Import (import_args_of it))) (outcome : RunsOrderOnArchive dev first second (Table (withdraw_args_of it)))
+      → StoreHasCleanDisk dev.pages taken.2.store_after → StoreHasCleanDisk dev.pages outcome.2.store_after
+      → (before : Archive) → dev.databases.holds old.databases it.file before → IsIndexedCorrectly before
+      → (archive : Archive) × MakesPublishedArchive dev old new it before archive × dev.databases.holds second.databases it.file archive
+  archive_made old first second new it taken outcome returned_first returned_second before held right =
+      let one = taken.2.store_changes returned_first before held right in
+      let two = outcome.2.store_changes returned_second one.0 one.3 one.2 in (
+        two.0,
+        record {
+          imported = one.0;
+          report = taken.0;
+          is_imported = one.1;
+          withdraws = withdrawn_so it.list it.key it.by one.0 two.0 outcome.0 two.1.0 two.1.1;
+        },
+        two.3,
+      )
+
   pub published : (old first second new : Environment Y S F D C P T R O E I L K A B M) (it : Publishing)
       → RunsOrder dev old first (Import (import_args_of it)) (Ok tt) → RunsOrderOnArchive dev old first (Import (import_args_of it))
       → RunsOrder dev first second (Table (withdraw_args_of it)) (Ok tt) → RunsOrderOnArchive dev first second (Table (withdraw_args_of it))
@@ -66,19 +87,8 @@ module _ {Y S F D C P T R O E I L K A B M : Type 0} (dev : DeviceContracts S F I
         rules_are_of_policy = subst (λ (f : F). AreRulesOfPolicyFile dev.gives f (Some it.policy) served.rules) files served.is_policy;
         day_is = subst (λ (c : C). IsReadingDay dev.clock it.day true c served.clock (Some served.day)) clock served.is_day;
         served_from_one_archive = λ returned_first returned_second returned before held right.
-            let one = taken.2.store_changes returned_first before held right in
-            let two = command_outcome.2.store_changes returned_second one.0 one.3 one.2 in
-            let last = served.serves_held_archive returned two.0 two.3 in (
-              two.0,
-              record {
-                imported = one.0;
-                report = taken.0;
-                is_imported = one.1;
-                withdraws = withdrawn_so it.list it.key it.by one.0 two.0 command_outcome.0 two.1.0 two.1.1;
-              },
-              last.0,
-              last.1,
-            );
+            let made = archive_made old first second new it taken command_outcome returned_first returned_second before held right in
+            let last = served.serves_held_archive returned made.0 made.2 in (made.0, made.1, last.0, last.1);
       }
 
   -- ---- an order that was not carried out

@@ -232,13 +232,12 @@ impl Listener for Peers {
     }
 }
 
-/// Ports, at all of which the same peers come, but the one that is taken. The last listener that was ended is kept.
+/// Ports, at all of which the same peers come, but the one that is taken. The listeners that were ended are in it, in their order.
 #[derive(Drop)]
 pub struct Quay {
     alloc: Global,
     peers: &'static [Peer],
-    /// The last listener that was ended.
-    pub last: Option<Peers>,
+    listeners: Vec<Peers>,
     ended: Log<Peers, ()>,
 }
 
@@ -248,15 +247,15 @@ impl Quay {
         Quay {
             alloc,
             peers,
-            last: None,
+            listeners: Vec::new(alloc),
             ended: Log::new(),
         }
     }
 
-    /// What the peers of the last listener were sent, one behind the other.
+    /// What the peers of all listeners were sent, one after the other.
     pub fn sent(&self) -> Result<Vec<u8>, AllocError> {
         let mut all = Vec::new(self.alloc);
-        if let Some(peers) = &self.last {
+        for peers in &self.listeners {
             for sent in &peers.sent {
                 all.extend_from_slice(sent.bytes())?;
             }
@@ -295,7 +294,7 @@ impl Ports for Quay {
 
     fn end(&mut self, listener: Peers) {
         self.ended = self.ended.and(&listener, &());
-        self.last = Some(listener);
+        let _ = self.listeners.push(listener);
     }
 }
 

@@ -8,4 +8,6 @@ mod importing;
 #[cfg(test)]
 mod publishing;
 #[cfg(test)]
+mod restarting;
+#[cfg(test)]
 mod serving;

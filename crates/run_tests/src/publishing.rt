@@ -26,18 +26,18 @@ struct Case {
 }
 
 /// The second message of the mbox, an answer to the first.
-const ANSWER: &str = "d41bdfeadb4b458370ddcfa1a3a8aa91197973a0a547288c06ee2a2ae4dbf327";
+pub const ANSWER: &str = "d41bdfeadb4b458370ddcfa1a3a8aa91197973a0a547288c06ee2a2ae4dbf327";
 
 /// The threads of the list: the first message alone.
-const THREADS: &[u8] =
+pub const THREADS: &[u8] =
     b"HTTP/1.1 200 OK\r\nContent-Type: text/html; charset=us-ascii\r\nContent-Length: 429\r\nConnection: close\r\n\r\n<!DOCTYPE html>\n<html><head><title>soc: threads</title></head><body>\n<h1>soc: threads</h1>\n<div class=\"d0\"><a href=\"/l/soc/month/2003-03\">2003-03-04 10:00</a> <a href=\"/l/soc/by/anna%40example.org\">anna@example.org</a> <a href=\"/l/soc/m/a9fda901d43094a70ddaab56f97a3ed4ab7d9e3f14e4c1717930bee493395661\">Hello</a> <a href=\"/l/soc/t/a9fda901d43094a70ddaab56f97a3ed4ab7d9e3f14e4c1717930bee493395661\">thread</a></div>\n</body></html>\n";
 
 /// What is sent in place of the withdrawn message.
-const REFUSAL: &[u8] =
+pub const REFUSAL: &[u8] =
     b"HTTP/1.1 403 Forbidden\r\nContent-Type: text/plain; charset=us-ascii\r\nContent-Length: 25\r\nConnection: close\r\n\r\n403 Forbidden: withdrawn\n";
 
 /// The threads of the list where all is shown.
-const ALL_THREADS: &[u8] =
+pub const ALL_THREADS: &[u8] =
     b"HTTP/1.1 200 OK\r\nContent-Type: text/html; charset=us-ascii\r\nContent-Length: 703\r\nConnection: close\r\n\r\n\
       <!DOCTYPE html>\n<html><head><title>soc: threads</title></head><body>\n<h1>soc: threads</h1>\n\
       <div class=\"d0\"><a href=\"/l/soc/month/2003-03\">2003-03-04 10:00</a> \
@@ -50,7 +50,7 @@ const ALL_THREADS: &[u8] =
       </body></html>\n";
 
 /// The message that was withdrawn, where it is shown.
-const SHOWN: &[u8] =
+pub const SHOWN: &[u8] =
     b"HTTP/1.1 200 OK\r\nContent-Type: message/rfc822\r\nContent-Length: 25\r\nConnection: close\r\n\r\n\
       Subject: Re: Hello\n\nTwo.\n";
 
