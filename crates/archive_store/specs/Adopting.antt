@@ -1,5 +1,5 @@
 -- What it says of a connection that it was taken over as a store, and what that it was not.
-use Rattle.std.specs.Prelude.{◌≡◌, ◌⊎◌, ℕ, pos, None}
+use Rattle.std.specs.Prelude.{◌≡◌, ◌⊎◌, ◌<◌, ℕ, pos, None}
 use Rattle.sqlite_disk.specs.Disk.{MoreFaults}
 use Rattle.sqlite.specs.Store.{Ghosts}
 use Rattle.sqlite.specs.Held.{Held, state}
@@ -40,7 +40,7 @@ module _ {S : Type 0} (g : Ghosts S) (connection : Held S) where
 
   -- A connection that was not taken over, and why. An empty database and an archive's are as they were, outside a transaction, if the
   -- connection is still open, and any other is untouched, for E15. E15 of an empty one means that the disk failed; of one of the tables of
-  -- a version it means that, or is a fact of what the file holds; nothing but E14 and E15 comes.
+  -- a version it means that, or is a fact of what the file holds; nothing but E14, which is counted, and E15 comes.
   pub record IsNotAdopted (stop : AdoptStop S) : Type 0 where
     pub keeps_rows : HasCleanDisk (state g stop.connection) → IsArchiveAtRest (state g connection) → FaultKeepsRows (state g connection) (state g stop.connection)
     pub new_tables_are_undone : HasCleanDisk (state g stop.connection) → (state g connection).now.schema ≡ empty_schema
@@ -52,6 +52,7 @@ module _ {S : Type 0} (g : Ghosts S) (connection : Held S) where
     pub fault_has_cause : HasCleanDisk (state g stop.connection) → IsIdle (state g connection) → IsEmptyOrArchiveSchema (state g connection).now.schema → (state g connection).step_limit ≡ None
         → stop.fault ≡ faults.Store → MoreFaults (state g connection).faults (state g stop.connection).faults ⊎ IsAdoptionRefused (state g connection).now
     pub fault_is_no_refusal : refusal_of_fault stop.fault ≡ None
+    pub refusal_is_counted : stop.fault ≡ faults.Memory → 0 < stop.wants
     pub crash : CrashAdopts g connection stop.connection
     pub disk_was_clean : HasCleanDisk (state g stop.connection) → HasCleanDisk (state g connection)
     pub remains_open : KeepsConnectionUnlessDiskFails (state g connection) (state g stop.connection)

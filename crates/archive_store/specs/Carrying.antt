@@ -86,8 +86,15 @@ module _ {S : Type 0} (g : Ghosts S) (old new : Store S) where
         → IfErr result (λ fault. fault ≡ faults.Store → DiskHasFailed g old new ⊎ Refused (state g (store_connection old)).now)
 
   -- a command of which this was found, under some limit, and which no test answers, written down
+  abbrev pub WritesFoundRows : {A : Type 0} → Told → CommandFacts → Result A StoreFault → Type 0
+  WritesFoundRows command found result = WritesToArchive result (PassesCommandTests command found) (archive_changed_by command) (IsWriteRefused command)
+
+  -- the same, whatever was found
+  abbrev pub WritesRows : {A : Type 0} → Told → Result A StoreFault → Type 0
+  WritesRows command result = (found : CommandFacts) → WritesFoundRows command found result
+
   abbrev pub WritesCommandRows : {A : Type 0} → Command → CommandFacts → Result A StoreFault → Type 0
-  WritesCommandRows command found result = WritesToArchive result (PassesCommandTests (spec_command command) found) (archive_changed_by (spec_command command)) (IsWriteRefused (spec_command command))
+  WritesCommandRows command = WritesFoundRows (spec_command command)
 
   -- A command under this limit of messages that a list holds: one step of the machine, a stop leaves the archive before it or after it,
   -- and how it ends.

@@ -13,7 +13,8 @@ use Rattle.archive_model.specs.Questions.{list_refusal, messages_in}
 use Rattle.archive_model.specs.Filing.{messages_in_month, messages_by_author}
 use Rattle.archive_model.specs.Messages.{archived_message}
 use Rattle.archive_model.specs.declared.messages.Message.{Message}
-use Rattle.archive_tables.specs.Rows.{message_at, message_rowids_in, month_rowids, author_rowids}
+use Rattle.archive_tables.specs.Rows.{message_at, message_from_result_row, message_rowids_in, month_rowids, author_rowids}
+use Rattle.archive_tables.specs.declared.rows.MessageRow.{MessageRow}
 use Rattle.archive_tables.specs.Tables.{IsArchiveAtRest, archive_of}
 use Rattle.archive_port.specs.Messages.{IsReadable, AreDatedMarksOf}
 use Rattle.archive_store.specs.Held.{store_connection, memory_refusal_count}
@@ -57,6 +58,19 @@ remaining_numbers walk = drop walk.at walk.places.items
 abbrev pub remaining_count : MessageWalk → ℕ
 remaining_count walk = length walk.places.items - walk.at
 
+-- a row is that of the first of these messages
+abbrev pub IsRowOfFirst : (list : List ℕ) → MessageRow → List Remembered → Type 0
+IsRowOfFirst list row [] = ⊥
+IsRowOfFirst list row (m ∷ messages) = message_from_result_row list row ≡ m
+
+-- The next message is given or passed by, and no row is held.
+abbrev pub PassesNext : MessageWalk → MessageWalk → Type 0
+PassesNext old new = (remaining_numbers new ≡ drop 1 (remaining_numbers old)) × (new.peeked ≡ None)
+
+-- The walk is where it was, and holds no row. A row is taken if messages are left.
+abbrev pub TakesRowIfLeft : MessageWalk → MessageWalk → Result (Option MessageRow) StoreFault → Type 0
+TakesRowIfLeft old new result = (new ≡ record old { peeked = None }) × IfOk result (λ found. MatchOption found (remaining_count old ≡ 0) (λ _. 0 < remaining_count old))
+
 module _ {S : Type 0} (g : Ghosts S) where
   -- what a store's database holds now, and its rows
   abbrev pub current_database : Store S → Database
@@ -66,17 +80,20 @@ module _ {S : Type 0} (g : Ghosts S) where
   current_rows store = (current_database store).trees
 
   -- A walk over these messages of a list of this archive that gave some of them: the store holds the archive's tables, whatever is
-  -- filed in them, and the given messages and those that are left are all. It holds the numbers of those that are left.
-  pub record WalksOn (list : List ℕ) (all : List Remembered) (a : Archive) (given : List Remembered) (connection : Held S) (places : List ℤ) : Type 0 where
+  -- filed in them, and the given messages and those that are left are all. It holds the numbers of those that are left, and perhaps the row
+  -- of the first of them.
+  pub record WalksOn (list : List ℕ) (all : List Remembered) (a : Archive) (given : List Remembered) (connection : Held S) (places : List ℤ)
+      (peeked : Option MessageRow) : Type 0 where
     pub is_archive_at_rest : IsArchiveAtRest (state g connection)
     pub archive_is : archive_of (state g connection) ≡ a
     pub remaining : List Remembered
     pub numbers_give_remaining : map (message_at (state g connection).now.trees) places ≡ map Some remaining
     pub given_and_remaining : given ++ remaining ≡ all
     pub all_are_of_list : AllByRecursion (λ (m : Remembered). bytes_eq m.list list ≡ true) all
+    pub peeked_is_of_next : IfSome peeked (λ row. IsRowOfFirst list row remaining)
 
   abbrev pub WalksOver : (list : List ℕ) (all : List Remembered) (a : Archive) (given : List Remembered) (walk : Walk S) → Type 0
-  WalksOver list all a given w = WalksOn list all a given (store_connection w.store) (remaining_numbers w.walk)
+  WalksOver list all a given w = WalksOn list all a given (store_connection w.store) (remaining_numbers w.walk) w.walk.peeked
 
   -- A walk over these of a list's messages begins: what that did to the store, that its connection was open, that no want of memory is
   -- forgotten, and where it held an archive's tables, the list is there and the walk gave nothing yet.
@@ -101,17 +118,25 @@ module _ {S : Type 0} (g : Ghosts S) where
   FindsMessageNumbers old new list which result = StoreHasCleanDisk g new → HoldsTables g old → IfOk result (λ places.
       (list_refusal (archive_in g old) list ≡ None) × HoldsTables g new × (archive_in g new ≡ archive_in g old) × (places.items ≡ which (current_rows new)))
 
-  -- The message of a number, where the store held an archive's tables. It leaves the rows; after a fault so, if the connection is still open.
-  abbrev pub ShowsMessage : Store S → Store S → ℤ → Result Message StoreFault → Type 0
-  ShowsMessage old new place result = StoreHasCleanDisk g new → HoldsTables g old → MatchResult result
-      (λ message. ((it : Remembered) × (message_at (current_rows old) place ≡ Some it) × (archived_message it.list message ≡ it)) × (current_database new ≡ current_database old) × HoldsTables g new)
+  -- The row of the message of a number, where the store held an archive's tables. It leaves the rows; after a fault so, if the connection is
+  -- still open.
+  abbrev pub ShowsRow : Store S → Store S → ℤ → Result MessageRow StoreFault → Type 0
+  ShowsRow old new place result = StoreHasCleanDisk g new → HoldsTables g old → MatchResult result
+      (λ row. ((it : Remembered) × (message_at (current_rows old) place ≡ Some it) × (message_from_result_row it.list row ≡ it)) × (current_database new ≡ current_database old) × HoldsTables g new)
       (λ _. IsOpen g new → (current_database new ≡ current_database old) × HoldsTables g new)
 
-  -- the same of its arrival and its marks
-  abbrev pub ShowsMarks : Store S → Store S → ℤ → Result DatedMarks StoreFault → Type 0
-  ShowsMarks old new place result = StoreHasCleanDisk g new → HoldsTables g old → MatchResult result
-      (λ marks. ((it : Remembered) × (message_at (current_rows old) place ≡ Some it) × AreDatedMarksOf marks it) × (current_database new ≡ current_database old) × HoldsTables g new)
-      (λ _. IsOpen g new → (current_database new ≡ current_database old) × HoldsTables g new)
+  -- The walk is where it was, and this is of the message that is next, or all were given. After a fault it is where it was, if the connection
+  -- is still open.
+  abbrev pub ShowsNext : {X : Type 0} → (IsOf : (list : List ℕ) → X → Remembered → Type 0) → Walk S → Walk S → Result (Option X) StoreFault → Type 0
+  ShowsNext IsOf old new result = StoreHasCleanDisk g new.store → (list : List ℕ) (all : List Remembered) (a : Archive) (given : List Remembered)
+      → WalksOver list all a given old → MatchResult result
+      (λ found. WalksOver list all a given new × MatchOption found (given ≡ all)
+      (λ x. (next : Remembered) × (rest : List Remembered) × (given ++ next ∷ rest ≡ all) × IsOf list x next))
+      (λ _. IsOpen g new.store → WalksOver list all a given new)
+
+  -- the row of the next message is taken
+  abbrev pub TakesNextRow : Walk S → Walk S → Result (Option MessageRow) StoreFault → Type 0
+  TakesNextRow = ShowsNext (λ list row next. message_from_result_row list row ≡ next)
 
   -- One message more is given, or all were given. After a fault the walk is where it was, if the connection is still open.
   abbrev pub GivesNext : Walk S → Walk S → Result (Option Message) StoreFault → Type 0
@@ -120,14 +145,9 @@ module _ {S : Type 0} (g : Ghosts S) where
       (λ found. MatchOption found (WalksOver list all a given new × (given ≡ all)) (λ m. WalksOver list all a (given ++ archived_message list m ∷ []) new))
       (λ _. IsOpen g new.store → WalksOver list all a given new)
 
-  -- The walk is where it was, and these are the arrival and the marks of the message that is next, or all were given. After a fault it
-  -- is where it was, if the connection is still open.
+  -- The arrival and the marks of the next message are shown.
   pub record PeeksNextMarks (old new : Walk S) (result : Result (Option DatedMarks) StoreFault) : Type 0 where
-    pub gives_next_marks : StoreHasCleanDisk g new.store → (list : List ℕ) (all : List Remembered) (a : Archive) (given : List Remembered)
-        → WalksOver list all a given old → MatchResult result
-        (λ found. WalksOver list all a given new × MatchOption found (given ≡ all)
-        (λ marks. (next : Remembered) × (rest : List Remembered) × (given ++ next ∷ rest ≡ all) × AreDatedMarksOf marks next))
-        (λ _. IsOpen g new.store → WalksOver list all a given new)
+    pub gives_next_marks : ShowsNext (λ list marks next. AreDatedMarksOf marks next) old new result
     pub remaining_is_same : remaining_count new.walk ≡ remaining_count old.walk
     pub some_means_remaining : IfOk result (λ found. IfSome found (λ _. 0 < remaining_count old.walk))
     pub fault_is_no_refusal : IfErr result (λ fault. refusal_of_fault fault ≡ None)
