@@ -27,7 +27,7 @@ use Rattle.archive_model.specs.Filing.{IndexedMessage}
 use Rattle.archive_model.specs.Questions.{messages_in}
 use Rattle.archive_tables.specs.Schema.{archive_schema}
 use Rattle.archive_tables.specs.Tables.{IsOpenArchive, AreArchiveTables, NumberedRecord, numbered_row, indexed_message_cells, indexed_message_from_row, archive_in_trees}
-use Rattle.archive_tables.specs.Rows.{message_result_row, dated_marks_result_row, numbered_indexed_messages, message_rowids_in, message_at, rowid_result_row}
+use Rattle.archive_tables.specs.Rows.{message_result_row, numbered_indexed_messages, message_rowids_in, message_at, rowid_result_row}
 use Rattle.archive_tables.specs.Calls.{FaultKeepsRowsOrRollsBack, LeavesRowsUnchanged, IsMemoryOrDiskError}
 use Rattle.archive_tables.proofs.MessageLemmas.{filed_back, wanted_messages}
 use Rattle.archive_tables.proofs.MailboxLemmas.{of_list, has_list}
@@ -93,32 +93,6 @@ at_typed : (place : ℤ) → accepts_program archive_schema [] (plain_query 8 at
 unfolding everything
 at_typed place = refl
 
--- ---- its marks
-
-abbrev pub marks_at_text : List ℕ
-marks_at_text = codes "SELECT arrival, withdrawn, embargo FROM message WHERE pos = ?1 ORDER BY pos"
-
-abbrev mark_cells : List Term
-mark_cells = col 1 5 ∷ col 1 7 ∷ col 1 8 ∷ []
-
-marks_at_is : (command_of (understood archive_schema marks_at_text) ≡ Select (record { lets = []; body = plain_query 8 at_place mark_cells by_number })
-    (codes "arrival" ∷ codes "withdrawn" ∷ codes "embargo" ∷ []))
-    × (reads_listing archive_schema marks_at_text ≡ false)
-unfolding understood everything
-marks_at_is = (refl, refl)
-
-marks_at_plain : IsPlain (understood archive_schema marks_at_text)
-unfolding understood everything
-marks_at_plain = (refl, refl)
-
-marks_at_fit : Fits marks_at_text 1 (understood archive_schema marks_at_text)
-unfolding understood everything
-marks_at_fit = (refl, refl)
-
-marks_at_typed : (place : ℤ) → accepts_program archive_schema [] (plain_query 8 at_place mark_cells by_number) (Int place ∷ []) ≡ true
-unfolding everything
-marks_at_typed place = refl
-
 module _ (place : ℤ) where
   abbrev pub is_at : NumberedRecord IndexedMessage → Bool
   is_at r = int_eq r.number place
@@ -146,14 +120,6 @@ shown_cells : (place : ℤ) (all : List (NumberedRecord IndexedMessage)) → map
     (λ (r : NumberedRecord IndexedMessage). message_result_row r.content.0) all
 shown_cells place [] = refl
 shown_cells place (r ∷ all) = ap (λ l. message_result_row r.content.0 ∷ l) (shown_cells place all)
-
-abbrev marks_seen : ℤ → Row → Row
-marks_seen place row = (output (plain_query 8 at_place mark_cells by_number) (env_of (Int place ∷ []) row)).1
-
-shown_marks : (place : ℤ) (all : List (NumberedRecord IndexedMessage)) → map (marks_seen place) (map (numbered_row indexed_message_cells) all) ≡ map
-    (λ (r : NumberedRecord IndexedMessage). dated_marks_result_row r.content.0) all
-shown_marks place [] = refl
-shown_marks place (r ∷ all) = ap (λ l. dated_marks_result_row r.content.0 ∷ l) (shown_marks place all)
 
 abbrev cell_of : List ℕ → Row → Row
 cell_of list row = (output (plain_query 8 of_list number_cell by_number) (env_of (Text list ∷ []) row)).1
@@ -261,25 +227,3 @@ module _ (old new : State) {behind : Option Database} (k : IsOpenArchive behind 
 
   pub at_rests : (place : ℤ) (rows : List Row) → Shown at_text (Int place ∷ []) old new rows → FaultKeepsRowsOrRollsBack behind old new
   at_rests place rows h = asked_rests at_text 8 at_place all_cells by_number _ at_is.0 at_plain at_is.1 (λ t. refl) (Int place ∷ []) old new k rows h
-
-  pub marks_found : (place : ℤ) (rows : List Row) → Shown marks_at_text (Int place ∷ []) old new rows
-      → (rows ≡ map (λ (r : NumberedRecord IndexedMessage). dated_marks_result_row r.content.0) (filter (is_at place) (numbered_indexed_messages old.now.trees))) × LeavesRowsUnchanged behind old new
-  marks_found place rows h =
-      let params = Int place ∷ [] in
-      let all = numbered_indexed_messages old.now.trees in
-      let picks = asked marks_at_text 8 at_place mark_cells by_number _ marks_at_is.0 marks_at_plain marks_at_is.1 (λ t. refl) params old new k rows h in
-      let same = asked_stays marks_at_text 8 at_place mark_cells by_number _ marks_at_is.0 marks_at_plain marks_at_is.1 (λ t. refl) params old new k rows h in (
-        in_order 8 at_place mark_cells params (old.now.trees 8) rows k.tables.messages.is_table picks
-            ∙ ap (map (marks_seen place)) (ap (filter (passes at_place params)) k.tables.messages.rows_read_back ∙ passing place all) ∙ shown_marks place (filter (is_at place) all),
-        same,
-      )
-
-  pub no_marks_at : (place : ℤ) (e : Error) → FailsToQuery marks_at_text (Int place ∷ []) old new e → FaultKeepsRowsOrRollsBack behind old new
-  no_marks_at place e h = refused_rests marks_at_text 8 at_place mark_cells by_number _ marks_at_is.0 marks_at_plain marks_at_is.1 (λ t. refl) (Int place ∷ []) old new k e h
-
-  pub no_marks_at_caused : (place : ℤ) (e : Error) → FailsToQuery marks_at_text (Int place ∷ []) old new e → old.step_limit ≡ None → IsMemoryOrDiskError old new e
-  no_marks_at_caused place e h free = question_fails_by marks_at_text 8 at_place mark_cells by_number _ marks_at_is.0 marks_at_plain marks_at_is.1
-      (Int place ∷ []) marks_at_fit (marks_at_typed place) old new k free e h
-
-  pub marks_at_rests : (place : ℤ) (rows : List Row) → Shown marks_at_text (Int place ∷ []) old new rows → FaultKeepsRowsOrRollsBack behind old new
-  marks_at_rests place rows h = asked_rests marks_at_text 8 at_place mark_cells by_number _ marks_at_is.0 marks_at_plain marks_at_is.1 (λ t. refl) (Int place ∷ []) old new k rows h

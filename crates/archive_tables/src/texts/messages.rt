@@ -157,24 +157,6 @@ pub fn message_at<S: Alter>(
     }
 }
 
-/// When the message of a number came, and its marks, without its text.
-pub fn marks_at<S: Alter>(
-    conn: &mut Connection<S>,
-    place: i64,
-) -> Result<Option<DatedMarksRow>, Error>
-    ensures { AnswersFromRows S.Store conn.old conn.new result
-        (λ trees found. found ≡ option_map decoded_dated_marks (message_at trees place)) ⊥ }
-{
-    let rows = conn.query_all(
-        "SELECT arrival, withdrawn, embargo FROM message WHERE pos = ?1 ORDER BY pos",
-        params![place],
-    )?;
-    match rows.first() {
-        Some(row) => Ok(Some(read_dated_marks(row)?)),
-        None => Ok(None),
-    }
-}
-
 /// How many messages the list has. It reads the number of each.
 pub fn count_messages<S: Alter>(conn: &mut Connection<S>, list: &str) -> Result<usize, Error>
     ensures { AnswersFromDatabase S.Store conn.old conn.new result
