@@ -1,5 +1,5 @@
 -- Messages that a walk passes by.
-use Rattle.std.proofs.Common.{◌≡◌, ◌⊎◌, ◌≤◌, arith, inl, inr, refl, sym, ap, subst, ◌∙◌, append_assoc, cond, Bool, true, false, List, [], ◌∷◌, ◌++◌, drop, filter, Option, Some, None, Result, Ok, Err}
+use Rattle.std.proofs.Common.{◌≡◌, ◌⊎◌, ◌≤◌, arith, inl, inr, refl, sym, ap, subst, ◌∙◌, append_assoc, cond, Bool, true, false, List, [], ◌∷◌, ◌++◌, filter, Option, Some, None, Result, Ok, Err}
 use Rattle.std.specs.Prelude.{not, ◌&&◌, ◌-◌, option_map, IsErrAnd}
 use Rattle.std.specs.Option.{IsSomeAnd}
 use Rattle.std.proofs.lemmas.List.{append-nil}
@@ -17,7 +17,7 @@ use Rattle.archive_port.specs.Messages.{AreDatedMarksOf, IsReadable}
 use Rattle.archive_port.specs.declared.marks.DatedMarks.{DatedMarks}
 use Rattle.archive_store.specs.Told.{StoreHasCleanDisk}
 use Rattle.archive_port.specs.Replies.{refusal_of_fault}
-use Rattle.archive_store.specs.Walking.{PeeksNextMarks, Walk, WalksOver, remaining_numbers, remaining_count, walk_over_store}
+use Rattle.archive_store.specs.Walking.{PassesNext, PeeksNextMarks, Walk, WalksOver, remaining_count, walk_over_store}
 use Rattle.archive_store.specs.declared.walking.MessageWalk.{MessageWalk}
 use Rattle.archive_store.proofs.WalkingLemmas.{passed_next}
 use Rattle.archive_port.specs.declared.faults.StoreFault.{StoreFault}
@@ -94,7 +94,7 @@ module _ {S : Type 0} (g : Ghosts S) (ask : Ask) (reader : ReaderFacts) where
 
   -- one was, since the policy withholds it
   pub one_passed : (old mid : Walk S) (new : MessageWalk) (marks : DatedMarks) (weighs : MessageFacts) → PeeksNextMarks g old mid (Ok (Some marks))
-      → remaining_numbers new ≡ drop 1 (remaining_numbers mid.walk)
+      → PassesNext mid.walk new
       → remaining_count new ≡ remaining_count mid.walk - 1 → ((m : Remembered) → AreDatedMarksOf marks m → weighs ≡ record (message_facts None m) { own = false })
       → ((m : Remembered) → weighs ≡ record (message_facts None m) { own = false } → true ≡ is_withheld ask reader m) → SkipsAtMostOne g old (walk_over_store mid.store new) ask reader (Ok true)
   one_passed old mid new marks weighs shown passes left weigh withheld = record {

@@ -1,7 +1,7 @@
 -- Walks over the messages of a list.
 use Rattle.std.proofs.Common.{arith, zero, suc, ◌≡◌, ℕ, ℤ, ◌+◌, ◌<◌, ◌≤◌, true, List, [], ◌∷◌, ◌++◌, length, get_or, drop, map, bytes_eq, refl}
 use Rattle.std.proofs.Common.{ap, sym, subst, append_assoc, ◌∙◌, Option, Some, None, Result, Ok, Err, IfErr, ◌⊎◌, inl, inr}
-use Rattle.std.specs.Prelude.{option_map, slice_get, pos, Vec, ◌&&◌, Bool, false, filter}
+use Rattle.std.specs.Prelude.{option_map, slice_get, pos, Vec, ◌&&◌, Bool, false, filter, IfSome}
 use Rattle.std.specs.declared.alloc.Global.{Global}
 use Rattle.std.proofs.lemmas.Option.{slice_get_cases, slice_get_within, get_or_from_slice_get}
 use Rattle.std.specs.List.{All, AllByRecursion}
@@ -21,10 +21,10 @@ use Rattle.sqlite.specs.Effect.{Database}
 use Rattle.sqlite.specs.Tree.{Trees}
 use Rattle.sqlite.specs.Store.{Ghosts}
 use Rattle.sqlite.specs.Held.{state}
-use Rattle.archive_port.specs.Messages.{AreDatedMarksOf, IsReadable}
-use Rattle.archive_port.specs.declared.marks.DatedMarks.{DatedMarks}
-use Rattle.archive_tables.specs.Rows.{decoded_dated_marks, message_at}
+use Rattle.archive_port.specs.Messages.{IsReadable}
+use Rattle.archive_tables.specs.Rows.{decoded_dated_marks, message_at, message_from_result_row}
 use Rattle.archive_tables.specs.declared.rows.DatedMarksRow.{DatedMarksRow}
+use Rattle.archive_tables.specs.declared.rows.MessageRow.{MessageRow}
 use Rattle.archive_tables.specs.Tables.{AreArchiveTables, archive_in_trees}
 use Rattle.archive_tables.proofs.LastLemmas.{lasts_then}
 use Rattle.archive_tables.proofs.WalkLemmas.{walked}
@@ -38,7 +38,7 @@ use Rattle.archive_store.proofs.CauseLemmas.{more_since}
 use Rattle.archive_store.proofs.FollowLemmas.{when_ok}
 use Rattle.archive_store.proofs.PassLemmas.{kind_last}
 use Rattle.archive_port.proofs.WantLemmas.{raises_after}
-use Rattle.archive_store.specs.Walking.{Walk, WalksOn, WalksOver, BeginsOver, GivesAll, E15MeansSomeUnreadable}
+use Rattle.archive_store.specs.Walking.{Walk, WalksOn, WalksOver, BeginsOver, GivesAll, E15MeansSomeUnreadable, IsRowOfFirst, PassesNext}
 use Rattle.archive_store.specs.Walking.{remaining_numbers, current_database, walk_over_store, current_rows, selected_messages, selected_numbers}
 use Rattle.archive_store.specs.declared.walking.Selection.{Selection}
 use Rattle.archive_store.specs.declared.walking.Selection.TheVariants.{Every, InMonth, ByAuthor}
@@ -195,11 +195,11 @@ past_end xs i none = elim ((slice_get_cases xs i).1) [ inl found ↦ absurd (let
 module _ {S : Type 0} (g : Ghosts S) where
   pub begins_walk : (old mid : Store S) (list : List ℕ) (which : Trees → List ℤ) (all : Archive → List Message)
       → ((trees : Trees) → AreArchiveTables trees → map (message_at trees) (which trees) ≡ map Some (all (archive_in_trees trees))) → ((a : Archive) → AreOfList list (all a))
-      → (walk : MessageWalk) → walk.at ≡ 0 → {A : Type 0} {found : A} {reasons : List Refusal} → EndsQuestion g old mid (Ok found) reasons
+      → (walk : MessageWalk) → walk.at ≡ 0 → walk.peeked ≡ None → {A : Type 0} {found : A} {reasons : List Refusal} → EndsQuestion g old mid (Ok found) reasons
       → (StoreHasCleanDisk g mid → HoldsTables g old → (list_refusal (now_holds g old) list ≡ None) × HoldsTables g mid × (now_holds g mid ≡ now_holds g old)
       × (walk.places.items ≡ which (current_rows g mid)))
       → BeginsOver g old list all (walk_over_store mid walk)
-  begins_walk old mid list which all shown of_list walk at ends found = record {
+  begins_walk old mid list which all shown of_list walk at none ends found = record {
     remains_open = ends.remains_open;
     was_open = ends.was_open;
     refusal_count_grows = ends.refusals_counted.0;
@@ -214,69 +214,81 @@ module _ {S : Type 0} (g : Ghosts S) where
                 ∙ ap (map (message_at (current_rows g mid))) it.3 ∙ shown (current_rows g mid) it.1.tables ∙ ap (λ a. map Some (all a)) it.2;
             given_and_remaining = refl;
             all_are_of_list = of_list (now_holds g old);
+            peeked_is_of_next = subst (λ o. IfSome o (λ row. IsRowOfFirst list row (all (now_holds g old)))) (sym none) tt;
           },
         );
   }
 
+-- a row that is of the first of some messages
+first_of_row : (list : List ℕ) (row : MessageRow) (remaining : List Message) → IsRowOfFirst list row remaining
+    → (next : Message) × (rest : List Message) × (remaining ≡ next ∷ rest) × (message_from_result_row list row ≡ next)
+first_of_row list row [] is = absurd is
+first_of_row list row (m ∷ rest) is = (m, rest, refl, is)
+
 module _ {S : Type 0} (g : Ghosts S) (list : List ℕ) (all : List Message) (a : Archive) (given : List Message) where
-  -- one message further
-  pub further : (old : Walk S) (new : Store S) (where_at : ℕ) (left : List ℤ) (d : ℤ) (m : Given) → WalksOver g list all a given old → old.walk.at < length old.walk.places.items
-      → left ≡ old.walk.places.items → where_at ≡ old.walk.at + 1
-      → current_database g new ≡ current_database g old.store → HoldsTables g new
-      → (it : Message) × (message_at (current_rows g old.store) (get_or old.walk.places.items old.walk.at d) ≡ Some it) × (archived_message it.list m ≡ it)
-      → WalksOn g list all a (given ++ archived_message list m ∷ []) (store_connection new) (drop where_at left)
-  further old new where_at left d m w within places at now held shown =
-      let n = next_is (message_at (current_rows g old.store)) old.walk.places.items old.walk.at d w.remaining w.numbers_give_remaining within in
-      let same : shown.0 ≡ n.0 = some_is (sym shown.1 ∙ n.3) in
+  -- this is the row of the message that is next
+  abbrev pub IsRowOfNext : MessageRow → Type 0
+  IsRowOfNext row = (next : Message) × (rest : List Message) × (given ++ next ∷ rest ≡ all) × (message_from_result_row list row ≡ next)
+
+  -- the walk is where it was, and holds no row
+  pub without_row : (old : Walk S) (new : Store S) → WalksOver g list all a given old → current_database g new ≡ current_database g old.store → HoldsTables g new
+      → WalksOn g list all a given (store_connection new) (remaining_numbers old.walk) None
+  without_row old new w now held = record {
+    is_archive_at_rest = held;
+    archive_is = ap (λ (d : Database). archive_in_trees d.trees) now ∙ w.archive_is;
+    remaining = w.remaining;
+    numbers_give_remaining = ap (λ (d : Database). map (message_at d.trees) (remaining_numbers old.walk)) now ∙ w.numbers_give_remaining;
+    given_and_remaining = w.given_and_remaining;
+    all_are_of_list = w.all_are_of_list;
+    peeked_is_of_next = tt;
+  }
+
+  -- the row that the store shows is that of the next message, and so is one that was peeked at
+  pub shown_next : (old : Walk S) (place : ℤ) (row : MessageRow) → WalksOver g list all a given old → slice_get old.walk.places.items old.walk.at ≡ Some place
+      → (it : Message) × (message_at (current_rows g old.store) place ≡ Some it) × (message_from_result_row it.list row ≡ it) → IsRowOfNext row
+  shown_next old place row w some shown =
+      let n = next_is (message_at (current_rows g old.store)) old.walk.places.items old.walk.at place w.remaining w.numbers_give_remaining
+      (slice_get_within old.walk.places.items old.walk.at place some) in
+      let found = ap (message_at (current_rows g old.store)) (get_or_from_slice_get old.walk.places.items old.walk.at place place some) ∙ shown.1 in
+      let same : shown.0 ≡ n.0 = some_is (sym found ∙ n.3) in
       let joined : given ++ n.0 ∷ n.1 ≡ all = ap (λ l. given ++ l) (sym n.2) ∙ w.given_and_remaining in
       let of_list : shown.0.list ≡ list = ap (λ (x : Message). x.list) same ∙ is_of_list list given n.1 all n.0 w.all_are_of_list joined in
-      let read : archived_message list m ≡ n.0 = ap (λ l. archived_message l m) (sym of_list) ∙ shown.2 ∙ same in
-      record {
-        is_archive_at_rest = held;
-        archive_is = ap (λ (d : Database). archive_in_trees d.trees) now ∙ w.archive_is;
-        remaining = n.1;
-        numbers_give_remaining = ap (λ (d : Database). map (message_at d.trees) (drop where_at left)) now
-            ∙ ap (λ k. map (message_at (current_rows g old.store)) (drop k left)) at
-            ∙ ap (λ l. map (message_at (current_rows g old.store)) (drop (old.walk.at + 1) l)) places ∙ n.4;
-        given_and_remaining = one_more given (archived_message list m) n.1 ∙ ap (λ x. given ++ x ∷ n.1) read ∙ joined;
-        all_are_of_list = w.all_are_of_list;
-      }
+      (n.0, n.1, joined, ap (λ l. message_from_result_row l row) (sym of_list) ∙ shown.2 ∙ same)
 
-  -- the walk is where it was, and these are the marks of the message that is next
-  pub seen_next : (old : Walk S) (new : Store S) (where_at : ℕ) (left : List ℤ) (d : ℤ) (marks : DatedMarks) → WalksOver g list all a given old
-      → old.walk.at < length old.walk.places.items → left ≡ old.walk.places.items
-      → where_at ≡ old.walk.at → current_database g new ≡ current_database g old.store → HoldsTables g new
-      → (it : Message) × (message_at (current_rows g old.store) (get_or old.walk.places.items old.walk.at d) ≡ Some it) × AreDatedMarksOf marks it
-      → WalksOn g list all a given (store_connection new) (drop where_at left) × ((next : Message) × (rest : List Message) × (given ++ next ∷ rest ≡ all) × AreDatedMarksOf marks next)
-  seen_next old new where_at left d marks w within places at now held shown =
-      let n = next_is (message_at (current_rows g old.store)) old.walk.places.items old.walk.at d w.remaining w.numbers_give_remaining within in
-      let same : shown.0 ≡ n.0 = some_is (sym shown.1 ∙ n.3) in (
-        record {
-          is_archive_at_rest = held;
-          archive_is = ap (λ (d : Database). archive_in_trees d.trees) now ∙ w.archive_is;
-          remaining = w.remaining;
-          numbers_give_remaining = ap (λ (d : Database). map (message_at d.trees) (drop where_at left)) now
-              ∙ ap (λ k. map (message_at (current_rows g old.store)) (drop k left)) at
-              ∙ ap (λ l. map (message_at (current_rows g old.store)) (drop old.walk.at l)) places ∙ w.numbers_give_remaining;
-          given_and_remaining = w.given_and_remaining;
-          all_are_of_list = w.all_are_of_list;
-        },
-        (n.0, n.1, ap (λ l. given ++ l) (sym n.2) ∙ w.given_and_remaining, subst (AreDatedMarksOf marks) same shown.2),
-      )
+  pub peeked_next : (old : Walk S) (row : MessageRow) → WalksOver g list all a given old → old.walk.peeked ≡ Some row → IsRowOfNext row
+  peeked_next old row w some =
+      let first = first_of_row list row w.remaining (subst (λ o. IfSome o (λ row. IsRowOfFirst list row w.remaining)) some w.peeked_is_of_next) in
+      (first.0, first.1, ap (λ l. given ++ l) (sym first.2) ∙ w.given_and_remaining, first.3)
+
+  -- the row of the next message is held
+  pub with_row : (old : Walk S) (row : MessageRow) → WalksOver g list all a given old → IsRowOfNext row
+      → WalksOn g list all a given (store_connection old.store) (remaining_numbers old.walk) (Some row)
+  with_row old row w next =
+      let left : w.remaining ≡ next.0 ∷ next.1 = same_behind given w.remaining (next.0 ∷ next.1) (w.given_and_remaining ∙ sym next.2) in
+      record {
+        is_archive_at_rest = w.is_archive_at_rest;
+        archive_is = w.archive_is;
+        remaining = w.remaining;
+        numbers_give_remaining = w.numbers_give_remaining;
+        given_and_remaining = w.given_and_remaining;
+        all_are_of_list = w.all_are_of_list;
+        peeked_is_of_next = subst (IsRowOfFirst list row) (sym left) next.3;
+      }
 
   -- the next message is passed by
   pub passed_next : (store : Store S) (old new : MessageWalk) (next : Message) (rest : List Message) → WalksOver g list all a given (walk_over_store store old) → given ++ next ∷ rest ≡ all
-      → remaining_numbers new ≡ drop 1 (remaining_numbers old) → WalksOver g list all a (given ++ next ∷ []) (walk_over_store store new)
+      → PassesNext old new → WalksOver g list all a (given ++ next ∷ []) (walk_over_store store new)
   passed_next store old new next rest w is passed =
       let left : w.remaining ≡ next ∷ rest = same_behind given w.remaining (next ∷ rest) (w.given_and_remaining ∙ sym is) in
       record {
         is_archive_at_rest = w.is_archive_at_rest;
         archive_is = w.archive_is;
         remaining = rest;
-        numbers_give_remaining = ap (map (message_at (current_rows g store))) passed ∙ behind_first (message_at (current_rows g store)) (remaining_numbers old) next rest
+        numbers_give_remaining = ap (map (message_at (current_rows g store))) passed.0 ∙ behind_first (message_at (current_rows g store)) (remaining_numbers old) next rest
             (w.numbers_give_remaining ∙ ap (map Some) left);
         given_and_remaining = one_more given next rest ∙ is;
         all_are_of_list = w.all_are_of_list;
+        peeked_is_of_next = subst (λ o. IfSome o (λ row. IsRowOfFirst list row rest)) (sym passed.1) tt;
       }
 
 -- one message more was read

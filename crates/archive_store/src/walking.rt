@@ -1,33 +1,35 @@
 //! Walks over the messages of a list.
-ghost use Rattle.std.specs.Prelude.{◌≡◌, ◌+◌, ◌∷◌, [], drop, map, slice_get, pos, IfOk, MatchResult, MatchOption, ◌-◌};
+ghost use Rattle.std.specs.Prelude.{◌≡◌, ◌+◌, ◌∷◌, [], map, slice_get, pos, IfOk, MatchResult, MatchOption, ◌-◌};
 ghost use Rattle.archive_model.specs.Messages.{archived_message};
 ghost use Rattle.archive_model.specs.Questions.{list_refusal, messages_in};
 ghost use Rattle.archive_tables.specs.Calls.{AnswersFromRows};
-ghost use Rattle.archive_tables.specs.Rows.{rowid_result_row};
+ghost use Rattle.archive_tables.specs.Rows.{decoded_dated_marks, message_from_result_row, rowid_result_row};
 ghost use Rattle.archive_store.specs.Held.{store_connection};
 ghost use Rattle.archive_model.specs.Commands.{no_list};
 ghost use Rattle.archive_port.specs.Replies.{IsRefusedOnlyFor};
 ghost use Rattle.archive_store.specs.Told.{EndsQuestion, EndsQuestionOrUnreadable, EndsUnrefused, WritesNothing};
 ghost use Rattle.archive_port.specs.Messages.{IsReadable};
-ghost use Rattle.archive_store.specs.Walking.{GivesNext, GivesAll, E15MeansNextUnreadable, E15MeansSomeUnreadable, ShowsMessage, ShowsMarks, PeeksNextMarks, E15MeansMessageUnreadable};
-ghost use Rattle.archive_store.specs.Walking.{FindsMessageNumbers, IsWalkNotBegun, remaining_numbers, remaining_count, walk_over_store, selected_numbers};
+ghost use Rattle.archive_store.specs.Walking.{GivesNext, GivesAll, E15MeansNextUnreadable, E15MeansSomeUnreadable, ShowsRow, PeeksNextMarks, E15MeansMessageUnreadable};
+ghost use Rattle.archive_store.specs.Walking.{FindsMessageNumbers, IsWalkNotBegun, TakesNextRow, PassesNext, TakesRowIfLeft, remaining_count, walk_over_store, selected_numbers};
 
 use crate::store::Store;
 use crate::words::month_number;
 use archive_database::reading::{checked_dated_marks, checked_message, read_rowids};
 use archive_model::Message;
 use archive_port::{DatedMarks, StoreFault};
+use archive_tables::rows::{DatedMarksRow, MessageRow};
 use archive_tables::texts;
 use civil_time::Month;
 use sqlite::{Alter, Connection, Error, Row};
 use std::alloc::Global;
 
 /// Messages of a list, one at a time: all in mailbox order, or those of a month or an author. It holds the numbers of the messages,
-/// and no message, and each call is told the store. It may be dropped at any message.
+/// and the row of the next one if that was peeked at; each call is told the store. It may be dropped at any message.
 #[derive(Drop)]
 pub struct MessageWalk {
     places: Vec<i64>,
     at: usize,
+    peeked: Option<MessageRow>,
 }
 
 /// Which messages of a list are walked over: all, in mailbox order; or those that are filed under a month or an author key, by
@@ -140,7 +142,11 @@ impl<S: Alter> Store<S> {
         ensures writes_nothing { WritesNothing S.Store self.old self.new }
     {
         let places = find_places(self, alloc, list, which)?;
-        Ok(MessageWalk { places, at: 0 })
+        Ok(MessageWalk {
+            places,
+            at: 0,
+            peeked: None,
+        })
     }
 }
 
@@ -163,35 +169,57 @@ impl MessageWalk {
         ensures ends { EndsUnrefused S.Store store.old store.new result }
         ensures writes_nothing { WritesNothing S.Store store.old store.new }
     {
-        let Some(place) = place_at(&self.places, self.at) else {
+        let Some(row) = self.take_row(store)? else {
             return Ok(None);
         };
-        let message = message_at(store, place)?;
-        self.at += 1;
+        let message = store.wants.pass_fault(checked_message(row))?;
+        self.pass();
         Ok(Some(message))
     }
 
-    /// The arrival and the marks of the next message, which stays the next: its text is not read. `None` where all were given.
+    /// The arrival and the marks of the next message, which stays the next: its row is read, and its text is not looked at. `None`
+    /// where all were given.
     pub fn peek_marks<S: Alter>(
-        &self,
+        &mut self,
         store: &mut Store<S>,
     ) -> Result<Option<DatedMarks>, StoreFault>
-        ensures shown { PeeksNextMarks S.Store (walk_over_store store.old self.now) (walk_over_store store.new self.now) result }
-        ensures caused { E15MeansNextUnreadable S.Store (walk_over_store store.old self.now) (walk_over_store store.new self.now) result }
+        ensures shown { PeeksNextMarks S.Store (walk_over_store store.old self.old) (walk_over_store store.new self.new) result }
+        ensures caused { E15MeansNextUnreadable S.Store (walk_over_store store.old self.old) (walk_over_store store.new self.new) result }
         ensures ends { EndsUnrefused S.Store store.old store.new result }
         ensures writes_nothing { WritesNothing S.Store store.old store.new }
     {
+        let Some(row) = self.take_row(store)? else {
+            return Ok(None);
+        };
+        let marks = checked_dated_marks(marks_in(&row));
+        self.peeked = Some(row);
+        Ok(Some(store.wants.pass_fault(marks)?))
+    }
+
+    /// The row of the next message, as it was peeked at or as the store has it. `None` where all were given.
+    fn take_row<S: Alter>(&mut self, store: &mut Store<S>) -> Result<Option<MessageRow>, StoreFault>
+        ensures given { TakesNextRow S.Store (walk_over_store store.old self.old) (walk_over_store store.new self.new) result }
+        ensures left { TakesRowIfLeft self.old self.new result }
+        ensures caused { E15MeansNextUnreadable S.Store (walk_over_store store.old self.old) (walk_over_store store.new self.new) result }
+        ensures ends { EndsUnrefused S.Store store.old store.new result }
+        ensures writes_nothing { WritesNothing S.Store store.old store.new }
+    {
+        let peeked = self.peeked.take();
         let Some(place) = place_at(&self.places, self.at) else {
             return Ok(None);
         };
-        Ok(Some(marks_at(store, place)?))
+        match peeked {
+            Some(row) => Ok(Some(row)),
+            None => Ok(Some(row_at(store, place)?)),
+        }
     }
 
     /// Passes the next message by, as if it were given. It does nothing where all were given.
     pub fn pass(&mut self)
-        ensures passed { remaining_numbers self.new ≡ drop 1 (remaining_numbers self.old) }
+        ensures passed { PassesNext self.old self.new }
         ensures left { remaining_count self.new ≡ remaining_count self.old - 1 }
     {
+        self.peeked = None;
         if self.at < self.places.len() {
             self.at = self.at + 1;
         }
@@ -266,30 +294,27 @@ fn place_at(places: &[i64], at: usize) -> Option<i64>
     places.get(at).copied()
 }
 
-/// The message of a number.
-fn message_at<S: Alter>(store: &mut Store<S>, place: i64) -> Result<Message, StoreFault>
-    ensures shown { ShowsMessage S.Store store.old store.new place result }
+/// The row of the message of a number.
+fn row_at<S: Alter>(store: &mut Store<S>, place: i64) -> Result<MessageRow, StoreFault>
+    ensures shown { ShowsRow S.Store store.old store.new place result }
     ensures caused { E15MeansMessageUnreadable S.Store store.old store.new place result }
     ensures ends { EndsUnrefused S.Store store.old store.new result }
     ensures writes_nothing { WritesNothing S.Store store.old store.new }
 {
     let found = texts::messages::message_at(&mut store.conn, place);
     match store.wants.pass(found)? {
-        Some(row) => store.wants.pass_fault(checked_message(row)),
+        Some(row) => Ok(row),
         None => Err(StoreFault::Store),
     }
 }
 
-/// The arrival and the marks of the message of a number.
-fn marks_at<S: Alter>(store: &mut Store<S>, place: i64) -> Result<DatedMarks, StoreFault>
-    ensures shown { ShowsMarks S.Store store.old store.new place result }
-    ensures caused { E15MeansMessageUnreadable S.Store store.old store.new place result }
-    ensures ends { EndsUnrefused S.Store store.old store.new result }
-    ensures writes_nothing { WritesNothing S.Store store.old store.new }
+/// The arrival and the marks in the row of a message.
+fn marks_in(row: &MessageRow) -> DatedMarksRow
+    ensures { (list : _) → result ≡ decoded_dated_marks (message_from_result_row list row.now) }
 {
-    let found = texts::messages::marks_at(&mut store.conn, place);
-    match store.wants.pass(found)? {
-        Some(row) => store.wants.pass_fault(checked_dated_marks(row)),
-        None => Err(StoreFault::Store),
+    DatedMarksRow {
+        arrival: row.arrival,
+        withdrawn: row.withdrawn,
+        embargo: row.embargo,
     }
 }

@@ -1,54 +1,51 @@
-use Rattle.std.proofs.Common.{◌≡◌, ◌∙◌, ap, sym, refl, arith, Some, None, w64}
-use Rattle.std.specs.Prelude.{slice_get}
-use Rattle.std.proofs.lemmas.Int.{to_z-of_z}
-use Rattle.std.proofs.lemmas.Option.{get_or_from_slice_get, slice_get_within}
-use Rattle.archive_tables.specs.Rows.{message_at}
-use Rattle.archive_store.specs.Walking.{walk_over_store, current_rows}
-use Rattle.archive_store.proofs.WalkingLemmas.{all_given, past_end, seen_next, unread_next}
+use Rattle.std.proofs.Common.{◌∙◌, ap, Err, inr, rules}
+use Rattle.archive_tables.specs.Rows.{decoded_dated_marks}
+use Rattle.archive_tables.proofs.RunLemmas.{on_fault}
+use Rattle.archive_store.specs.Walking.{remaining_count, walk_over_store}
 use Rattle.archive_store.proofs.CauseLemmas.{passed_on}
+use Rattle.archive_store.proofs.FindLemmas.{blames_read}
+use Rattle.archive_store.proofs.WalkingLemmas.{with_row}
 use Rattle.archive_store.proofs.walking.MessageWalk.peek_marks.Goals as goal
 
 pub returns-in_default-clause-shown : goal.returns-in_default-clause-shown
 returns-in_default-clause-shown g c = record {
-  gives_next_marks = λ returned list all a given w.
-      let walk = c.args.self.now in
-      let none : slice_get walk.places.items walk.at ≡ None = ap (λ l. slice_get l walk.at) (sym c.deref.ensures.value) ∙ sym c.place_at.ensures ∙ c.in_default.is in (
-        w,
-        all_given (message_at (current_rows g.S.Store c.args.store.now)) walk.places.items walk.at given w.remaining all w.numbers_give_remaining w.given_and_remaining
-            (past_end walk.places.items walk.at none),
-      );
-  remaining_is_same = refl;
+  gives_next_marks = λ returned list all a given w. rw c.in_default.is at (c.in_ok-row.ensures.given returned list all a given w);
+  remaining_is_same = ap remaining_count c.in_ok-row.ensures.left.0;
   some_means_remaining = tt;
   fault_is_no_refusal = tt;
+}
+
+pub returns-in_err-pass_fault-clause-shown : goal.returns-in_err-pass_fault-clause-shown
+returns-in_err-pass_fault-clause-shown g c = record {
+  gives_next_marks = λ returned list all a given w.
+      let next = rw c.in-Some.is at (c.in_ok-row.ensures.given returned list all a given w) in
+      on_fault _ _ c.from_residual-in_err-pass_fault.result c.from_residual-in_err-pass_fault.ensures.1
+      (λ up. with_row g.S.Store list all a given (walk_over_store c.take_row.new.store c.take_row.new.self) c.in-Some.row next.0 next.1);
+  remaining_is_same = ap remaining_count c.in_ok-row.ensures.left.0;
+  some_means_remaining = search rules;
+  fault_is_no_refusal = search rules;
 }
 
 pub returns-clause-shown : goal.returns-clause-shown
 returns-clause-shown g c = record {
   gives_next_marks = λ returned list all a given w.
-      let walk = c.args.self.now in
-      let place = c.in-Some.place in
-      let fits = rw c.in-Some.is at c.place_at.type_inv in
-      let itself = to_z-of_z w64 place (record { sfits = assumption fits }) in
-      let some : slice_get walk.places.items walk.at ≡ Some place = ap (λ l. slice_get l walk.at) (sym c.deref.ensures.value) ∙ sym c.place_at.ensures ∙ c.in-Some.is in
-      let shown = rw itself at (c.in_ok-marks_at.ensures.shown returned w.is_archive_at_rest) in
-      seen_next g.S.Store list all a given (walk_over_store c.args.store.now walk) c.marks_at.new.store walk.at walk.places.items place c.in_ok-marks_at.field-0 w
-      (slice_get_within walk.places.items walk.at place some) refl refl shown.1 shown.2
-      (shown.0.0, ap (message_at (current_rows g.S.Store c.args.store.now)) (get_or_from_slice_get walk.places.items walk.at place place some) ∙ shown.0.1, shown.0.2);
-  remaining_is_same = refl;
-  some_means_remaining =
-      let walk = c.args.self.now in
-      let some : slice_get walk.places.items walk.at ≡ Some c.in-Some.place = ap (λ l. slice_get l walk.at) (sym c.deref.ensures.value) ∙ sym c.place_at.ensures ∙ c.in-Some.is in
-      let within = slice_get_within walk.places.items walk.at c.in-Some.place some in
-      omega (arith, within);
+      let next = rw c.in-Some.is at (c.in_ok-row.ensures.given returned list all a given w) in
+      let read = rw c.in_ok-pass_fault.ensures.passed at c.checked_dated_marks-marks.ensures.read in (
+        with_row g.S.Store list all a given (walk_over_store c.take_row.new.store c.take_row.new.self) c.in-Some.row next.0 next.1,
+        (next.1.0, next.1.1, next.1.2, read next.1.0 (c.marks_in.ensures list ∙ ap decoded_dated_marks next.1.3)),
+      );
+  remaining_is_same = ap remaining_count c.in_ok-row.ensures.left.0;
+  some_means_remaining = rw c.in-Some.is at c.in_ok-row.ensures.left.1;
   fault_is_no_refusal = tt;
 }
 
-pub returns-in_err-marks_at-clause-caused : goal.returns-in_err-marks_at-clause-caused
-returns-in_err-marks_at-clause-caused g c = λ returned list all a given w free.
-    let walk = c.args.self.now in
-    let place = c.in-Some.place in
-    let fits = rw c.in-Some.is at c.place_at.type_inv in
-    let itself = to_z-of_z w64 place (record { sfits = assumption fits }) in
-    let some : slice_get walk.places.items walk.at ≡ Some place = ap (λ l. slice_get l walk.at) (sym c.deref.ensures.value) ∙ sym c.place_at.ensures ∙ c.in-Some.is in
-    passed_on c.from_residual.result c.in_err-marks_at.field-0.0 _ c.from_residual.ensures.1
-    (λ it. unread_next g.S.Store list all a given (walk_over_store c.args.store.now walk) place w some _ (rw itself at (c.in_err-marks_at.ensures.caused returned w.is_archive_at_rest free it)))
+pub returns-in_err-row-clause-caused : goal.returns-in_err-row-clause-caused
+returns-in_err-row-clause-caused g c = λ returned list all a given w free.
+    passed_on c.from_residual.result c.in_err-row.field-0.0 _ c.from_residual.ensures.1 (c.in_err-row.ensures.caused returned list all a given w free)
+
+pub returns-in_err-pass_fault-clause-caused : goal.returns-in_err-pass_fault-clause-caused
+returns-in_err-pass_fault-clause-caused g c = λ returned list all a given w free.
+    let next = rw c.in-Some.is at (c.in_ok-row.ensures.given returned list all a given w) in
+    passed_on c.from_residual-in_err-pass_fault.result c.in_err-pass_fault.field-0.0 _ c.from_residual-in_err-pass_fault.ensures.1
+    (blames_read c.checked_dated_marks-marks.result (Err c.in_err-pass_fault.field-0.0) _ c.in_err-pass_fault.ensures.passed c.checked_dated_marks-marks.ensures.unread
+    (λ e unread is. inr (next.1.0, next.1.1, next.1.2, unread.1 next.1.0 (c.marks_in.ensures list ∙ ap decoded_dated_marks next.1.3))))

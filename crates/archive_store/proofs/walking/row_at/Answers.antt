@@ -1,4 +1,4 @@
-use Rattle.std.proofs.Common.{◌∙◌, Err, w64, sym, inr, subst}
+use Rattle.std.proofs.Common.{Err, w64, inr, subst}
 use Rattle.std.proofs.lemmas.Int.{to_z-of_z}
 use Rattle.std.specs.Option.{IsSomeAnd}
 use Rattle.sqlite.specs.Held.{state}
@@ -6,8 +6,8 @@ use Rattle.archive_tables.specs.Rows.{message_at}
 use Rattle.archive_tables.proofs.RunLemmas.{on_fault}
 use Rattle.archive_port.specs.Messages.{IsReadable}
 use Rattle.archive_store.proofs.CauseLemmas.{passed_on}
-use Rattle.archive_store.proofs.FindLemmas.{blames_passed, blames_read, finds_read, passed_rows, passed_no_rows, unread_row}
-use Rattle.archive_store.proofs.walking.message_at.Goals as goal
+use Rattle.archive_store.proofs.FindLemmas.{blames_passed, passed_rows, passed_no_rows, unread_row}
+use Rattle.archive_store.proofs.walking.row_at.Goals as goal
 
 pub returns-in_err-row-clause-shown : goal.returns-in_err-row-clause-shown
 returns-in_err-row-clause-shown g c = λ clean kept.
@@ -16,9 +16,7 @@ returns-in_err-row-clause-shown g c = λ clean kept.
 pub returns-in-Some-clause-shown : goal.returns-in-Some-clause-shown
 returns-in-Some-clause-shown g c = λ clean kept.
     let itself = to_z-of_z w64 c.args.place c.ranges.place in
-    let held = rw (itself, c.in-Some.is) at (passed_rows c.message_at-found.ensures c.in_ok-row.ensures.passed clean kept) in
-    finds_read c.checked_message.result c.pass_fault.result _ _ c.pass_fault.ensures.passed c.checked_message.ensures.read
-    (λ message read. ((held.0.0, held.0.1, read held.0.0.list ∙ held.0.2), held.1, held.2)) (λ up. (held.1, held.2))
+    rw (itself, c.in-Some.is) at (passed_rows c.message_at-found.ensures c.in_ok-row.ensures.passed clean kept)
 
 pub returns-in-None-clause-shown : goal.returns-in-None-clause-shown
 returns-in-None-clause-shown g c = λ clean kept up.
@@ -32,13 +30,6 @@ returns-in_err-row-clause-caused g c = λ clean kept free.
     (λ it. unread_row (message_at (state g.S.Store c.args.store.now.conn).now.trees c.args.place)
     (rw itself at (blames_passed g.S.Store c.args.store.now.conn c.message_at-found.new.conn c.message_at-found.result (Err c.in_err-row.field-0.0) _
     c.in_err-row.ensures.passed c.message_at-found.ensures.fault_has_cause clean kept free it)))
-
-pub returns-in-Some-clause-caused : goal.returns-in-Some-clause-caused
-returns-in-Some-clause-caused g c = λ clean kept free.
-    let itself = to_z-of_z w64 c.args.place c.ranges.place in
-    let held = rw (itself, c.in-Some.is) at (passed_rows c.message_at-found.ensures c.in_ok-row.ensures.passed clean kept) in
-    blames_read c.checked_message.result c.pass_fault.result _ c.pass_fault.ensures.passed c.checked_message.ensures.unread
-    (λ e unread is. inr (λ some. unread.1 held.0.0.list (subst IsReadable (sym held.0.2) (subst (λ o. IsSomeAnd o IsReadable) held.0.1 some))))
 
 pub returns-in-None-clause-caused : goal.returns-in-None-clause-caused
 returns-in-None-clause-caused g c = λ clean kept free it.
