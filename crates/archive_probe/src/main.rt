@@ -86,7 +86,13 @@ fn carry_out<S: Alter>(
 fn open(rt: &HostRuntime, path: &str) -> anyhow::Result<Store<FileStore<File>>> {
     match Store::adopt(Connection::open(rt, path)?) {
         Ok(store) => Ok(store),
-        Err(AdoptStop { connection, fault }) => {
+        Err(
+            AdoptStop {
+                connection,
+                fault,
+                wants: _wants,
+            },
+        ) => {
             connection.close()?;
             Err(fault.into())
         }

@@ -23,6 +23,8 @@ pub struct AdoptStop<S: Alter> {
     pub connection: Connection<S>,
     /// Why it was not adopted.
     pub fault: StoreFault,
+    /// How often memory was refused meanwhile.
+    pub wants: RefusalCounter,
 }
 
 impl Store<MemStore> {
@@ -40,6 +42,7 @@ impl Store<MemStore> {
                 AdoptStop {
                     connection: _connection,
                     fault,
+                    wants: _wants,
                 },
             ) => Err(fault),
         }
@@ -69,10 +72,15 @@ impl<S: Alter> Store<S> {
                     wants: RefusalCounter::new(),
                 })
             }
-            Err(fault) => Err(AdoptStop {
-                connection: conn,
-                fault: StoreFault::from(fault),
-            }),
+            Err(fault) => {
+                let mut wants = RefusalCounter::new();
+                let fault = wants.fault_of(fault);
+                Err(AdoptStop {
+                    connection: conn,
+                    fault,
+                    wants,
+                })
+            }
         }
     }
 }

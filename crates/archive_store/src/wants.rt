@@ -1,5 +1,5 @@
 //! How often memory was refused.
-ghost use Rattle.std.specs.Prelude.{◌≡◌, ◌+◌, ◌<◌, None, Ok, IfErr, IsErrAnd, MatchResult};
+ghost use Rattle.std.specs.Prelude.{◌≡◌, ◌+◌, None, Ok, Err, IfErr, IsErrAnd, MatchResult};
 ghost use Rattle.archive_store.specs.Replies.{store_fault_of_error};
 ghost use Rattle.archive_database.specs.Faults.{as_store_fault};
 ghost use Rattle.archive_port.specs.Replies.{refusal_of_fault};
@@ -87,8 +87,18 @@ impl RefusalCounter {
     {
         match told {
             Ok(found) => Ok(found),
-            Err(DatabaseError::Memory) => Err(self.counted(StoreFault::Memory)),
-            Err(DatabaseError::Database) => Err(StoreFault::Store),
+            Err(error) => Err(self.fault_of(error)),
+        }
+    }
+
+    /// What an error of that is called: E14, which is counted, or E15.
+    pub(crate) fn fault_of(&mut self, error: DatabaseError) -> StoreFault
+        ensures called { result ≡ as_store_fault error }
+        ensures counted { RaisesCountOnlyIfRefused {A = Unit {0}} IsMemoryRefusal self.old self.new (Err result) }
+    {
+        match error {
+            DatabaseError::Memory => self.counted(StoreFault::Memory),
+            DatabaseError::Database => StoreFault::Store,
         }
     }
 }

@@ -72,6 +72,7 @@ fn import_connection<D: Disk + Drop>(
             AdoptStop {
                 connection,
                 fault: _fault,
+                wants: _wants,
             },
         ) => (None, connection.into_store().close()),
     }

@@ -73,6 +73,7 @@ pub(crate) fn open<D: Disk + Drop>(
             AdoptStop {
                 connection: _connection,
                 fault,
+                wants: _wants,
             },
         ) => Err(fault),
     }

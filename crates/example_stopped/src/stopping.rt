@@ -33,6 +33,7 @@ pub fn open<D: Disk + Drop>(
             AdoptStop {
                 connection: _connection,
                 fault,
+                wants: _wants,
             },
         ) => Err(fault),
     }

@@ -207,6 +207,7 @@ fn over_connection<D: Disk + Drop>(
             AdoptStop {
                 connection,
                 fault: _fault,
+                wants: _wants,
             },
         ) => Ok((Stage::Shut, connection.into_store().close())),
     }

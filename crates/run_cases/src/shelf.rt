@@ -116,7 +116,13 @@ fn adopt(alloc: Global, files: Files<Memory>) -> Result<Store<FileStore<Memory>>
     };
     match Store::adopt(connection) {
         Ok(store) => Ok(store),
-        Err(AdoptStop { connection, fault }) => Err(Unopened {
+        Err(
+            AdoptStop {
+                connection,
+                fault,
+                wants: _wants,
+            },
+        ) => Err(Unopened {
             files: connection.into_store().close(),
             fault,
         }),

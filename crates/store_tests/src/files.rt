@@ -72,6 +72,7 @@ fn tell_connection<D: Disk + Drop>(
             AdoptStop {
                 connection,
                 fault: _fault,
+                wants: _wants,
             },
         ) => Ok((None, connection.into_store().close())),
     }

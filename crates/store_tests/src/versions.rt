@@ -98,7 +98,13 @@ fn refused(
 ) -> Result<(Option<StoreFault>, Files<Memory>), Fail> {
     match Store::adopt(open(alloc, files)?) {
         Ok(store) => Ok((None, close(store.into_connection())?)),
-        Err(AdoptStop { connection, fault }) => Ok((Some(fault), close(connection)?)),
+        Err(
+            AdoptStop {
+                connection,
+                fault,
+                wants: _wants,
+            },
+        ) => Ok((Some(fault), close(connection)?)),
     }
 }
 

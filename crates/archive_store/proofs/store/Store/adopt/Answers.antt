@@ -67,6 +67,7 @@ returns-in-Err-clause-refused g c =
             (w.make_tables-done.ensures.ends.fault_has_cause clean_1 (idle, premise) free) (is_database _ (search rules)) in
             subst (λ h. MoreFaults old.faults (state g.S.Store h).faults ⊎ IsAdoptionRefused old.now) (sym w.conn-is) (elim why [ inl more ↦ inl more | inr refused ↦ absurd refused ]);
         fault_is_no_refusal = search rules;
+        refusal_is_counted = search rules;
         disk_was_clean = search rules;
         crash = adopts_at g.S.Store c.args.connection w.make_tables-done.new.conn c.if-is_empty_database.conn w.conn-is
             (record {
@@ -90,6 +91,7 @@ returns-in-Err-clause-refused g c =
             (w.migrate_tables-done.ensures.ends.fault_has_cause clean_1 (idle, premise) free) (is_database _ (search rules)) in
             subst (λ h. MoreFaults old.faults (state g.S.Store h).faults ⊎ IsAdoptionRefused old.now) (sym w.conn-is) why;
         fault_is_no_refusal = search rules;
+        refusal_is_counted = search rules;
         disk_was_clean = search rules;
         crash = adopts_at g.S.Store c.args.connection w.migrate_tables-done.new.conn c.if-is_empty_database.conn w.conn-is
             (record {
