@@ -151,11 +151,12 @@ def main(words):
             print(f"check: run rt fmt in {', '.join(wanting)}\n0 passed, {len(wanting)} failed")
             return 1
         heard.end(part.run_ci(top, ["--anew"] if "--anew" in words else [], heard.hear))
-        if callers.CRATE in names:
-            heard.count(callers_answered(top), "callers of the library in C, Python and Rust did not get what they have to, or it was not built")
         heard.count(rows_hold(top), "worked calls under refused growths of memory: refused_rows was not built, or did not come to its answers")
         if by_rounds and not heard.failed:
             try_wrong_bodies(top, tried, heard)
+        # (last, since it builds the crates below the library anew: no round can stand on them then)
+        if callers.CRATE in names:
+            heard.count(callers_answered(top), "callers of the library in C, Python and Rust did not get what they have to, or it was not built")
     if "--record" in words:
         for name in tried:
             record.note(name, heard.refused_of(name) == counts[name])
