@@ -16,8 +16,9 @@ came), and times:
   - The mbox, read at the port in hundredths: in 40 rounds, the slowest hundredth lies at most 8 times at one place. It takes some thousands
     of messages, because a small mbox stalls where the buffers of the socket are full.
 
-It prints, and does not judge, the processor time of the first request of a server for the denied key of 1 MB and of BYTES, and for an
-absent key: medians of nine servers each. The database copies the row of a message with its text, also if nobody reads the text.
+It prints, and does not judge, the processor time of the first request of a server: for the denied key of 1 MB and of BYTES, and for an
+absent key; and for threads, without the message of BYTES and with it. These are medians of nine servers each. The database copies the
+row of a message with its text, also if nobody reads the text.
 
 Times want the proved program: one with run-time checks reads more. It wants Linux (`/proc`). The last line is 'N passed, N failed, N
 skipped'.
@@ -197,6 +198,18 @@ def first_requests(archives):
         print(f"figure the first request of a server for a denied key, {name}: {denied * 1000:.3f} ms, {denied / absent:.2f} times that for an absent key", flush=True)
 
 
+def first_threads(archives):
+    """What the first page of threads of a server takes, where the largest message never came, and where it is withheld."""
+    took = {"never": [], "largest": []}
+    for _ in range(FIRSTS):
+        for name in took:
+            server = archives.begin(name)
+            took[name].append(ask(server, archives.path(name, "threads")))
+            server.kill()
+    never, largest = map(median, took.values())
+    print(f"figure the first threads of a server, with the largest message withheld: {largest * 1000:.3f} ms, {largest / never:.2f} times those without", flush=True)
+
+
 def main():
     asked = words_of(__doc__, mails={"type": int, "default": 5000, "help": "how many messages a list has, twenty or more"},
                      rounds={"type": int, "default": 600, "help": "how often each route is asked"},
@@ -204,6 +217,7 @@ def main():
     with Trial() as trial, tempfile.TemporaryDirectory() as folder:
         archives = Archives(asked.archive, pathlib.Path(folder), asked)
         first_requests(archives)
+        first_threads(archives)
         archives.serve()
         one_message(trial, archives, asked.rounds)
         nothing_shown(trial, archives, asked.rounds)
