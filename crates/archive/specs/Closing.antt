@@ -1,6 +1,6 @@
 -- What the files of a database hold behind a close.
-use Rattle.std.proofs.Common.{◌≡◌, ap, refl, subst, arith, Option, Some, None, Result, Ok, Err}
-use Rattle.std.specs.Prelude.{MatchOption, MatchResult, ⊤}
+use Rattle.std.proofs.Common.{◌≡◌, ap, refl, subst, arith, Result, Ok, Err}
+use Rattle.std.specs.Prelude.{MatchResult}
 use Rattle.std.proofs.Math.Logic.{∥∥₁_map}
 use Rattle.sqlite_disk.specs.declared.Disk.{Ghosts}
 use Rattle.sqlite_disk.specs.declared.Files.{Files}
@@ -12,16 +12,18 @@ use Rattle.sqlite_catalog.specs.Listing.{Lists}
 use Rattle.sqlite_store.specs.declared.store.FileStore.{FileStore}
 use Rattle.sqlite_store.specs.FileStore.{recovers, view}
 use Rattle.sqlite_trees.specs.View.{IsClean}
+use Rattle.sqlite.specs.Closing.{IsCopied}
 use Rattle.sqlite.specs.Effect.{Database}
 use Rattle.sqlite.specs.declared.error.Error.{Error}
 use Rattle.sqlite.specs.Files.{over_files, file_state, image_of, FailsToClose, HoldsDatabase, IsClosed}
+use Rattle.sqlite.specs.Held.{Held}
 use Rattle.archive_model.specs.Records.{Archive}
 use Rattle.archive_tables.specs.Crashes.{IsArchiveStored}
 use Rattle.archive_tables.specs.Tables.{newest_version}
 use Rattle.archive_store.specs.Held.{store_connection}
 use Rattle.archive_store.specs.Told.{HoldsTables, IsOpen, archive_in}
 use Rattle.archive_store.specs.declared.store.Store.{Store}
-use Rattle.archive.specs.Opening.{ImageHoldsArchive, HoldsIfSome, holds_if_some_of_none}
+use Rattle.archive.specs.Opening.{ImageHoldsArchive}
 
 -- what a close gives: the files; or why it failed, and the store as the close left it
 abbrev pub CloseResult : {D : Type 0} → Ghosts D → Type 0
@@ -33,12 +35,16 @@ CrashLeavesArchive last archive = IsClean (view last) → (db : Trees) → recov
 
 -- If the disk has returned what was written to it, the rows of the files that a close handed back stand for this archive. If the close
 -- failed, a crash leaves this archive of the store.
-abbrev pub CloseResultHoldsArchive : {D : Type 0} (g : Ghosts D) → Option (CloseResult g) → Archive → Type 0
-CloseResultHoldsArchive g None archive = ⊤
-CloseResultHoldsArchive g (Some (Ok files)) archive = AreClean g files.log files.db → ∥ ImageHoldsArchive (image_of g files) archive ∥₁
-CloseResultHoldsArchive g (Some (Err failed)) archive = CrashLeavesArchive failed.1 archive
+abbrev pub CloseResultHoldsArchive : {D : Type 0} (g : Ghosts D) → CloseResult g → Archive → Type 0
+CloseResultHoldsArchive g (Ok files) archive = AreClean g files.log files.db → ∥ ImageHoldsArchive (image_of g files) archive ∥₁
+CloseResultHoldsArchive g (Err failed) archive = CrashLeavesArchive failed.1 archive
 
 module _ {D : Type 0} {g : Ghosts D} where
+  -- What a close of a connection gives: the files, which hold its last commit; or the store that is left, of which a crash may leave no more
+  -- than before the close.
+  abbrev pub IsConnectionCloseResult : Held (FileStore D g) → CloseResult g → Type 0
+  IsConnectionCloseResult connection closed = MatchResult closed (λ files. AreClean g files.log files.db → IsCopied connection files) (λ failed. IsClosed connection failed.1)
+
   -- The files of a store that was open hold what was committed, with a catalog that lists its schema.
   abbrev pub FilesHoldCommitted : Store (FileStore D g) → Files D → Type 0
   FilesHoldCommitted store files = AreClean g files.log files.db → IsOpen over_files store
@@ -52,11 +58,11 @@ module _ {D : Type 0} {g : Ghosts D} where
     pub error_has_cause : IsClean (view failed.1) → FailsToClose (store_connection store) failed.1 failed.0
     pub leaves_archive : HoldsTables over_files store → CrashLeavesArchive failed.1 (archive_in over_files store)
 
-  -- Something came of the close: the files hold what was committed, or it failed.
-  abbrev pub IsCloseResultOf : Option (CloseResult g) → Store (FileStore D g) → Type 0
-  IsCloseResultOf left store = MatchOption left ⊥ (λ closed. MatchResult closed (λ files. FilesHoldCommitted store files) (λ failed. FailedToClose store failed))
+  -- The files hold what was committed, or the close failed.
+  abbrev pub IsCloseResultOf : CloseResult g → Store (FileStore D g) → Type 0
+  IsCloseResultOf closed store = MatchResult closed (λ files. FilesHoldCommitted store files) (λ failed. FailedToClose store failed)
 
--- ---- the law of a system's device
+-- ---- what a close leaves
 
 module _ {D : Type 0} {g : Ghosts D} (store : Store (FileStore D g)) where
   -- what was committed is what the store remembers
@@ -73,13 +79,8 @@ module _ {D : Type 0} {g : Ghosts D} (store : Store (FileStore D g)) where
         rows_stand_for_archive = refl;
       }
 
-  still_holds : (left : Option (CloseResult g)) → IsCloseResultOf left store → HoldsTables over_files store → CloseResultHoldsArchive g left (archive_in over_files store)
-  still_holds None closed kept = tt
-  still_holds (Some (Ok files)) closed kept = λ clean.
+  pub close_result_holds_archive : (closed : CloseResult g) → IsCloseResultOf closed store → HoldsTables over_files store → CloseResultHoldsArchive g closed (archive_in over_files store)
+  close_result_holds_archive (Ok files) closed kept = λ clean.
       let it = closed clean kept.is_open in
       ∥∥₁_map it.0 (rows (image_of g files) kept it.1)
-  still_holds (Some (Err failed)) closed kept = closed.leaves_archive kept
-
-  pub close_result_holds_archive : {A : Type 0} (Says : Type 0) (before after : Option A) (left : Option (CloseResult g)) → (after ≡ before) × IsCloseResultOf left store → before ≡ None
-      → HoldsTables over_files store → HoldsIfSome after Says × CloseResultHoldsArchive g left (archive_in over_files store)
-  close_result_holds_archive Says before after left closed used kept = (holds_if_some_of_none after before Says closed.0 used, still_holds left closed.1 kept)
+  close_result_holds_archive (Err failed) closed kept = closed.leaves_archive kept

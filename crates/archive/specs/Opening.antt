@@ -1,6 +1,6 @@
 -- A store that was opened from files, by what the files held.
-use Rattle.std.proofs.Common.{◌≡◌, ◌∙◌, ap, inl, inr, refl, subst, sym, ℕ, Option, Some, None}
-use Rattle.std.specs.Prelude.{◌⊎◌, MatchOption, ⊤}
+use Rattle.std.proofs.Common.{◌≡◌, ◌∙◌, ap, inl, inr, subst, sym, ℕ, None}
+use Rattle.std.specs.Prelude.{◌⊎◌}
 use Rattle.sqlite_disk.specs.declared.Disk.{Ghosts}
 use Rattle.sqlite_wal.specs.Recovery.{Image}
 use Rattle.sqlite_trees.specs.Tree.{Trees}
@@ -20,7 +20,6 @@ use Rattle.archive_tables.specs.Schema.{empty_schema, schema_of_version}
 use Rattle.archive_tables.specs.Tables.{IsOpenArchiveInFormat, IsKnownVersion, AreTablesOfVersion, archive_of_version, format_of_version}
 use Rattle.archive_tables.specs.Making.{empty_archive}
 use Rattle.archive_store.specs.Adopting.{IsAdopted}
-use Rattle.archive_store.specs.Told.{HasNoStepLimit}
 use Rattle.archive_store.specs.declared.store.Store.{Store}
 use Rattle.archive_run.specs.Remembering.{StoreHoldsArchive}
 use Rattle.archive.specs.Unmade.{finds_no_row}
@@ -43,10 +42,6 @@ IsNewFile image = IsNothing image ⊎ ((trees : Trees) × HoldsDatabase image tr
 abbrev pub FileHoldsArchive : Image → Archive → Type 0
 FileHoldsArchive image archive = ImageHoldsArchive image archive ⊎ (IsNewFile image × (archive ≡ empty_archive))
 
--- This is so while there is a value, and nothing is said once it is used up.
-abbrev pub HoldsIfSome : {A : Type 0} → Option A → Type 0 → Type 0
-HoldsIfSome start Says = MatchOption start ⊤ (λ _. Says)
-
 module _ {D : Type 0} {g : Ghosts D} (image : Image) (store : Store (FileStore D g)) where
   -- A connection found what the files held, and the store took it over.
   pub record IsOpenedFromImage : Type 0 where
@@ -66,13 +61,13 @@ module _ {D : Type 0} {g : Ghosts D} (image : Image) (connection : Held (FileSto
   found_trees : FindsIn image (file_state connection) → (trees : Trees) → HoldsDatabase image trees → (file_state connection).now.trees ≡ trees
   found_trees found trees held = ap (λ (db : Database). db.trees) opens.0.clean ∙ found.holds trees held
 
-  finds_no_table : FindsIn image (file_state connection) → IsNewFile image → (file_state connection).now.schema ≡ empty_schema
+  pub finds_no_table : FindsIn image (file_state connection) → IsNewFile image → (file_state connection).now.schema ≡ empty_schema
   finds_no_table found (inl nothing) =
       let none = finds_no_row image (file_state connection).committed.trees nothing found.reads in
       has_schema (file_state connection).committed.trees empty_schema (ap (λ (db : Database). db.trees) opens.0.clean) (empty_is_sound (file_state connection).committed.trees none).lists
   finds_no_table found (inr empty) = has_schema empty.0 empty_schema (found_trees found empty.0 empty.1) empty.2
 
-  finds_tables : FindsIn image (file_state connection) → (archive : Archive) → (held : ImageHoldsArchive image archive)
+  pub finds_tables : FindsIn image (file_state connection) → (archive : Archive) → (held : ImageHoldsArchive image archive)
       → IsOpenArchiveInFormat (format_of_version held.number) None (file_state connection) × (archive_of_version held.number (file_state connection).now.trees ≡ archive)
   finds_tables found archive held =
       let trees = found_trees found held.trees held.database in (
@@ -89,7 +84,7 @@ module _ {D : Type 0} {g : Ghosts D} (image : Image) (connection : Held (FileSto
 
 module _ {D : Type 0} {g : Ghosts D} (image : Image) where
   -- the store remembers what the files held: of new files, the empty archive
-  opened_store_holds_archive : (store : Store (FileStore D g)) (archive : Archive) → IsOpenedFromImage image store → FileHoldsArchive image archive → StoreHoldsArchive over_files store archive
+  pub opened_store_holds_archive : (store : Store (FileStore D g)) (archive : Archive) → IsOpenedFromImage image store → FileHoldsArchive image archive → StoreHoldsArchive over_files store archive
   opened_store_holds_archive store archive was (inl held) returned =
       let clean = was.is_adopted.disk_was_clean returned in
       let found = finds_tables image was.connection (was.is_opened clean) (was.finds_image clean) archive held in
@@ -99,13 +94,3 @@ module _ {D : Type 0} {g : Ghosts D} (image : Image) where
       let clean = was.is_adopted.disk_was_clean returned in
       let made = was.is_adopted.makes_if_empty returned (finds_no_table image was.connection (was.is_opened clean) (was.finds_image clean) new.0) in
       (made.0, made.1 ∙ sym new.1)
-
-  pub opened_store_holds_if_some : {A : Type 0} (start : Option A) (archive : Archive) (store : Store (FileStore D g)) → HoldsIfSome start (FileHoldsArchive image archive)
-      → (start ≡ None → ⊥) → IsOpenedFromImage image store → StoreHoldsArchive over_files store archive × HasNoStepLimit over_files store
-  opened_store_holds_if_some None archive store held some was = absurd (some refl)
-  opened_store_holds_if_some (Some s) archive store held some was = (opened_store_holds_archive store archive was held, was.is_adopted.has_no_step_limit)
-
--- once it is used up, nothing is said
-pub holds_if_some_of_none : {A : Type 0} (now before : Option A) (Says : Type 0) → now ≡ before → before ≡ None → HoldsIfSome now Says
-holds_if_some_of_none None before Says same used = tt
-holds_if_some_of_none (Some s) before Says same used = cc

@@ -1,6 +1,6 @@
 -- Why a database of a system's files was not opened.
 use Rattle.std.specs.List.{starts_with}
-use Rattle.std.specs.Prelude.{◌≡◌, ◌⊎◌, ◌||◌, ℕ, Bool, false, List, Option, Some, None, IsTrue, bytes_eq, codes, nat_eq}
+use Rattle.std.specs.Prelude.{◌≡◌, ◌⊎◌, ◌||◌, ℕ, Bool, false, List, Option, Some, None, IsTrue, MatchOption, bytes_eq, codes, nat_eq}
 use Rattle.std.specs.declared.io.ErrorKind.{ErrorKind}
 use Rattle.std.specs.declared.io.ErrorKind.TheVariants.{OutOfMemory}
 use Rattle.std.specs.IoError.{error_kind}
@@ -8,6 +8,7 @@ use Rattle.sqlite_disk.specs.declared.Disk.{Ghosts}
 use Rattle.sqlite_disk.specs.declared.Files.{Files}
 use Rattle.sqlite_std_file.specs.declared.pair.OpenError.{OpenError}
 use Rattle.sqlite_std_file.specs.declared.pair.OpenError.TheVariants as opening
+use Rattle.sqlite_wal.specs.Files.{outcomes}
 use Rattle.sqlite_wal.specs.Recovery.{Image}
 use Rattle.sqlite_store.specs.declared.store.FileStore.{FileStore}
 use Rattle.sqlite.specs.Files.{over_files, file_state, image_of, FailsToOpenFiles, IsCleanLeft, IsClosed, IsOpened, LeavesFiles}
@@ -21,6 +22,9 @@ use Rattle.archive_store.specs.Replies.{store_fault_of_error}
 use Rattle.archive_store.specs.declared.adopting.AdoptStop.{AdoptStop}
 use Rattle.archive_port.specs.declared.faults.StoreFault.{StoreFault}
 use Rattle.archive_port.specs.declared.faults.StoreFault.TheVariants.{Memory, Store}
+use Rattle.archive.specs.Closing.{CloseResult, IsConnectionCloseResult}
+use Rattle.archive.specs.declared.databases.FilesLeft.{FilesLeft}
+use Rattle.archive.specs.declared.databases.FilesLeft.TheVariants.{NotOpened, Unread, NotAdopted}
 
 -- the names that stand for a database in memory, or for a URI
 abbrev pub is_memory_or_uri_name : List ℕ → Bool
@@ -38,26 +42,30 @@ store_fault_of_open_error (opening.Io cause) = store_fault_of_kind (error_kind c
 store_fault_of_open_error opening.Busy = Store
 store_fault_of_open_error opening.HotJournal = Store
 
--- what a system gave, and the name of a database whose files held this
+-- what a system gave, the name of a database, whose files held this, and what is left of them
 module _ {R D : Type 0} (g : Ghosts D) (seeds : R → Bool → Type 0) (opens : R → List ℕ → Option OpenError → Type 0) (system : R) (name : List ℕ)
-    (image : Image) where
+    (image : Image) (left : FilesLeft D g) where
   -- The files were opened, and no connection came of them, by what the database says of files that it does not open. It says what it
   -- leaves of the files: only if there was no database, they may have been written over.
   pub record FailsToReadFiles (fault : StoreFault) : Type 0 where
     pub opens_name : opens system name None
     pub files : Files D
     pub image_is : image_of g files ≡ image
+    -- a crash at their opening leaves this and nothing else
+    pub leaves_only_image : (other : Image) → outcomes g files.log files.db other → other ≡ image_of g files
     pub leftover : Leftover D g
     pub error : Error
     pub cause : IsCleanLeft leftover → FailsToOpenFiles files leftover error
     pub leaves_files : IsCleanLeft leftover → LeavesFiles files leftover
+    pub left_is : left ≡ Unread leftover
     pub fault_is_of_error : fault ≡ store_fault_of_error error
 
   -- No connection: E15 if the name stands for no file, or the system gave no random bytes; or the files were not opened, or not read.
   abbrev pub FailsToConnect : StoreFault → Type 0
   FailsToConnect fault =
-      (IsTrue (is_memory_or_uri_name name) × (fault ≡ Store))
-      ⊎ ((seeds system false × (fault ≡ Store)) ⊎ (((error : OpenError) × opens system name (Some error) × (fault ≡ store_fault_of_open_error error)) ⊎ FailsToReadFiles fault))
+      ((left ≡ NotOpened) × ((IsTrue (is_memory_or_uri_name name) × (fault ≡ Store))
+      ⊎ ((seeds system false × (fault ≡ Store)) ⊎ ((error : OpenError) × opens system name (Some error) × (fault ≡ store_fault_of_open_error error)))))
+      ⊎ FailsToReadFiles fault
 
   -- A connection found what the files held, and the store did not take it over, for this fault. The connection was closed, so a crash may
   -- leave no more of it than before the close.
@@ -70,8 +78,17 @@ module _ {R D : Type 0} (g : Ghosts D) (seeds : R → Bool → Type 0) (opens : 
     pub is_not_adopted : IsNotAdopted over_files connection stop
     pub last : FileStore D g
     pub is_closed : IsClosed stop.connection last
+    pub closed : CloseResult g
+    pub closes : IsConnectionCloseResult stop.connection closed
+    pub left_is : left ≡ NotAdopted closed
     pub fault_is_of_stop : fault ≡ stop.fault
 
   -- no archive: there is no connection, or the store did not take it over
   abbrev pub FailsToOpenStore : StoreFault → Type 0
   FailsToOpenStore fault = FailsToConnect fault ⊎ FailsToAdopt fault
+
+-- A device does not open a database. If it did before, it has what it had; else what is left of the files is as the reason says.
+abbrev pub FailsToOpenDatabase : {A R D : Type 0} (g : Ghosts D) (seeds : R → Bool → Type 0) (opens : R → List ℕ → Option OpenError → Type 0) (system : R) (name : List ℕ)
+    (image : Image) → StoreFault → (start : Option A) (before after : Option (FilesLeft D g)) → Type 0
+FailsToOpenDatabase g seeds opens system name image fault start before after = MatchOption start ((fault ≡ Store) × (after ≡ before))
+    (λ _. MatchOption after ⊥ (λ left. FailsToOpenStore g seeds opens system name image left fault))

@@ -1,11 +1,13 @@
 //! The devices of a system, with streams that are handed in.
 use crate::databases::SystemDatabases;
+use crate::system::{HasDatabaseFiles, HasRandom};
 use crate::threaders::SystemThreaders;
 use archive_listen::{BufferedSink, LoopbackPorts};
 use archive_run::{Environment, Platform};
 use mbox_core::device::{Sink, Source};
 use sift_run::{SystemClock, SystemFiles};
 use sqlite::{FileFrom, FileStore, Start};
+use sqlite_disk::Disk;
 use std::marker::PhantomData;
 
 /// The kinds of a system's devices. `S` stands for what the file of a database held before it was opened.
@@ -15,9 +17,10 @@ pub struct SystemPlatform<'a, S, I, O, E> {
 
 impl<'a, S: Start, I: Source + Drop, O: BufferedSink + Drop, E: Sink + Drop> Platform
     for SystemPlatform<'a, S, I, O, E> {
+    ghost use Rattle.std.specs.Prelude.{refl};
+    ghost use Rattle.std.proofs.Common.{◌∙◌, inl};
     ghost use Rattle.sqlite_wal.specs.Files.{image_at};
-    ghost use Rattle.archive.specs.Opening.{opened_store_holds_if_some};
-    ghost use Rattle.archive.specs.Closing.{close_result_holds_archive};
+    ghost use Rattle.archive.specs.Laws.{closed_database_holds, opened_store_holds, unopened_database_holds};
 
     type Storage = FileStore<FileFrom<S>>;
 
@@ -37,9 +40,15 @@ impl<'a, S: Start, I: Source + Drop, O: BufferedSink + Drop, E: Sink + Drop> Pla
 
     type Faults = E;
 
-    ghost opens_held = { λ old new file store archive held opened. opened_store_holds_if_some (image_at S.Start) old.start archive store held.0 opened.0 opened.2 };
+    ghost opens_held = { λ old new file store archive held opened. opened_store_holds (image_at S.Start) old.start old.left archive store held opened.0 opened.2 };
 
-    ghost closes_held = { λ old device new file before after archive held opened closed returned tables. close_result_holds_archive after _ device.start new.start new.left closed opened.1 tables };
+    ghost closes_held = { λ old device new file before after archive held opened closed returned tables.
+        closed_database_holds (image_at S.Start) new.start new.left after (closed.0 ∙ opened.1) closed.1 tables };
+
+    ghost unopened_held = { λ old new file fault archive held unopened.
+        unopened_database_holds ⟦<FileFrom<S> as Disk>⟧ (λ it. inl refl)
+        ⟦<HostRuntime as HasRandom>⟧.seeds ⟦<HostRuntime as HasDatabaseFiles>⟧.opens old.rt.now file (image_at S.Start) fault
+        old.start new.start old.left new.left unopened.1 unopened.4 archive held };
 }
 
 /// The devices of a system, over these streams. `start` stands for what the file of the database holds before it is opened.

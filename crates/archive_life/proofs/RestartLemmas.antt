@@ -26,7 +26,7 @@ use Rattle.sift_run.specs.declared.faults.CommandError.TheVariants.{Memory}
 use Rattle.archive_run.specs.Crashing.{CrashImportsFile}
 use Rattle.archive_run.specs.Databases.{LeavesOrUsesDatabase}
 use Rattle.archive_run.specs.Holding.{HasServedUntilF4}
-use Rattle.archive_run.specs.Remembering.{ClosedDatabaseHoldsArchive, OpenedStoreHoldsArchive}
+use Rattle.archive_run.specs.Remembering.{ClosedDatabaseHoldsArchive, OpenedStoreHoldsArchive, UnopenedDatabaseHoldsArchive}
 use Rattle.archive_run.specs.Runs.{RunsOrder}
 use Rattle.archive_run.specs.Environments.{DeviceContracts}
 use Rattle.archive_run.specs.declared.faults.RunError.{RunError}
@@ -127,14 +127,18 @@ module _ {S F D C P T R O E I L : Type 0} (dev : DeviceContracts S F I D C P L T
 -- ---- each order
 
 module _ {Y S F D C P T R O E I L K A B M : Type 0} (dev : DeviceContracts S F I D C P L T R O E) (opens : OpenedStoreHoldsArchive dev.pages dev.databases)
-    (closes : ClosedDatabaseHoldsArchive dev.pages dev.databases) (settles : (c : Held S) → KeepsCommit dev.pages c) where
+    (closes : ClosedDatabaseHoldsArchive dev.pages dev.databases) (unopened : UnopenedDatabaseHoldsArchive dev.databases) (settles : (c : Held S) → KeepsCommit dev.pages c) where
   module _ (old new : Environment Y S F D C P T R O E I L K A B M) (archive : Archive) (Holds : Archive → Type 0) where
     -- what a run leaves for the next one, under what is trusted of it
     abbrev pub LeavesArchive : (file : List ℕ) (ending : Ending) (order : Order) (mbox : List ℕ) → RunEnds dev old new ending order → Type 0
     LeavesArchive file ending order mbox ends = dev.databases.holds old.databases file archive → IsIndexedCorrectly archive
         → IfSome (store_of_run dev old new ending order ends) (IsSoundStore dev) → ServerStaysOpen dev old new ending order ends → ReadsMbox dev old new ending order ends mbox
-        → FindsAfter dev file Holds old new ending order (store_of_run dev old new ending order ends)
+        → FindsAfter dev file Holds new.databases ending (store_of_run dev old new ending order ends)
         → LeavesCarriedOut Holds ending (commands_of_order mbox order) archive
+
+    -- databases that are as before
+    held_as_before : (file : List ℕ) → dev.databases.holds old.databases file archive → new.databases ≡ old.databases → dev.databases.holds new.databases file archive
+    held_as_before file held same = subst (λ d. dev.databases.holds d file archive) (sym same) held
 
     command_printed : (order : StoreCommandValues) (mbox : List ℕ) (ends : RunEnds dev old new printed (Table order)) → LeavesArchive order.file printed (Table order) mbox ends
     command_printed order mbox ends held right sound up read finds =
@@ -174,19 +178,23 @@ module _ {Y S F D C P T R O E I L K A B M : Type 0} (dev : DeviceContracts S F I
     sift_printed : (file : List ℕ) (order : SiftValues) (mbox : List ℕ) (ends : RunEnds dev old new printed (Sift order)) → LeavesArchive file printed (Sift order) mbox ends
     sift_printed file order mbox ends held right sound up read finds =
         let same : new.databases ≡ old.databases = ap (λ (w : Environment Y S F D C P T R O E I L K A B M). w.databases) ends.runs_order.1 in
-        same_of Holds archive (finds archive (subst (λ d. dev.databases.holds d file archive) (sym same) held))
+        same_of Holds archive (finds archive (held_as_before file held same))
 
     command_cut_off : (order : StoreCommandValues) (mbox : List ℕ) (ends : RunEnds dev old new cut_off (Table order)) → LeavesArchive order.file cut_off (Table order) mbox ends
-    command_cut_off order mbox (inl same) held right sound up read finds = none_of Holds (commands_of_order mbox (Table order)) archive (finds archive held)
-    command_cut_off order mbox (inr (inl unopened)) held right sound up read finds = none_of Holds (commands_of_order mbox (Table order)) archive (finds archive held)
+    command_cut_off order mbox (inl same) held right sound up read finds =
+        none_of Holds (commands_of_order mbox (Table order)) archive (finds archive (held_as_before order.file held same))
+    command_cut_off order mbox (inr (inl (fault, never))) held right sound up read finds =
+        none_of Holds (commands_of_order mbox (Table order)) archive (finds archive (unopened old.databases new.databases order.file fault archive held never))
     command_cut_off order mbox (inr (inr uses)) held right sound up read finds =
         let it = found_crashed dev opens settles order.file Holds old.databases uses.device uses.store_before uses.store_after archive (λ a b. (b ≡ a) ⊎ (b ≡ (command_outcome a order.command).0))
         held uses.opens_database sound uses.store_changes finds in
         crashed_command Holds archive it.0 order.command it.1 it.2
 
     import_cut_off : (order : ImportValues) (mbox : List ℕ) (ends : RunEnds dev old new cut_off (Import order)) → LeavesArchive order.file cut_off (Import order) mbox ends
-    import_cut_off order mbox (inl same) held right sound up read finds = none_of Holds (commands_of_order mbox (Import order)) archive (finds archive held)
-    import_cut_off order mbox (inr (inl unopened)) held right sound up read finds = none_of Holds (commands_of_order mbox (Import order)) archive (finds archive held)
+    import_cut_off order mbox (inl same) held right sound up read finds =
+        none_of Holds (commands_of_order mbox (Import order)) archive (finds archive (held_as_before order.file held same))
+    import_cut_off order mbox (inr (inl (fault, never))) held right sound up read finds =
+        none_of Holds (commands_of_order mbox (Import order)) archive (finds archive (unopened old.databases new.databases order.file fault archive held never))
     import_cut_off order mbox (inr (inr uses)) held right sound up read finds =
         crashed_import dev opens settles order.file order.list mbox order.mbox Holds old.files old.databases uses.device uses.store_before uses.store_after archive held uses.opens_database sound finds
         uses.store_changes read
@@ -194,9 +202,9 @@ module _ {Y S F D C P T R O E I L K A B M : Type 0} (dev : DeviceContracts S F I
     -- a question or a server, which means no command
     question_cut_off : (file : List ℕ) → dev.databases.holds old.databases file archive
         → (crash : LeavesOrUsesDatabase dev.databases old.databases new.databases file (WritesNothing dev.pages)) → IfSome (store_if_used crash) (IsSoundStore dev)
-        → MatchOption (store_if_used crash) (FindsHeld dev file Holds old.databases) (λ s. FindsCrashed dev file Holds s.last) → LeavesCarriedOut Holds cut_off [] archive
-    question_cut_off file held (inl same) sound finds = none_of Holds [] archive (finds archive held)
-    question_cut_off file held (inr (inl unopened)) sound finds = none_of Holds [] archive (finds archive held)
+        → MatchOption (store_if_used crash) (FindsHeld dev file Holds new.databases) (λ s. FindsCrashed dev file Holds s.last) → LeavesCarriedOut Holds cut_off [] archive
+    question_cut_off file held (inl same) sound finds = none_of Holds [] archive (finds archive (held_as_before file held same))
+    question_cut_off file held (inr (inl (fault, never))) sound finds = none_of Holds [] archive (finds archive (unopened old.databases new.databases file fault archive held never))
     question_cut_off file held (inr (inr uses)) sound finds =
         let it = found_crashed dev opens settles file Holds old.databases uses.device uses.store_before uses.store_after archive (λ a b. b ≡ a)
         held uses.opens_database sound (crash_of_question dev.pages uses.store_before uses.store_after uses.store_changes) finds in
@@ -212,7 +220,7 @@ module _ {Y S F D C P T R O E I L K A B M : Type 0} (dev : DeviceContracts S F I
     leaves_archive file printed (Export order) mbox ends over = subst (λ f. LeavesArchive f printed (Export order) mbox ends) over (export_printed order mbox ends)
     leaves_archive file printed (Check order) mbox ends over = subst (λ f. LeavesArchive f printed (Check order) mbox ends) over (check_printed order mbox ends)
     leaves_archive file printed (Serve order) mbox ends over = subst (λ f. LeavesArchive f printed (Serve order) mbox ends) over (serve_printed order mbox ends)
-    leaves_archive file cut_off (Sift order) mbox ends over = λ held right sound up read finds. none_of Holds [] archive (finds archive held)
+    leaves_archive file cut_off (Sift order) mbox ends over = λ held right sound up read finds. none_of Holds [] archive (finds archive (held_as_before file held ends))
     leaves_archive file cut_off (Table order) mbox ends over = subst (λ f. LeavesArchive f cut_off (Table order) mbox ends) over (command_cut_off order mbox ends)
     leaves_archive file cut_off (Import order) mbox ends over = subst (λ f. LeavesArchive f cut_off (Import order) mbox ends) over (import_cut_off order mbox ends)
     leaves_archive file cut_off (Get order) mbox ends over = subst (λ f. LeavesArchive f cut_off (Get order) mbox ends) over

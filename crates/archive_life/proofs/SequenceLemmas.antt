@@ -24,7 +24,7 @@ use Rattle.archive_args.specs.declared.orders.Order.TheVariants.{Sift, Table, Im
 use Rattle.archive_commands.specs.Commands.{answer_to, command_outcome}
 use Rattle.archive_commands.specs.declared.commands.Answer.{Answer}
 use Rattle.archive_listen.specs.declared.connections.BoundListener.{BoundListener}
-use Rattle.archive_run.specs.Remembering.{ClosedDatabaseHoldsArchive, OpenedStoreHoldsArchive}
+use Rattle.archive_run.specs.Remembering.{ClosedDatabaseHoldsArchive, OpenedStoreHoldsArchive, UnopenedDatabaseHoldsArchive}
 use Rattle.archive_run.specs.Environments.{DeviceContracts}
 use Rattle.archive_run.specs.declared.world.Environment.{Environment}
 use Rattle.archive_life.specs.Histories.{CarriesOutOrdered, DatabaseRun, Ending, DoesWithdrawal, FollowsFrom, IsHistory, printed, cut_off}
@@ -126,7 +126,8 @@ module _ {Y S F D C P T R O E I L K A B M : Type 0} (dev : DeviceContracts S F I
         at.second_goes.answers_from_found,
       )
 
-  module _ (opens : OpenedStoreHoldsArchive dev.pages dev.databases) (closes : ClosedDatabaseHoldsArchive dev.pages dev.databases) (settles : (c : Held S) → KeepsCommit dev.pages c)
+  module _ (opens : OpenedStoreHoldsArchive dev.pages dev.databases) (closes : ClosedDatabaseHoldsArchive dev.pages dev.databases)
+      (unopened : UnopenedDatabaseHoldsArchive dev.databases) (settles : (c : Held S) → KeepsCommit dev.pages c)
       (listens_none : (before after : P) (port : ℕ) (listening : BoundListener L) → dev.listens before after port (Ok listening)
       → (dev.went after ≡ dev.went before) × (dev.over listening.listener ≡ []))
       (keeps_index : (a : Archive) (commands : List Command) → IsIndexedCorrectly a → IsIndexedCorrectly (run a commands).archive) (file : List ℕ) where
@@ -139,7 +140,7 @@ module _ {Y S F D C P T R O E I L K A B M : Type 0} (dev : DeviceContracts S F I
       ending_is = refl;
       ordered_is = refl;
       holds_found = held;
-      answers_from_found = answers_found dev opens closes settles listens_none r.old r.new archive file r.ending r.order r.ends trusted.is_over_database held right trusted.store_is_sound
+      answers_from_found = answers_found dev opens closes unopened settles listens_none r.old r.new archive file r.ending r.order r.ends trusted.is_over_database held right trusted.store_is_sound
           trusted.store_was_sound;
     }
 
@@ -151,12 +152,13 @@ module _ {Y S F D C P T R O E I L K A B M : Type 0} (dev : DeviceContracts S F I
         let some = some_carried_out r.ending (commands_of_order r.mbox r.order) in
         (seen_as r archive some.0 ∷ [], (refl, some.1, tt), (recorded r archive some.0 held right trusted, tt))
     from_run archive r (next ∷ runs) held right trusted (finds, next_trusted, later) =
-        let left = leaves_archive dev opens closes settles r.old r.new archive (dev.databases.holds next.old.databases file) file r.ending r.order r.mbox r.ends trusted.is_over_database
+        let left = leaves_archive dev opens closes unopened settles r.old r.new archive (dev.databases.holds next.old.databases file) file r.ending r.order r.mbox r.ends trusted.is_over_database
         held right trusted.store_is_sound trusted.server_stays_open trusted.mbox_is_read finds in
         let rest = from_run (run archive left.0).archive next runs left.2 (keeps_index archive left.0 right) next_trusted later in
         (seen_as r archive left.0 ∷ rest.0, (refl, left.1, rest.1), (recorded r archive left.0 held right trusted, rest.2))
 
-  module _ (opens : OpenedStoreHoldsArchive dev.pages dev.databases) (closes : ClosedDatabaseHoldsArchive dev.pages dev.databases) (settles : (c : Held S) → KeepsCommit dev.pages c)
+  module _ (opens : OpenedStoreHoldsArchive dev.pages dev.databases) (closes : ClosedDatabaseHoldsArchive dev.pages dev.databases)
+      (unopened : UnopenedDatabaseHoldsArchive dev.databases) (settles : (c : Held S) → KeepsCommit dev.pages c)
       (listens_none : (before after : P) (port : ℕ) (listening : BoundListener L) → dev.listens before after port (Ok listening)
       → (dev.went after ≡ dev.went before) × (dev.over listening.listener ≡ []))
       (keeps_index : (a : Archive) (commands : List Command) → IsIndexedCorrectly a → IsIndexedCorrectly (run a commands).archive)
@@ -164,7 +166,8 @@ module _ {Y S F D C P T R O E I L K A B M : Type 0} (dev : DeviceContracts S F I
     pub has_history : ProgramRunsHaveHistory dev first_environment
     has_history file first [] all = ([], is_history first [] tt, tt)
     has_history file first (r ∷ runs) all =
-        let it = from_run opens closes settles listens_none keeps_index file first r runs (all.runs_in_turn.0 first all.holds_first) all.is_indexed_correctly all.runs_in_turn.1 all.runs_in_turn.2 in
+        let it = from_run opens closes unopened settles listens_none keeps_index file first r runs (all.runs_in_turn.0 first all.holds_first) all.is_indexed_correctly
+        all.runs_in_turn.1 all.runs_in_turn.2 in
         (it.0, is_history first it.0 it.1, it.2)
 
     -- the history of runs of which one printed `withdrawn`

@@ -1,5 +1,5 @@
 -- Worked examples of runs over one database.
-use Rattle.std.proofs.Common.{◌≡◌, ap, inl, refl, ℕ, pos, false, List, [], ◌∷◌, map, None, codes}
+use Rattle.std.proofs.Common.{◌≡◌, ap, inl, inr, refl, ℕ, pos, false, List, [], ◌∷◌, map, None, Err, codes}
 use Rattle.std.proofs.lemmas.List.Elements.{All-nil}
 use Rattle.policy_core.specs.declared.access.Withdrawn.TheVariants.{Author}
 use Rattle.archive_model.specs.Records.{Message, Archive}
@@ -10,6 +10,7 @@ use Rattle.archive_model.specs.Runs.{run}
 use Rattle.archive_model.specs.Sound.{IsIndexedCorrectly}
 use Rattle.archive_results.specs.Promise.{DeniesWithdrawnBy}
 use Rattle.archive_pages.specs.Laws.{IsHiddenInReplies, StaysAsIfItNeverCame}
+use Rattle.archive_port.specs.declared.faults.StoreFault.{StoreFault}
 use Rattle.archive_args.specs.Values.{StoreCommandValues}
 use Rattle.archive_args.specs.declared.orders.Order.TheVariants.{Table}
 use Rattle.archive_run.specs.Runs.{OrderIsCarriedOut}
@@ -79,24 +80,33 @@ forgets : FollowsFrom first (withdraws_it ∷ answers first ∷ []) → ⊥
 unfolding run
 forgets it = zero_is_one (ap (λ (a : Archive). map (λ (m : Message). m.withdrawn) a.messages) it.2.0)
 
--- ---- over any devices: a command that was carried out, and a run that was killed before it opened the database that the first had left
+-- ---- over any devices: a command that was carried out, a run that could not open the database that the first had left, and one that was
+-- killed before it opened it
 
-module _ {Y S F D C P T R O E I L K A B M : Type 0} (dev : DeviceContracts S F I D C P L T R O E) (old new : Environment Y S F D C P T R O E I L K A B M) (archive : Archive)
+module _ {Y S F D C P T R O E I L K A B M : Type 0} (dev : DeviceContracts S F I D C P L T R O E) (old new last : Environment Y S F D C P T R O E I L K A B M) (archive : Archive)
     (values : StoreCommandValues) (held : dev.databases.holds old.databases values.file archive) (right : IsIndexedCorrectly archive)
-    (ends : OrderIsCarriedOut dev old new (Table values)) (sound : IsSoundStore dev (store_of_use ends.runs_on_archive.2)) where
+    (ends : OrderIsCarriedOut dev old new (Table values)) (sound : IsSoundStore dev (store_of_use ends.runs_on_archive.2)) (fault : StoreFault)
+    (never : dev.databases.opens new.databases last.databases values.file (Err fault)) where
   abbrev carried_out : ProgramRun Y K A B M dev
   carried_out = record { old = old; new = new; order = Table values; mbox = []; ending = printed; ends = ends }
 
-  abbrev killed : ProgramRun Y K A B M dev
-  killed = record { old = new; new = new; order = Table values; mbox = []; ending = cut_off; ends = inl refl }
+  abbrev unopened : ProgramRun Y K A B M dev
+  unopened = record { old = new; new = last; order = Table values; mbox = []; ending = cut_off; ends = inr (inl (fault, never)) }
 
-  in_turn : IsRunSequence dev old values.file archive (carried_out ∷ killed ∷ [])
+  abbrev killed : ProgramRun Y K A B M dev
+  killed = record { old = last; new = last; order = Table values; mbox = []; ending = cut_off; ends = inl refl }
+
+  in_turn : IsRunSequence dev old values.file archive (carried_out ∷ unopened ∷ killed ∷ [])
   in_turn = record {
     holds_first = held;
     is_indexed_correctly = right;
     runs_in_turn = (
       λ a h. h,
       record { is_over_database = refl; store_is_sound = sound; store_was_sound = tt; server_stays_open = tt; mbox_is_read = tt },
-      (λ a h. h, record { is_over_database = refl; store_is_sound = tt; store_was_sound = tt; server_stays_open = tt; mbox_is_read = tt }, tt),
+      (
+        λ a h. h,
+        record { is_over_database = refl; store_is_sound = tt; store_was_sound = tt; server_stays_open = tt; mbox_is_read = tt },
+        (λ a h. h, record { is_over_database = refl; store_is_sound = tt; store_was_sound = tt; server_stays_open = tt; mbox_is_read = tt }, tt),
+      ),
     );
   }

@@ -164,6 +164,13 @@ module _ {S F D C P T R O E I L : Type 0} (dev : DeviceContracts S F I D C P L T
       pub may_be_left : (state dev.pages (store_connection store)).may_leave trees
       pub holds_stored : (archive : Archive) → IsArchiveStored archive trees → NextHolds archive
 
+    -- After a run that printed its word, and so had closed its database, or that did not open it, the next run finds what these databases
+    -- hold then, by their own word. A database that could not be opened holds what it held before (`unopened_held`). After any other run that
+    -- opened its database, the next one finds what a crash may leave of the store as it was last; closing the database adds nothing to that.
+    abbrev pub FindsAfter : (left : D) → Ending → Option (UsedStore S) → Type 0
+    FindsAfter left printed store = FindsHeld left
+    FindsAfter left cut_off store = MatchOption store (FindsHeld left) (λ s. FindsCrashed s.last)
+
   -- The disk of a store has returned what was written to it, and its connection was to a database when the store was opened.
   pub record IsSoundStore (store : UsedStore S) : Type 0 where
     pub was_clean : StoreHasCleanDisk dev.pages store.opened
@@ -171,15 +178,6 @@ module _ {S F D C P T R O E I L : Type 0} (dev : DeviceContracts S F I D C P L T
     pub was_live : IsLive (state dev.pages (store_connection store.opened))
 
 module _ {Y S F D C P T R O E I L K A B M : Type 0} (dev : DeviceContracts S F I D C P L T R O E) where
-  module _ (file : List ℕ) (NextHolds : Archive → Type 0) where
-    -- After a run that printed its word, and so had closed its database, the next run finds what the databases held then. After any other
-    -- run that opened the database, it finds what a crash may leave of the store as it was last; closing the database adds nothing to that.
-    -- Else it finds what the databases held before the run: an opening that fails leaves the archive. No clause of `run` says this of a
-    -- crash within an opening.
-    abbrev pub FindsAfter : (old new : Environment Y S F D C P T R O E I L K A B M) → Ending → Order → Option (UsedStore S) → Type 0
-    FindsAfter old new printed order store = FindsHeld dev file NextHolds new.databases
-    FindsAfter old new cut_off order store = MatchOption store (FindsHeld dev file NextHolds old.databases) (λ s. FindsCrashed dev file NextHolds s.last)
-
   -- If a server printed its word, no fault of the disk had shut its store.
   abbrev pub ServerStaysOpen : (old new : Environment Y S F D C P T R O E I L K A B M) (ending : Ending) (order : Order) → RunEnds dev old new ending order → Type 0
   ServerStaysOpen old new printed (Serve order) ends = IsOpen dev.pages ends.runs_on_archive.later

@@ -30,7 +30,7 @@ state_withdrawn_by Board = state.Board
 module _ {Y S F D C P T R O E I L K A B M : Type 0} (dev : DeviceContracts S F I D C P L T R O E) where
   -- what the next run finds after it
   abbrev pub FindsAfterRun : (file : List ℕ) → ProgramRun Y K A B M dev → (NextHolds : Archive → Type 0) → Type 0
-  FindsAfterRun file r NextHolds = FindsAfter dev file NextHolds r.old r.new r.ending r.order (store_of_run dev r.old r.new r.ending r.order r.ends)
+  FindsAfterRun file r NextHolds = FindsAfter dev file NextHolds r.new.databases r.ending (store_of_run dev r.old r.new r.ending r.order r.ends)
 
   -- ---- one run, and the next, which may be over devices of other kinds
 

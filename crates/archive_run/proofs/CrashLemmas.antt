@@ -56,7 +56,7 @@ module _ {S : Type 0} (g : Ghosts S) where
 module _ {Y S F D C P T R O E I L K A B M : Type 0} (dev : DeviceContracts S F I D C P L T R O E) (old : Environment Y S F D C P T R O E I L K A B M) where
   -- where there was no memory to read the words
   pub crash_of_unread : (new : Environment Y S F D C P T R O E I L K A B M) → new.databases ≡ old.databases → (order : Order) → CrashRunsOrder dev old new order
-  crash_of_unread new same (Sift order) = tt
+  crash_of_unread new same (Sift order) = same
   crash_of_unread new same (Table order) = inl same
   crash_of_unread new same (Import order) = inl same
   crash_of_unread new same (Get order) = inl same
@@ -67,7 +67,7 @@ module _ {Y S F D C P T R O E I L K A B M : Type 0} (dev : DeviceContracts S F I
   -- where a refusal was told, or not, behind the order
   pub crash_of_finished : (new : Environment Y S F D C P T R O E I L K A B M) (faults : E) (order : Order) → CrashRunsOrder dev old new order
       → CrashRunsOrder dev old (record new { faults = faults }) order
-  crash_of_finished new faults (Sift order) it = tt
+  crash_of_finished new faults (Sift order) it = it
   crash_of_finished new faults (Table order) it = it
   crash_of_finished new faults (Import order) it = it
   crash_of_finished new faults (Get order) it = it

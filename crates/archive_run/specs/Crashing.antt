@@ -1,6 +1,6 @@
 -- What a crash leaves of the archive in the database of an order, at each moment between the opening of the database and its close. A
 -- crash within a call is the end of that call over a disk that fails from then on. So nothing here names what the call answers.
-use Rattle.std.specs.Prelude.{◌≡◌, ◌⊎◌, ◌++◌, ℕ, List, [], ⊤}
+use Rattle.std.specs.Prelude.{◌≡◌, ◌⊎◌, ◌++◌, ℕ, List, []}
 use Rattle.sqlite.specs.Store.{Ghosts}
 use Rattle.byte_device.specs.declared.devices.Source.{Ghosts as Reads}
 use Rattle.archive_store.specs.Crashes.{CrashLeavesRelatedArchive}
@@ -44,9 +44,10 @@ module _ {Y S F D C P T R O E I L K A B M : Type 0} (dev : DeviceContracts S F I
   abbrev pub LeavesOrUses : (file : List ℕ) → (Open S → Open S → Type 0) → Type 0
   LeavesOrUses = LeavesOrUsesDatabase dev.databases old.databases new.databases
 
-  -- At whatever status the run ends: what may be left of the store of the order, while that is open. A question and a server write nothing.
+  -- At whatever status the run ends: what may be left of the store of the order, while that is open. A question and a server write nothing,
+  -- and a sift has no database.
   abbrev pub CrashRunsOrder : Order → Type 0
-  CrashRunsOrder (Sift order) = ⊤
+  CrashRunsOrder (Sift order) = new.databases ≡ old.databases
   CrashRunsOrder (Table order) = LeavesOrUses order.file (λ o c. CrashCarriesOutCommand dev.pages o c order.command)
   CrashRunsOrder (Import order) = LeavesOrUses order.file (λ o c. CrashImportsFile dev.pages o c dev.opens dev.input_of old.files order.list order.mbox)
   CrashRunsOrder (Get order) = LeavesOrUses order.ask.file (WritesNothing dev.pages)

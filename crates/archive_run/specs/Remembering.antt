@@ -1,9 +1,11 @@
--- The laws of a device of databases: what it holds under a name is what an opened store remembers, and what a closed one remembered.
-use Rattle.std.specs.Prelude.{◌≡◌, ℕ, List, Ok}
+-- The laws of a device of databases: what it holds under a name is what an opened store remembers, and what a closed one remembered. An
+-- opening that fails leaves it.
+use Rattle.std.specs.Prelude.{◌≡◌, ℕ, List, Ok, Err}
 use Rattle.sqlite.specs.Store.{Ghosts}
 use Rattle.archive_model.specs.Records.{Archive}
 use Rattle.archive_store.specs.Told.{HasNoStepLimit, StoreHasCleanDisk, HoldsTables, archive_in}
 use Rattle.archive_store.specs.declared.store.Store.{Store}
+use Rattle.archive_port.specs.declared.faults.StoreFault.{StoreFault}
 use Rattle.archive_run.specs.declared.databases.Databases.{Ghosts as Keeps}
 
 -- where its disk has returned what was written to it, the tables of a store are an archive's, and hold this one
@@ -21,3 +23,8 @@ module _ {S D : Type 0} (g : Ghosts S) (keeps : Keeps D (Store S)) where
   ClosedDatabaseHoldsArchive = (old device new : D) (file : List ℕ) (before after : Store S) (archive : Archive) → keeps.holds old file archive
       → keeps.opens old device file (Ok before) → keeps.closes device new after → StoreHasCleanDisk g after → HoldsTables g after
       → keeps.holds new file (archive_in g after)
+
+-- A database that was not opened, for whatever fault, still holds each archive that it held.
+abbrev pub UnopenedDatabaseHoldsArchive : {S D : Type 0} → Keeps D (Store S) → Type 0
+UnopenedDatabaseHoldsArchive {S} {D} keeps = (old new : D) (file : List ℕ) (fault : StoreFault) (archive : Archive) → keeps.holds old file archive
+    → keeps.opens old new file (Err fault) → keeps.holds new file archive

@@ -9,7 +9,7 @@ pub trait Databases<T> {
     ghost use Rattle.archive_port.specs.Replies.{refusal_of_fault};
     ghost use Rattle.archive_port.specs.declared.faults.StoreFault.{StoreFault};
 
-    // The database of this name holds this archive, while it is closed. What a device says of it keeps the laws of `Platform`.
+    // The database of this name holds this archive, while it is not open. What a device says of it keeps the laws of `Platform`.
     ghost holds: { Self → List ℕ → Archive → Type 0 } = { λ _ _ _. ⊥ };
 
     // Holds of the databases before one is opened and after, of its name, and of what is given.

@@ -9,7 +9,7 @@ use sqlite::Alter;
 
 /// The kinds of devices that a run is over. No value of it is ever made.
 pub trait Platform {
-    ghost use Rattle.archive_run.specs.Remembering.{ClosedDatabaseHoldsArchive, OpenedStoreHoldsArchive};
+    ghost use Rattle.archive_run.specs.Remembering.{ClosedDatabaseHoldsArchive, OpenedStoreHoldsArchive, UnopenedDatabaseHoldsArchive};
 
     /// What the pages of a database lie in.
     type Storage: Alter;
@@ -39,6 +39,9 @@ pub trait Platform {
 
     // When it is closed, it holds what its store remembers then.
     ghost closes_held: { ClosedDatabaseHoldsArchive Self.Storage.Store Self.Databases.Databases };
+
+    // If an opening fails, it still holds what it held.
+    ghost unopened_held: { UnopenedDatabaseHoldsArchive Self.Databases.Databases };
 }
 
 /// What a run is over.

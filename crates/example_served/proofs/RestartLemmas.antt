@@ -23,7 +23,7 @@ use Rattle.archive_serve.specs.Runs.{ExchangesAreAnsweredWithCause}
 use Rattle.archive_args.specs.Values.{ServeValues}
 use Rattle.archive_args.specs.declared.orders.Order.TheVariants.{Table, Import}
 use Rattle.archive_run.specs.Holding.{HasServed, RunsOrderOnArchive}
-use Rattle.archive_run.specs.Remembering.{ClosedDatabaseHoldsArchive, OpenedStoreHoldsArchive}
+use Rattle.archive_run.specs.Remembering.{ClosedDatabaseHoldsArchive, OpenedStoreHoldsArchive, UnopenedDatabaseHoldsArchive}
 use Rattle.archive_run.specs.Runs.{RunsOrder}
 use Rattle.archive_run.specs.Environments.{DeviceContracts}
 use Rattle.archive_run.specs.declared.world.Environment.{Environment}
@@ -98,12 +98,13 @@ module _ {Y S F D C P T R O E I L K A B M : Type 0} (dev : DeviceContracts S F I
   -- ---- four runs
 
   pub published_over_restarts : (stays : StaysAsIfItNeverCame) (opens : OpenedStoreHoldsArchive dev.pages dev.databases) (closes : ClosedDatabaseHoldsArchive dev.pages dev.databases)
+      (unopened_holds : UnopenedDatabaseHoldsArchive dev.databases)
       → (old one two between new : Environment Y S F D C P T R O E I L K A B M) (it : RestartedPublishing) (first second : ℕ)
       → RunsOrder dev old one (Import (import_args_of it.publishing)) (Ok tt) → RunsOrderOnArchive dev old one (Import (import_args_of it.publishing))
       → RunsOrder dev one two (Table (withdraw_args_of it.publishing)) (Ok tt) → RunsOrderOnArchive dev one two (Table (withdraw_args_of it.publishing))
       → between.files ≡ two.files → ServerEnds dev two between (serve_args_of it.publishing) first → ServerEnds dev between new (second_serve_args_of it) second
       → PublishesOverRestarts dev old new it first second
-  published_over_restarts stays opens closes old one two between new it first second ran_one taken ran_two outcome files ends_first ends_second =
+  published_over_restarts stays opens closes unopened_holds old one two between new it first second ran_one taken ran_two outcome files ends_first ends_second =
       let same_one : one ≡ record old { databases = one.databases; output = one.output } = ran_one.2.1 in
       let same_two : two ≡ record one { databases = two.databases; output = two.output } = ran_two.2.1 in
       let by = state_withdrawn_by it.publishing.by in
@@ -120,12 +121,12 @@ module _ {Y S F D C P T R O E I L K A B M : Type 0} (dev : DeviceContracts S F I
         hides_in_both = λ clean_one clean_two trusted_first up_first trusted_second before held right.
             let made = archive_made dev old one two new it.publishing taken outcome clean_one clean_two before held right in
             let hides = hidden stays it.publishing.list it.publishing.key it.publishing.by made.1.imported made.0 made.1.withdraws in
-            let left = server_leaves dev opens closes two between (serve_args_of it.publishing) first ends_first trusted_first up_first made.0 made.2 in (
+            let left = server_leaves dev opens closes unopened_holds two between (serve_args_of it.publishing) first ends_first trusted_first up_first made.0 made.2 in (
               made.0,
               made.1,
               hides,
               server_hides by made.0 it.publishing.list it.publishing.key hides two between (serve_args_of it.publishing) first ends_first trusted_first made.2,
               server_hides by made.0 it.publishing.list it.publishing.key hides between new (second_serve_args_of it) second ends_second trusted_second left,
-              λ up. server_leaves dev opens closes between new (second_serve_args_of it) second ends_second trusted_second up made.0 left,
+              λ up. server_leaves dev opens closes unopened_holds between new (second_serve_args_of it) second ends_second trusted_second up made.0 left,
             );
       }

@@ -28,7 +28,7 @@ use Rattle.sift_run.specs.declared.faults.CommandError.TheVariants as fault
 use Rattle.sift_run.proofs.StatusLemmas.{memory_alone}
 use Rattle.archive_run.specs.Databases.{GivesNoDatabase, UsesDatabase}
 use Rattle.archive_run.specs.Holding.{HasServedFewer}
-use Rattle.archive_run.specs.Remembering.{ClosedDatabaseHoldsArchive, OpenedStoreHoldsArchive}
+use Rattle.archive_run.specs.Remembering.{ClosedDatabaseHoldsArchive, OpenedStoreHoldsArchive, UnopenedDatabaseHoldsArchive}
 use Rattle.archive_run.specs.Runs.{OrderIsCarriedOut, OrderIsRefused, RunsOrder, RunReportsOrderStop}
 use Rattle.archive_run.specs.Serving.{AnnouncesThenServesFewer, RefusesServing, ServerOutput, server_output}
 use Rattle.archive_run.specs.Working.{RefusesOpening}
@@ -259,7 +259,8 @@ module _ {Y S F D C P T R O E I L K A B M : Type 0} (dev : DeviceContracts S F I
 
   -- ---- what it left of its database
 
-  module _ (opens : OpenedStoreHoldsArchive dev.pages dev.databases) (closes : ClosedDatabaseHoldsArchive dev.pages dev.databases) where
+  module _ (opens : OpenedStoreHoldsArchive dev.pages dev.databases) (closes : ClosedDatabaseHoldsArchive dev.pages dev.databases)
+      (unopened_holds : UnopenedDatabaseHoldsArchive dev.databases) where
     pub server_leaves : (old new : Environment Y S F D C P T R O E I L K A B M) (order : ServeValues) (status : ℕ) (ends : ServerEnds dev old new order status)
         → IsTrustedServer dev old new order status ends → ServerLeavesStoreOpen dev old new order status ends
         → (archive : Archive) → dev.databases.holds old.databases order.file archive → dev.databases.holds new.databases order.file archive
@@ -269,6 +270,7 @@ module _ {Y S F D C P T R O E I L K A B M : Type 0} (dev : DeviceContracts S F I
         subst (λ (d : D). dev.databases.holds d order.file archive) (sym same) ((served.serves_held_archive clean archive held).1 up)
     server_leaves old new order status (inr (one, refused, inr (sends, inl same))) trusted up archive held =
         subst (λ (d : D). dev.databases.holds d order.file archive) (sym same) held
-    server_leaves old new order status (inr (one, refused, inr (sends, inr (inl never)))) finds up archive held = finds archive held
+    server_leaves old new order status (inr (one, refused, inr (sends, inr (inl (why, never))))) trusted up archive held =
+        unopened_holds old.databases new.databases order.file why archive held never
     server_leaves old new order status (inr (one, refused, inr (sends, inr (inr uses)))) clean up archive held =
         closed_again dev opens closes old.databases new.databases order.file uses clean archive held

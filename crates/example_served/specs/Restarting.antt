@@ -26,7 +26,7 @@ use Rattle.archive_run.specs.declared.faults.RunError.{RunError}
 use Rattle.archive_run.specs.declared.faults.RunError.TheVariants.{Net}
 use Rattle.archive_run.specs.declared.world.Environment.{Environment}
 use Rattle.archive_life.specs.Peers.{IsSentByOthers}
-use Rattle.archive_life.specs.Restarts.{AnswersConnectionsFrom, FindsHeld}
+use Rattle.archive_life.specs.Restarts.{AnswersConnectionsFrom}
 use Rattle.archive_life.specs.Sequences.{state_withdrawn_by}
 use Rattle.example_served.specs.Publishing.{AreCommandLinesOf, CommandLineSucceeds, MakesPublishedArchive, Publishing, import_args_of, serve_args_of, withdraw_args_of}
 
@@ -73,13 +73,12 @@ module _ {Y S F D C P T R O E I L K A B M : Type 0} (dev : DeviceContracts S F I
     ServerEnds order status = ((status ≡ 0) × OrderIsCarriedOut dev old new (Serve order))
         ⊎ ((status ≡ 1) × (refused : OrderIsRefused dev old new (Serve order)) × (HasServedFewer dev old refused.stopped order ⊎ ServesNobody order refused.refusal))
 
-    -- What is trusted of the system in a run of a server: the disk of the store returned what was written to it; and a database that could
-    -- not be opened still holds what it held.
+    -- What is trusted of the system in a run of a server: the disk of the store returned what was written to it.
     abbrev pub IsTrustedServer : (order : ServeValues) (status : ℕ) → ServerEnds order status → Type 0
     IsTrustedServer order status (inl (zero_is, done)) = StoreHasCleanDisk dev.pages done.runs_on_archive.later
     IsTrustedServer order status (inr (one_is, refused, inl served)) = StoreHasCleanDisk dev.pages served.later
     IsTrustedServer order status (inr (one_is, refused, inr (sends, inl same))) = ⊤
-    IsTrustedServer order status (inr (one_is, refused, inr (sends, inr (inl unopened)))) = FindsHeld dev order.file (dev.databases.holds new.databases order.file) old.databases
+    IsTrustedServer order status (inr (one_is, refused, inr (sends, inr (inl unopened)))) = ⊤
     IsTrustedServer order status (inr (one_is, refused, inr (sends, inr (inr uses)))) = StoreHasCleanDisk dev.pages uses.store_after
 
     -- No fault of the disk had shut the store of a server when it had answered its clients.

@@ -140,4 +140,6 @@ impl<'a, RT: Files + AllocGlobal> Platform for TestPlatform<'a, RT> {
     ghost opens_held = { λ old new file store archive held. absurd held };
 
     ghost closes_held = { λ old device new file before after archive held. absurd held };
+
+    ghost unopened_held = { λ old new file fault archive held. absurd held };
 }

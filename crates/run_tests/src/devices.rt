@@ -88,11 +88,11 @@ impl StreamedFiles for KnownFiles {
     }
 }
 
-/// One database, which is empty at first, and kept where it is closed; how often it was opened, and closed.
+/// One database, which is empty at first, and kept while it is not open; how often it was opened, and closed.
 #[derive(Drop)]
 pub struct Shelf {
-    /// The database, while it is closed.
-    pub store: Option<Store<MemStore>>,
+    /// The connection to the database, while no store has it.
+    pub connection: Option<sqlite::Connection<MemStore>>,
     /// How often it was opened.
     pub opened: u32,
     /// How often it was closed.
@@ -103,7 +103,7 @@ impl Shelf {
     /// It was not opened yet.
     pub fn new() -> Shelf {
         Shelf {
-            store: None,
+            connection: None,
             opened: 0,
             closed: 0,
         }
@@ -111,23 +111,29 @@ impl Shelf {
 }
 
 impl Databases<Store<MemStore>> for Shelf {
-    ghost use Rattle.std.specs.Prelude.{◌≡◌, Some, IfOk, codes};
-    ghost use Rattle.run_tests.specs.Shelf.{OpensClosedOrEmptyStore, ClosedStoreHoldsArchive};
+    ghost use Rattle.std.specs.Prelude.{◌≡◌, Some, IfErr, IfOk, codes};
+    ghost use Rattle.archive_store.specs.Held.{store_connection};
+    ghost use Rattle.run_tests.specs.Shelf.{KeepsUnopenedDatabase, KeptDatabaseHoldsArchive, OpensKeptOrEmptyDatabase};
 
-    ghost holds = { λ shelf name archive. (name ≡ codes "archive.db") × ClosedStoreHoldsArchive shelf.store archive };
+    ghost holds = { λ shelf name archive. (name ≡ codes "archive.db") × KeptDatabaseHoldsArchive shelf.connection archive };
 
-    ghost opens = { λ old new name result. IfOk result (λ store. OpensClosedOrEmptyStore old.store store) };
+    ghost opens = { λ old new name result. IfOk result (λ store. OpensKeptOrEmptyDatabase old.connection store)
+        × IfErr result (λ _. KeepsUnopenedDatabase old.connection new.connection) };
 
-    ghost closes = { λ old new store. new.store ≡ Some store };
+    ghost closes = { λ old new store. new.connection ≡ Some (store_connection store) };
 
     fn open(&mut self, alloc: Global, name: &str) -> Result<Store<MemStore>, StoreFault> {
         if name != ARCHIVE {
             return Err(StoreFault::Store);
         }
-        let store = match self.store.take() {
-            Some(store) => match Store::adopt(store.into_connection()) {
+        let store = match self.connection.take() {
+            Some(connection) => match Store::adopt(connection) {
                 Ok(store) => store,
-                Err(stop) => return Err(stop.fault),
+                Err(stop) => {
+                    let fault = stop.fault;
+                    self.connection = Some(stop.connection);
+                    return Err(fault);
+                }
             },
             None => Store::open_in_memory(alloc)?,
         };
@@ -136,9 +142,9 @@ impl Databases<Store<MemStore>> for Shelf {
     }
 
     fn close(&mut self, store: Store<MemStore>)
-        ensures { self.new.store ≡ Some store }
+        ensures { self.new.connection ≡ Some (store_connection store) }
     {
-        self.store = Some(store);
+        self.connection = Some(store.into_connection());
         self.closed = self.closed.saturating_add(1);
     }
 }
@@ -302,7 +308,7 @@ impl Ports for Quay {
 pub struct Desk;
 
 impl Platform for Desk {
-    ghost use Rattle.run_tests.specs.Shelf.{reopened_test_store_remembers, closed_store_holds_its_archive};
+    ghost use Rattle.run_tests.specs.Shelf.{closed_store_holds_its_archive, reopened_test_store_remembers, unopened_database_is_kept};
 
     type Storage = MemStore;
 
@@ -322,7 +328,10 @@ impl Platform for Desk {
 
     type Faults = Tap;
 
-    ghost opens_held = { λ old new name store archive held given. reopened_test_store_remembers old.store store archive held.1 given };
+    ghost opens_held = { λ old new name store archive held given. reopened_test_store_remembers old.connection store archive held.1 given.0 };
 
-    ghost closes_held = { λ old device new name before after archive held given closed returned tables. (held.0, closed_store_holds_its_archive new.store after closed tables) };
+    ghost closes_held = { λ old device new name before after archive held given closed returned tables.
+        (held.0, closed_store_holds_its_archive new.connection after closed tables) };
+
+    ghost unopened_held = { λ old new name fault archive held given. (held.0, unopened_database_is_kept old.connection new.connection archive given.1 held.1) };
 }

@@ -21,7 +21,10 @@ returns-in-Err-adopt-clause-cause g c =
       is_opened = c.in-Ok.ensures.opened;
       stop = c.in-Err-adopt.stop;
       is_not_adopted = c.in-Err-adopt.ensures.refused;
-      last = c.close_connection.ensures.0;
-      is_closed = c.close_connection.ensures.1;
+      last = c.close_connection-closed.ensures.last.0;
+      is_closed = c.close_connection-closed.ensures.last.1;
+      closed = c.close_connection-closed.result;
+      closes = c.close_connection-closed.ensures.left;
+      left_is = refl;
       fault_is_of_stop = refl;
     })

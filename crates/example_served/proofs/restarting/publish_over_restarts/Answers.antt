@@ -36,7 +36,7 @@ returns-clause-published g c =
     words.publish.serves three.done three.refused three.bad three.stopped in
     let second = server_ends dev opens closes accepts_none shuts_one listens_none after_three after_four second_words second_args c.run-second.result
     words.serves_again four.done four.refused four.bad four.stopped in
-    published_over_restarts dev c.a_hidden_message_reaches_no_peer.ensures c.a_withheld_message_leaves_no_trace.ensures.withdrawn opens closes
+    published_over_restarts dev c.a_hidden_message_reaches_no_peer.ensures c.a_withheld_message_leaves_no_trace.ensures.withdrawn opens closes g.met.Y.Platform.unopened_held
     c.args.world.now c.run-imported.new.world after_two after_three after_four it c.run-first.result c.run-second.result
     imports.runs_order imports.runs_on_archive withdraws.runs_order withdraws.runs_on_archive
     (leaves_files dev opens closes accepts_none shuts_one listens_none after_two after_three first_args c.run-first.result first) first second
