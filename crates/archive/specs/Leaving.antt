@@ -53,16 +53,16 @@ module _ {D : Type 0} {g : Ghosts D} where
   abbrev pub AllTreesHoldArchive : FileStore D g → Archive → Type 0
   AllTreesHoldArchive last archive = (db : Trees) → recovers last db → TreesHoldArchive db archive
 
-  -- Files, which held this content, of which no connection came. If their first page says that pages end in sums, but the opening did not
-  -- take them so, nothing is said: it does not go wrong so, but no clause of the toolchain says that.
+  -- Files, which held this content, of which no connection came. Nothing is said if their first page says that pages end in sums, and the
+  -- opening did not take them so: no clause of the toolchain rules that out.
   abbrev pub LeftoverHoldsArchive : (first : Image) → Leftover D g → Archive → Type 0
   LeftoverHoldsArchive first (rest.Files files) archive = AllImagesHoldArchive (outcomes g files.log files.db) archive
   LeftoverHoldsArchive first (rest.Unopened files) archive = TakesSums first (state_of files).page_size → AllImagesHoldArchive (state_of files).may_leave archive
   LeftoverHoldsArchive first (rest.Store last) archive = AllTreesHoldArchive last archive
 
-  -- Files, which held this content before the database was opened, hold this archive: those that were not opened; and else, if the disk has
-  -- returned what was written to it, what a crash leaves of those that no connection came of, and of those whose connection no store
-  -- took over; and those of a store that was closed.
+  -- Files, which held this content before the database was opened, hold this archive: those that were not opened, because a system that
+  -- does not open files writes nothing to them, as no clause says; those of a store that was closed; and, if the disk has returned what was
+  -- written to it, what a crash leaves of those that no connection came of, and of those whose connection no store took over.
   abbrev pub LeftFilesHoldArchive : (first : Image) → FilesLeft D g → Archive → Type 0
   LeftFilesHoldArchive first NotOpened archive = FileHoldsArchive first archive
   LeftFilesHoldArchive first (Unread leftover) archive = IsCleanLeft leftover → LeftoverHoldsArchive first leftover archive

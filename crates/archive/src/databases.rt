@@ -57,7 +57,7 @@ fn stands_for_memory(name: &str) -> bool
 /// What a device has of the files of a database that is not open.
 #[derive(Drop)]
 pub enum FilesLeft<D: Disk> {
-    /// Nothing: the system did not open them.
+    /// The system did not open them, so nothing was written to them.
     NotOpened,
     /// What is left of them, if no connection came of them.
     Unread(Leftover<D>),

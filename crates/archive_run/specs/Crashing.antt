@@ -1,5 +1,6 @@
 -- What a crash leaves of the archive in the database of an order, at each moment between the opening of the database and its close. A
--- crash within a call is the end of that call over a disk that fails from then on. So nothing here names what the call answers.
+-- crash within a call is the end of that call over a disk that fails from then on. So nothing here names what the call answers. A crash
+-- within the opening is an opening that fails (`UnopenedDatabaseHoldsArchive`).
 use Rattle.std.specs.Prelude.{◌≡◌, ◌⊎◌, ◌++◌, ℕ, List, []}
 use Rattle.sqlite.specs.Store.{Ghosts}
 use Rattle.byte_device.specs.declared.devices.Source.{Ghosts as Reads}
