@@ -56,8 +56,13 @@ def commit():
         return hashlib.sha256((part.ROOT / "crates.txt").read_bytes()).hexdigest()
 
 
+def drawn(name, by):
+    """Returns the number that the commit draws for a crate."""
+    return int(hashlib.sha256(f"{by} {name}".encode()).hexdigest(), 16)
+
+
 def is_picked(name, by):
-    return int(hashlib.sha256(f"{by} {name}".encode()).hexdigest(), 16) % TENTH == 0
+    return drawn(name, by) % TENTH == 0
 
 
 class Record:
@@ -70,6 +75,10 @@ class Record:
 
     def is_due(self, name):
         return self.known.get(name) != digest(name, self.version) or is_picked(name, self.commit)
+
+    def in_turn(self, names):
+        """Returns crates in the order that the commit draws."""
+        return sorted(names, key=lambda it: drawn(it, self.commit))
 
     def note(self, name, all_refused):
         """Keeps or drops a crate's line."""

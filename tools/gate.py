@@ -1,13 +1,14 @@
 #!/usr/bin/env python3
 """The gate: the toolchain's own `rt ci`, on a copy of the repository without wrong bodies; then those that are due (`due.py`), as many in one
-check as can be (`joined.py`), and each other one by `rt ci`.
+check as can be (`joined.py`), and each other one by `rt ci`. Of crates whose wrong bodies are due it takes one after the other, in an order
+that the commit draws, until it has MOST; it says which it put off, and these stay due.
 
   gate.py [--all] [--anew] [--record]
 
-  --all      every wrong body is due
+  --all      every wrong body is due, and none is put off
   --anew     nothing counts that an earlier run on this machine passed, and each wrong body is tried by itself
-  --record   writes tools/refused.txt: of which crates all wrong bodies were refused, over which text; and tools/minutes.txt: how long each
-             crate took that was proved from nothing, with the tables of docs/GATE.md that are made of it
+  --record   puts none off, and writes tools/refused.txt: of which crates all wrong bodies were refused, over which text; and
+             tools/minutes.txt: how long each crate took that was proved from nothing, with the tables of docs/GATE.md that are made of it
 
 The last line is 'N passed, M failed', as `rt ci` counts, but that a wrong body that cannot be applied has failed; and the
 worked calls under refused growths of memory (refused.py) are one more that passed or failed, and so are the callers of the
@@ -19,6 +20,8 @@ import build, callers, due, joined, minutes, part, refused, why
 
 COUNT = re.compile(r"(\d+) passed, (\d+) failed")
 EDIT = re.compile(r"rt: must-fail (\w+)/(\S+\.edit): (refused, as it must be.*|[A-Z]+.*)")
+# From how many wrong bodies on one run puts the next crate off: so many fit CI's time on two processors, beside tests and programs.
+MOST = 200
 # What a refused edit says where the prover did not refuse what it does.
 SHOWS_LITTLE = re.compile(r"borrow checker does not cover|says (little|less) of the contract")
 
@@ -118,10 +121,23 @@ def try_wrong_bodies(top, names, heard):
         heard.add(alone)
 
 
-def tell(heard, left, due_count):
-    """Says what was tried and left, what it took, and the count."""
+def put_off(names, counts):
+    """Returns those of some crates that come once MOST wrong bodies are taken."""
+    taken, rest = 0, []
+    for name in names:
+        if taken < MOST:
+            taken += counts[name]
+        else:
+            rest.append(name)
+    return rest
+
+
+def tell(heard, left, rest, due_count):
+    """Says what was tried, left and put off, what it took, and the count."""
     for name, count in left.items():
         print(f"check: left the {count} wrong bodies of {name}, whose text is as recorded")
+    for name, count in rest.items():
+        print(f"check: put off the {count} wrong bodies of {name}, which stay due: one run takes no more crates after {MOST} wrong bodies")
     used = resource.getrusage(resource.RUSAGE_CHILDREN)
     for it in heard.that_say(SHOWS_LITTLE):
         print(f"check: {it} shows little of a contract: change a value, and keep the names")
@@ -144,7 +160,9 @@ def main(words):
     heard = Heard(names)
     counts = {it: len(edits_of(it)) for it in names if edits_of(it)}
     left = {} if "--all" in words else {it: count for it, count in counts.items() if not record.is_due(it)}
-    tried = [it for it in counts if it not in left]
+    is_whole = bool({*words} & {"--all", "--record"})
+    rest = {} if is_whole else {it: counts[it] for it in put_off(record.in_turn(it for it in counts if it not in left), counts)}
+    tried = [it for it in counts if it not in left and it not in rest]
     by_rounds = "--anew" not in words and joined.toolchain()
     with part.copied(names, () if by_rounds else tried) as top:
         if wanting := out_of_layout(top, names):
@@ -163,7 +181,7 @@ def main(words):
         record.write()
         minutes.write(heard.work.proved())
         minutes.main(["--write"])
-    return tell(heard, left, sum(counts.values()) - sum(left.values()))
+    return tell(heard, left, rest, sum(counts.values()) - sum(left.values()) - sum(rest.values()))
 
 
 if __name__ == "__main__":

@@ -280,6 +280,16 @@ def picked(names):
     return [it for it in names if int(hashlib.sha256(f"{by} {it}".encode()).hexdigest(), 16) % 10 == 0]
 
 
+def in_turn(names):
+    """The crates in the order in which their wrong bodies are tried, where there is no history."""
+    by = hashlib.sha256(WITH_EDITS["crates.txt"].encode()).hexdigest()
+    return sorted(names, key=lambda it: hashlib.sha256(f"{by} {it}".encode()).hexdigest())
+
+
+# Three crates of 150 wrong bodies each.
+MANY = {**CHAIN, **{f"crates/{it}/must-fail/f.is{n}.edit": "file: src/lib.rt\n" for it in ("low", "middle", "beside") for n in range(150)}}
+
+
 def records_what_was_refused(says_of, wanted, files=WITH_EDITS):
     """A run with --record writes down the crates of which all wrong bodies were refused for what they do."""
     def holds():
@@ -370,6 +380,11 @@ GATE = {
     "it says what it leaves": says("gate.py", [], recorded(["low"]), 1,
         *([] if picked(["low"]) else ["check: left the 2 wrong bodies of low, whose text is as recorded"])),
     "--all leaves nothing": asks("gate.py", ["--all"], recorded(["low", "middle"]), EDITS, []),
+    "after 200 wrong bodies a crate is put off": asks("gate.py", [], MANY, [f"crates/{it}/must-fail/f.is7.edit" for it in in_turn(["low", "middle", "beside"])[:2]],
+        [f"crates/{in_turn(['low', 'middle', 'beside'])[2]}/must-fail/f.is7.edit"]),
+    "it says which": says("gate.py", [], MANY, 1, f"check: put off the 150 wrong bodies of {in_turn(['low', 'middle', 'beside'])[2]}, which stay due: "
+        "one run takes no more crates after 200 wrong bodies"),
+    "--all puts none off": asks("gate.py", ["--all"], MANY, [f"crates/{it}/must-fail/f.is7.edit" for it in ("low", "middle", "beside")], []),
     "a crate whose code changed is due": asks("gate.py", [], recorded(["low"], **{"crates/low/src/lib.rt": "// low\nfn f() {}\n"}), EDITS, []),
     "a clause of a crate below makes a crate due": asks("gate.py", [], recorded(["low", "middle"], **{"crates/low/src/lib.rt": "fn f()\n ensures { IsOne result }\n{\n}\n"}), [*EDITS, OTHER_EDIT], []),
     "a definition of one does": asks("gate.py", [], recorded(["low", "middle"], **{"crates/low/specs/A.antt": "is_one = refl\n"}), [*EDITS, OTHER_EDIT], []),
