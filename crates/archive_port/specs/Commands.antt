@@ -1,10 +1,15 @@
 -- Commands of the code, and those of the machine that they stand for.
-use Rattle.std.specs.Prelude.{List, [], ◌∷◌, if◌then◌else◌}
+use Rattle.std.specs.Prelude.{List, [], ◌∷◌, if◌then◌else◌, Result}
 use Rattle.archive_model.specs.Commands.{Command as Told, list_add, merge_set, person_add, address_set, grant, revoke, add, withdraw, restore}
 use Rattle.archive_model.specs.Commands.{embargo, lift, Refusal, CommandReply, refused, taken_in, already_known}
-use Rattle.archive_model.specs.Machine.{GuardedReply, no_command_facts, guarded_replies_of, reply_if_carried_out}
+use Rattle.archive_model.specs.Machine.{GuardedReply, no_command_facts, guarded_replies_of, reply_if_carried_out, step}
 use Rattle.archive_model.specs.declared.found.CommandFacts.{CommandFacts}
 use Rattle.policy_core.specs.Numbers.{grant_kind_rank, withdrawn_by_number}
+use Rattle.archive_port.specs.Crashes.{CrashSteps}
+use Rattle.archive_port.specs.Replies.{reply_of_result}
+use Rattle.archive_port.specs.Told.{EndsWrite, PerformsModelStep}
+use Rattle.archive_port.specs.declared.state.ArchiveState.{Ghosts}
+use Rattle.archive_port.specs.declared.faults.StoreFault.{StoreFault}
 use Rattle.archive_port.specs.declared.commands.Command.{Command}
 use Rattle.archive_port.specs.declared.commands.Command.TheVariants.{ListAdd, MergeSet, PersonAdd, AddressSet, Grant, Revoke, Add, Withdraw, Restore}
 use Rattle.archive_port.specs.declared.commands.Command.TheVariants.{Embargo, Lift}
@@ -40,3 +45,9 @@ possible_refusals_of command = refusals_among (guarded_replies_of command no_com
 abbrev pub reply_unless_refused : Told → CommandFacts → CommandReply
 reply_unless_refused (add list item) found = if found.message then already_known else taken_in
 reply_unless_refused command found = reply_if_carried_out command found
+
+-- A command that hands on what was found: one step of the machine, a crash leaves the archive before it or after it, and how it ends.
+pub record ExecutesCommand {S W : Type 0} (g : Ghosts S W) (old new : S) (command : Told) (result : Result CommandFacts StoreFault) : Type 0 where
+  pub performs_step : PerformsModelStep g old new (λ a. step a command) (reply_of_result (reply_unless_refused command) result)
+  pub crash : CrashSteps g old new (λ a. step a command)
+  pub ends_write : EndsWrite g old new result (possible_refusals_of command) command

@@ -1,8 +1,11 @@
 pub mod Adding
 pub mod Checking
 pub mod Commands
+pub mod Crashes
 pub mod Messages
 pub mod Names
 pub mod Replies
+pub mod Told
+pub mod Walking
 pub mod Wanting
 pub mod Words
