@@ -22,3 +22,4 @@ mod FindLemmas
 pub mod StopLemmas
 mod AdoptLemmas
 pub mod CarryLemmas
+pub mod StateLemmas

@@ -39,9 +39,10 @@ use Rattle.archive_store.proofs.FollowLemmas.{when_ok}
 use Rattle.archive_store.proofs.PassLemmas.{kind_last}
 use Rattle.archive_port.proofs.WantLemmas.{raises_after}
 use Rattle.archive_store.specs.Walking.{Walk, WalksOn, WalksOver, BeginsOver, GivesAll, E15MeansSomeUnreadable, IsRowOfFirst, PassesNext}
-use Rattle.archive_store.specs.Walking.{remaining_numbers, current_database, walk_over_store, current_rows, selected_messages, selected_numbers}
-use Rattle.archive_store.specs.declared.walking.Selection.{Selection}
-use Rattle.archive_store.specs.declared.walking.Selection.TheVariants.{Every, InMonth, ByAuthor}
+use Rattle.archive_store.specs.Walking.{remaining_numbers, current_database, walk_over_store, current_rows, selected_numbers}
+use Rattle.archive_port.specs.Walking.{selected_messages}
+use Rattle.archive_port.specs.declared.walking.Selection.{Selection}
+use Rattle.archive_port.specs.declared.walking.Selection.TheVariants.{Every, InMonth, ByAuthor}
 use Rattle.archive_store.specs.declared.walking.MessageWalk.{MessageWalk}
 use Rattle.archive_store.specs.declared.store.Store.{Store}
 use Rattle.archive_port.specs.declared.faults.StoreFault.{StoreFault}

@@ -10,7 +10,6 @@ use Rattle.sqlite.specs.Store.{Ghosts}
 use Rattle.sqlite.specs.Held.{Held, state}
 use Rattle.archive_model.specs.Records.{Message as Remembered, Archive}
 use Rattle.archive_model.specs.Questions.{list_refusal, messages_in}
-use Rattle.archive_model.specs.Filing.{messages_in_month, messages_by_author}
 use Rattle.archive_model.specs.Messages.{archived_message}
 use Rattle.archive_model.specs.declared.messages.Message.{Message}
 use Rattle.archive_tables.specs.Rows.{message_at, message_from_result_row, message_rowids_in, month_rowids, author_rowids}
@@ -27,8 +26,8 @@ use Rattle.archive_store.specs.declared.store.Store.{Store}
 use Rattle.archive_port.specs.declared.faults.StoreFault.{StoreFault}
 use Rattle.archive_port.specs.declared.faults.StoreFault.TheVariants as faults
 use Rattle.archive_store.specs.declared.walking.MessageWalk.{MessageWalk}
-use Rattle.archive_store.specs.declared.walking.Selection.{Selection}
-use Rattle.archive_store.specs.declared.walking.Selection.TheVariants.{Every, InMonth, ByAuthor}
+use Rattle.archive_port.specs.declared.walking.Selection.{Selection}
+use Rattle.archive_port.specs.declared.walking.Selection.TheVariants.{Every, InMonth, ByAuthor}
 
 -- a walk, and the store that it is told
 pub record Walk (S : Type 0) : Type 0 where
@@ -37,12 +36,6 @@ pub record Walk (S : Type 0) : Type 0 where
 
 abbrev pub walk_over_store : {S : Type 0} → Store S → MessageWalk → Walk S
 walk_over_store store walk = record { store = store; walk = walk }
-
--- these of a list's messages: all in mailbox order, or those that are filed under a month or an author key
-abbrev pub selected_messages : Archive → List ℕ → Selection → List Remembered
-selected_messages a list Every = messages_in a list
-selected_messages a list (InMonth month) = messages_in_month a list (pos month)
-selected_messages a list (ByAuthor key) = messages_by_author a list key.now
 
 -- the numbers of these of a list's messages
 abbrev pub selected_numbers : Trees → List ℕ → Selection → List ℤ

@@ -19,6 +19,7 @@ mod persons;
 mod questions;
 mod reading;
 mod running;
+mod state;
 mod store;
 mod walking;
 mod wants;
@@ -26,13 +27,13 @@ mod words;
 mod writing;
 
 pub use adopting::AdoptStop;
-pub use archive_model::{CommandFacts, Key, Message};
 pub use archive_port::{
-    AddError, AddReport, Added, CheckError, Command, DatedMarks, MemoryRefusal, StoreFault,
+    AddError, AddReport, Added, CheckError, Command, CommandFacts, DatedMarks, Key, MemoryRefusal,
+    Message, Selection, StoreFault,
 };
 pub use faults::database_fault;
 pub use keys::key_of;
 pub use running::{CommandRunError, Outcome};
 pub use store::Store;
-pub use walking::{MessageWalk, Selection};
+pub use walking::MessageWalk;
 pub use wants::RefusalCounter;

@@ -16,7 +16,7 @@ use crate::store::Store;
 use crate::words::month_number;
 use archive_database::reading::{checked_dated_marks, checked_message, read_rowids};
 use archive_model::Message;
-use archive_port::{DatedMarks, StoreFault};
+use archive_port::{DatedMarks, Selection, StoreFault};
 use archive_tables::rows::{DatedMarksRow, MessageRow};
 use archive_tables::texts;
 use civil_time::Month;
@@ -32,26 +32,15 @@ pub struct MessageWalk {
     peeked: Option<MessageRow>,
 }
 
-/// Which messages of a list are walked over: all, in mailbox order; or those that are filed under a month or an author key, by
-/// the sent date that is filed and then in mailbox order.
-#[derive(Clone, Copy)]
-pub enum Selection<'a> {
-    /// All.
-    Every,
-    /// Those of a month.
-    InMonth(Month),
-    /// Those of an author key.
-    ByAuthor(&'a [u8]),
-}
-
 impl<S: Alter> Store<S> {
     ghost use Rattle.archive_store.specs.Replies.{AnswersStoreQuestion};
     ghost use Rattle.std.specs.Prelude.{pos};
     ghost use Rattle.std.specs.List.{All};
     ghost use Rattle.archive_port.specs.Messages.{IsReadable};
-    ghost use Rattle.archive_store.specs.Told.{E15MeansDiskFailedOr, WritesNothing};
+    ghost use Rattle.archive_store.specs.Told.{WritesNothing};
     ghost use Rattle.archive_model.specs.Filing.{messages_in_month, messages_by_author};
-    ghost use Rattle.archive_store.specs.Walking.{BeginsListWalk, BeginsOver, WalkFailsToBegin, walk_over_store, selected_messages};
+    ghost use Rattle.archive_port.specs.Walking.{selected_messages};
+    ghost use Rattle.archive_store.specs.Walking.{BeginsListWalk, BeginsOver, WalkFailsToBegin, walk_over_store};
 
     /// The messages of a list in mailbox order. E4 where there is no such list.
     pub fn rows(&mut self, alloc: Global, list: &str) -> Result<Vec<Message>, StoreFault>

@@ -1,5 +1,6 @@
 use Rattle.std.proofs.Common.{refl, None}
-use Rattle.archive_store.specs.Walking.{selected_messages, selected_numbers}
+use Rattle.archive_store.specs.Walking.{selected_numbers}
+use Rattle.archive_port.specs.Walking.{selected_messages}
 use Rattle.archive_store.proofs.WalkingLemmas.{begins_walk, selected_of_list, selected_shown}
 use Rattle.archive_store.proofs.store.Store.each_selected.Goals as goal
 

@@ -1,7 +1,8 @@
 use Rattle.std.proofs.Common.{◌∷◌, []}
 use Rattle.archive_model.specs.Commands.{no_list}
 use Rattle.archive_store.proofs.WalkingLemmas.{rows_answer, rows_ends}
-use Rattle.archive_store.specs.Walking.{walk_over_store, selected_messages}
+use Rattle.archive_store.specs.Walking.{walk_over_store}
+use Rattle.archive_port.specs.Walking.{selected_messages}
 use Rattle.archive_store.proofs.store.Store.read_selected.Goals as goal
 
 pub returns-clause-answer : goal.returns-clause-answer
