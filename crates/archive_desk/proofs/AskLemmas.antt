@@ -3,9 +3,8 @@ use Rattle.std.proofs.Common.{◌≡◌, inl, inr, refl, sym, ap, ◌∙◌, sub
 use Rattle.std.specs.Prelude.{IfSome, MatchOption, option_map}
 use Rattle.std.specs.Option.{option_map_or, option_and_then}
 use Rattle.std.proofs.lemmas.Bool.{true≢false}
-use Rattle.sqlite.specs.Store.{Ghosts}
-use Rattle.archive_model.specs.Records.{Archive}
-use Rattle.archive_model.specs.Records.{Message as Remembered}
+use Rattle.archive_port.specs.declared.state.ArchiveState.{Ghosts}
+use Rattle.archive_model.specs.Records.{Archive, Message as Remembered}
 use Rattle.archive_model.specs.Commands.{no_list as unknown_list, no_person as unknown_person}
 use Rattle.archive_model.specs.Commands.{bad_name, bad_text, list_exists, person_exists, token_taken, no_message, already_withdrawn, not_withdrawn, bad_days, list_full, too_large}
 use Rattle.archive_model.specs.Commands.{Refusal as Declined}
@@ -13,14 +12,12 @@ use Rattle.archive_model.specs.Questions.{has_list, has_person, list_refusal, me
 use Rattle.archive_model.specs.Messages.{archived_message}
 use Rattle.archive_model.specs.declared.messages.Message.{Message}
 use Rattle.archive_port.specs.Replies.{IsOneOf, refusal_of_fault}
-use Rattle.archive_store.specs.Replies.{AnswersStoreQuestion}
-use Rattle.archive_store.specs.Held.{store_connection}
-use Rattle.archive_store.specs.Told.{HoldsTables, StaysOpenUnlessDiskFails, RelatesArchivesUnder, RelatesArchivesUnderIfOpen, AnswersFromStoreUnder}
-use Rattle.archive_store.specs.declared.store.Store.{Store}
+use Rattle.archive_port.specs.Told.{AnswersStoreQuestion}
+use Rattle.archive_port.specs.Told.{HoldsTables, StaysOpenUnlessDiskFails, RelatesArchivesUnder, RelatesArchivesUnderIfOpen, AnswersFromStoreUnder}
 use Rattle.archive_port.specs.declared.faults.StoreFault.{StoreFault}
 use Rattle.archive_port.specs.declared.faults.StoreFault.TheVariants.{BadName, BadText, ListExists, NoList, PersonExists, NoPerson, TokenTaken, NoMessage}
 use Rattle.archive_port.specs.declared.faults.StoreFault.TheVariants.{AlreadyWithdrawn, NotWithdrawn, BadDays, ListFull, TooLarge, Memory, Store as Failed}
-use Rattle.archive_store.proofs.Joins.{goes_in_as}
+use Rattle.archive_port.proofs.Joins.{goes_in_as}
 use Rattle.archive_results.specs.Access.{Ask, ReaderFacts, AskRefusal, no_list, no_person, is_shown, reader_facts, view_of}
 use Rattle.archive_results.specs.Access.{Asked, asked_of_message, asked_for_key}
 use Rattle.archive_desk.specs.Asking.{DeterminesVerdicts, standing_reason}
@@ -102,7 +99,7 @@ is_person_fault fault it = is_ask_fault fault
 pub is_bare_fault : (fault : StoreFault) → refusal_of_fault fault ≡ None → IsAskFault (desk_error_of fault)
 is_bare_fault fault is = is_ask_fault fault (rw is tt)
 
-module _ {S : Type 0} (g : Ghosts S) (old new : Store S) {A : Type 0} (refuses : Archive → Option Declined) (Says : Archive → A → Type 0) where
+module _ {S W : Type 0} (g : Ghosts S W) (old new : S) {A : Type 0} (refuses : Archive → Option Declined) (Says : Archive → A → Type 0) where
   -- a question that the store answers
   pub desk_answered : (answer : A) → RelatesArchivesUnder g (HoldsTables g) old new (λ a b. (b ≡ a) × (refuses a ≡ None) × Says a answer)
       → AnswersFromStoreUnder g (HoldsTables g) old new {A = A} refusal_reason (Ok answer) (λ a. option_map reason_of_refusal (refuses a)) Says
@@ -131,7 +128,7 @@ module _ {S : Type 0} (g : Ghosts S) (old new : Store S) {A : Type 0} (refuses :
 
   -- one that the store does not answer
   pub store_declines : {B : Type 0} (fault : StoreFault) (SaysBelow : Archive → B → Type 0) → StaysOpenUnlessDiskFails g old new
-      → AnswersStoreQuestion g (store_connection old) (store_connection new) {A = B} (Err fault) refuses SaysBelow
+      → AnswersStoreQuestion g old new {A = B} (Err fault) refuses SaysBelow
       → AnswersFromStoreUnder g (HoldsTables g) old new {A = A} refusal_reason (Err (desk_error_of fault)) (λ a. option_map reason_of_refusal (refuses a)) Says
   store_declines {B = B} fault SaysBelow lasts it = desk_declined fault (store_asked g {A = B} old new (Err fault) refuses SaysBelow lasts it)
 
@@ -185,9 +182,9 @@ by_reader_alone a ask there = by_reader ask.reader (has_list a ask.list) (list_t
     by_reader None true e = refl
     by_reader (Some person) true e = by_person (has_person a person)
 
-module _ {S : Type 0} (g : Ghosts S) (ask : Ask) where
+module _ {S W : Type 0} (g : Ghosts S W) (ask : Ask) where
   -- the list is not there, or memory or the database was at fault
-  pub list_refused : (old new : Store S) {A B : Type 0} (fault : DeskError) (Says : Archive → A → Type 0) (Says' : Archive → B → Type 0)
+  pub list_refused : (old new : S) {A B : Type 0} (fault : DeskError) (Says : Archive → A → Type 0) (Says' : Archive → B → Type 0)
       → AnswersFromStoreUnder g (HoldsTables g) old new {A = A} refusal_reason (Err fault) (λ a. option_map reason_of_refusal (list_refusal a ask.list)) Says
       → AnswersFromStoreUnder g (HoldsTables g) old new {A = B} refusal_reason (Err fault) (λ a. ask_reason a ask) Says'
   list_refused old new fault Says Says' it = by_reason (refusal_reason fault) it
@@ -202,7 +199,7 @@ module _ {S : Type 0} (g : Ghosts S) (ask : Ask) where
           (λ a b h. (h.0, no_such_list a ask why h.1)) same
 
   -- the reader's marks, after what was found of the list
-  pub marks_after : (old mid new : Store S) (First : Archive → Type 0) (result : Result ReaderFacts DeskError)
+  pub marks_after : (old mid new : S) (First : Archive → Type 0) (result : Result ReaderFacts DeskError)
       → RelatesArchivesUnder g (HoldsTables g) old mid (λ a b. (b ≡ a) × (option_map reason_of_refusal (list_refusal a ask.list) ≡ None) × First a)
       → AnswersFromStoreUnder g (HoldsTables g) mid new refusal_reason result (λ a. standing_reason a ask) (λ a reader. DeterminesVerdicts a ask reader)
       → AnswersFromStoreUnder g (HoldsTables g) old new refusal_reason result (λ a. ask_reason a ask) (λ a reader. First a × DeterminesVerdicts a ask reader)
@@ -220,7 +217,7 @@ module _ {S : Type 0} (g : Ghosts S) (ask : Ask) where
       (λ a b c fault first it. it ∙ first.0) result before asks
 
   -- the reader's marks, after the list was found
-  pub reader_after : (old mid new : Store S) (result : Result ReaderFacts DeskError)
+  pub reader_after : (old mid new : S) (result : Result ReaderFacts DeskError)
       → RelatesArchivesUnder g (HoldsTables g) old mid (λ a b. (b ≡ a) × (list_refusal a ask.list ≡ None) × (has_list a ask.list ≡ true))
       → AnswersFromStoreUnder g (HoldsTables g) mid new refusal_reason result (λ a. standing_reason a ask) (λ a reader. DeterminesVerdicts a ask reader)
       → AnswersFromStoreUnder g (HoldsTables g) old new refusal_reason result (λ a. ask_reason a ask) (λ a reader. DeterminesVerdicts a ask reader)
@@ -241,7 +238,7 @@ module _ {S : Type 0} (g : Ghosts S) (ask : Ask) where
       (λ a b c fault first it. it ∙ first.0) result before asks
 
   -- the store refuses a question on the list
-  pub list_declined : (old new : Store S) {A B : Type 0} (fault : StoreFault) (Says : Archive → A → Type 0) (Says' : Archive → B → Type 0)
+  pub list_declined : (old new : S) {A B : Type 0} (fault : StoreFault) (Says : Archive → A → Type 0) (Says' : Archive → B → Type 0)
       → MatchOption (refusal_of_fault fault) (RelatesArchivesUnderIfOpen g (HoldsTables g) old new (λ a b. b ≡ a))
       (λ why. RelatesArchivesUnder g (HoldsTables g) old new (λ a b. (b ≡ a) × (list_refusal a ask.list ≡ Some why)))
       → AnswersFromStoreUnder g (HoldsTables g) old new {A = B} refusal_reason (Err (desk_error_of fault)) (λ a. ask_reason a ask) Says'
@@ -267,7 +264,7 @@ viewed a ask reader found kept all is e = ap (map (archived_message ask.list)) e
 
 -- ---- the calls
 
-module _ {S : Type 0} (g : Ghosts S) (old new : Store S) (ask : Ask) (reader : ReaderFacts) where
+module _ {S W : Type 0} (g : Ghosts S W) (old new : S) (ask : Ask) (reader : ReaderFacts) where
   pub view_found : (found kept : List Message)
       → RelatesArchivesUnder g (HoldsTables g) old new (λ a b. (b ≡ a) × (ask_reason a ask ≡ None)
       × ((map (archived_message ask.list) found ≡ messages_in a ask.list) × DeterminesVerdicts a ask reader))
@@ -278,9 +275,9 @@ module _ {S : Type 0} (g : Ghosts S) (old new : Store S) (ask : Ask) (reader : R
       (λ a b. (b ≡ a) × (ask_reason a ask ≡ None) × (map (archived_message ask.list) kept ≡ view_of a ask))
       (λ a b h. (h.0, h.1, viewed a ask reader found kept h.2.0 h.2.1 is)) goes
 
-module _ {S : Type 0} (g : Ghosts S) (ask : Ask) where
+module _ {S W : Type 0} (g : Ghosts S W) (ask : Ask) where
   -- what is said of a message that the list holds
-  pub answer_told : (old new : Store S) (reader : ReaderFacts) (held : Option Remembered) (answer : Asked)
+  pub answer_told : (old new : S) (reader : ReaderFacts) (held : Option Remembered) (answer : Asked)
       → RelatesArchivesUnder g (HoldsTables g) old new (λ a b. (b ≡ a) × (standing_reason a ask ≡ None) × DeterminesVerdicts a ask reader) → answer ≡ asked_of_message ask reader held
       → RelatesArchivesUnder g (HoldsTables g) old new (λ a b. (b ≡ a) × (standing_reason a ask ≡ None) × (answer ≡ asked_of_message ask (reader_facts a ask) held))
   answer_told old new reader held answer goes is =
@@ -288,7 +285,7 @@ module _ {S : Type 0} (g : Ghosts S) (ask : Ask) where
       (λ a b. (b ≡ a) × (standing_reason a ask ≡ None) × (answer ≡ asked_of_message ask (reader_facts a ask) held))
       (λ a b h. (h.0, h.1, is ∙ asked_alike a ask reader h.2 held)) goes
 
-  pub answer_after : (old mid new : Store S) {X : Type 0} (say : X → Asked) (key : List ℕ) (held : Option Remembered) (result : Result X DeskError)
+  pub answer_after : (old mid new : S) {X : Type 0} (say : X → Asked) (key : List ℕ) (held : Option Remembered) (result : Result X DeskError)
       → RelatesArchivesUnder g (HoldsTables g) old mid (λ a b. (b ≡ a) × (option_map reason_of_refusal (list_refusal a ask.list) ≡ None) × (held ≡ message_of a ask.list key))
       → AnswersFromStoreUnder g (HoldsTables g) mid new refusal_reason result (λ a. standing_reason a ask) (λ a answer. say answer ≡ asked_of_message ask (reader_facts a ask) held)
       → AnswersFromStoreUnder g (HoldsTables g) old new refusal_reason result (λ a. ask_reason a ask) (λ a answer. say answer ≡ asked_for_key a ask key)

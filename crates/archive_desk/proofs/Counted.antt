@@ -1,15 +1,14 @@
 -- A want of memory that is counted while a list is walked over.
-use Rattle.std.proofs.Common.{◌≡◌, ℕ, ◌+◌, ap, refl}
-use Rattle.archive_store.specs.Held.{memory_refusal_count}
-use Rattle.archive_store.specs.Walking.{Walk, walk_over_store}
-use Rattle.archive_store.specs.declared.store.Store.{Store}
-use Rattle.archive_store.specs.declared.walking.MessageWalk.{MessageWalk}
+use Rattle.std.proofs.Common.{◌≡◌, refl}
+use Rattle.archive_port.specs.Told.{CountsOneRefusal}
+use Rattle.archive_port.specs.Walking.{Walk, walk_over_store}
+use Rattle.archive_port.specs.declared.state.ArchiveState.{Ghosts}
 
--- the walk is where it was, and its store counts one want of memory more
-pub record CountsOne {S : Type 0} (old new : Walk S) : Type 0 where
-  pub store : new.store ≡ record old.store { wants = memory_refusal_count old.store + 1 }
-  pub walk : new.walk ≡ old.walk
+module _ {S W : Type 0} (g : Ghosts S W) where
+  -- the walk is where it was, and one want of memory more is counted
+  pub record CountsOne (old new : Walk S W) : Type 0 where
+    pub store : CountsOneRefusal g old.store new.store
+    pub walk : new.walk ≡ old.walk
 
-pub counts_one : {S : Type 0} (store : Store S) (walk : MessageWalk) (wants : ℕ) → wants ≡ memory_refusal_count store + 1
-    → CountsOne (walk_over_store store walk) (walk_over_store (record store { wants = wants }) walk)
-counts_one store walk wants is = record { store = ap (λ n. record store { wants = n }) is; walk = refl }
+  pub counts_one : (old new : S) (walk : W) → CountsOneRefusal g old new → CountsOne (walk_over_store old walk) (walk_over_store new walk)
+  counts_one old new walk one = record { store = one; walk = refl }

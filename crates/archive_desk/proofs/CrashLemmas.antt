@@ -1,18 +1,16 @@
 -- What a stop of the machine leaves, from call to call.
 use Rattle.std.proofs.Common.{◌≡◌, ◌∙◌, ap, inl, inr, refl, sym, subst, arith, ℕ, true, List, length, None, Result, Ok, Err}
 use Rattle.std.proofs.lemmas.List.{take_all}
-use Rattle.sqlite.specs.Store.{Ghosts}
+use Rattle.archive_port.specs.declared.state.ArchiveState.{Ghosts}
 use Rattle.mbox_core.specs.Division.{Item, DividesIntoItems}
 use Rattle.archive_model.specs.Records.{Archive}
 use Rattle.archive_model.specs.Questions.{has_list, list_refusal}
 use Rattle.archive_model.specs.Runs.{taken}
-use Rattle.archive_store.specs.Crashes.{CrashAddsAllBatches, CrashOutcome}
+use Rattle.archive_port.specs.Crashes.{CrashAddsAllBatches, CrashOutcome, WritesNothing}
 use Rattle.archive_port.specs.Adding.{HasAddedAtLeast}
-use Rattle.archive_store.specs.Held.{store_connection}
-use Rattle.archive_store.specs.Told.{RelatesArchivesUnder, StoreHasCleanDisk, HoldsTables, StaysOpenUnlessDiskFails, WritesNothing, archive_in}
+use Rattle.archive_port.specs.Told.{LeavesArchive, RelatesArchivesUnder, StoreHasCleanDisk, HoldsTables, StaysOpenUnlessDiskFails, archive_in}
 use Rattle.archive_port.specs.declared.reports.AddError.{AddError}
-use Rattle.archive_store.specs.declared.store.Store.{Store}
-use Rattle.archive_store.proofs.CrashLemmas.{asked_safe, leaves_as, leaves_now}
+use Rattle.archive_port.proofs.CrashLemmas.{asked_safe, leaves_as, leaves_now, left_still}
 use Rattle.archive_desk.specs.Crashes.{CrashAfterCallUnder, CrashAfterTablesCall, HasImportedAtLeast, IsCrashSafeStore}
 use Rattle.archive_desk.specs.Holding.{CallsStoreWithTables}
 use Rattle.archive_desk.specs.Importing.{HasAddedAllItems, IsBrokenAdd, IsBrokenImport, IsImported, IsRefusedAdd, IsRefusedImport, import_stop_reason}
@@ -20,12 +18,12 @@ use Rattle.archive_desk.specs.declared.importing.Report.{Report}
 use Rattle.archive_desk.specs.declared.importing.ImportStop.{ImportStop}
 use Rattle.archive_desk.proofs.CallLemmas.{calls_last}
 
-module _ {S : Type 0} (g : Ghosts S) (Premise : Store S → Type 0) where
+module _ {S W : Type 0} (g : Ghosts S W) (Premise : S → Type 0) where
   -- where a stop left what was remembered before some calls, it does so behind them
-  abbrev pub StaysSafe : Store S → Store S → Type 0
+  abbrev pub StaysSafe : S → S → Type 0
   StaysSafe old new = StoreHasCleanDisk g new → Premise old → IsCrashSafeStore g old → IsCrashSafeStore g new
 
-  module _ (old mid new : Store S) (Before : Archive → Archive → Type 0) (safe : StaysSafe old mid) (before : RelatesArchivesUnder g Premise old mid Before) where
+  module _ (old mid new : S) (Before : Archive → Archive → Type 0) (safe : StaysSafe old mid) (before : RelatesArchivesUnder g Premise old mid Before) where
     pub stays_safe_then : StaysOpenUnlessDiskFails g mid new → StaysSafe mid new → StaysSafe old new
     stays_safe_then lasts after = λ returned held was.
         let back = lasts.disk_was_clean returned in
@@ -42,26 +40,32 @@ module _ {S : Type 0} (g : Ghosts S) (Premise : Store S → Type 0) where
         (it.0, leaves (archive_in g old) (archive_in g mid) it.0 here.1 it.1, it.2)
 
   -- no call more: what is remembered
-  pub crash_between : (old mid : Store S) (Before : Archive → Archive → Type 0) → StaysSafe old mid → RelatesArchivesUnder g Premise old mid Before
+  pub crash_between : (old mid : S) (Before : Archive → Archive → Type 0) → StaysSafe old mid → RelatesArchivesUnder g Premise old mid Before
       → (A : Type 0) {F : Type 0} (fault : F) (Leaves : Archive → F → Archive → Type 0) → ((a b : Archive) → Before a b → Leaves a fault b)
       → CrashAfterCallUnder g Premise old mid {A = A} (Err fault) Leaves
   crash_between old mid Before safe before A fault Leaves leaves = λ returned held was db may.
       (archive_in g mid, leaves (archive_in g old) (archive_in g mid) (before.1 returned held).1, safe returned held was db may)
 
   -- the same in other words
-  pub crash_as : (old new : Store S) (A B : Type 0) {F G : Type 0} (fault : F) (told : G) (Leaves : Archive → F → Archive → Type 0) (Leaves' : Archive → G → Archive → Type 0)
+  pub crash_as : (old new : S) (A B : Type 0) {F G : Type 0} (fault : F) (told : G) (Leaves : Archive → F → Archive → Type 0) (Leaves' : Archive → G → Archive → Type 0)
       → ((a c : Archive) → Leaves a fault c → Leaves' a told c) → CrashAfterCallUnder g Premise old new {A = A} (Err fault) Leaves
       → CrashAfterCallUnder g Premise old new {A = B} (Err told) Leaves'
   crash_as old new A B fault told Leaves Leaves' leaves crash = λ returned held was db may.
       let it = crash returned held was db may in
       (it.0, leaves (archive_in g old) it.0 it.1, it.2)
 
-module _ {S : Type 0} (g : Ghosts S) where
+module _ {S W : Type 0} (g : Ghosts S W) where
+  -- behind a call that leaves the archive and writes nothing
+  pub crash_left : (Premise : S → Type 0) (old mid new : S) (A : Type 0) {F : Type 0} (fault : F) (Leaves : Archive → F → Archive → Type 0) → LeavesArchive g mid new → WritesNothing g mid new
+      → CrashAfterCallUnder g Premise old mid {A = A} (Err fault) Leaves → CrashAfterCallUnder g Premise old new {A = A} (Err fault) Leaves
+  crash_left Premise old mid new A fault Leaves leaves quiet crash = λ returned held was.
+      left_still g mid new (Leaves (archive_in g old) fault) quiet returned (crash (leaves.remains_open.disk_was_clean returned) held was)
+
   -- a question leaves what it left
-  pub question_safe : (old new : Store S) (Says : Archive → Archive → Type 0) → ((a b : Archive) → Says a b → b ≡ a) → RelatesArchivesUnder g (HoldsTables g) old new Says
+  pub question_safe : (old new : S) (Says : Archive → Archive → Type 0) → ((a b : Archive) → Says a b → b ≡ a) → RelatesArchivesUnder g (HoldsTables g) old new Says
       → WritesNothing g old new → StaysSafe g (HoldsTables g) old new
   question_safe old new Says same goes quiet = λ returned held was.
-      asked_safe g (store_connection old) (store_connection new) (λ clean db may. (quiet db (clean, may)).1) (same _ _ (goes.1 returned held).1) returned was
+      asked_safe g old new quiet (same _ _ (goes.1 returned held).1) returned was
 
   -- ---- an import stops: it left so many first messages at whatever moment, since it does behind the call
 
@@ -69,30 +73,30 @@ module _ {S : Type 0} (g : Ghosts S) where
   some_more list text done a b (inl none) = inl (refl, none.1)
   some_more list text done a b (inr some) = inr (some.0, some.1, (some.2.0, omega arith, some.2.2))
 
-  stops_import : (old new : Store S) (list text : List ℕ) (stop : ImportStop) → CrashAfterTablesCall g old new {A = Report} (Err stop) (λ a stop b. HasImportedAtLeast list text stop.done a b)
-      → CrashOutcome g (store_connection old) (store_connection new) (HasImportedAtLeast list text 0) {A = Report} (Err stop) (λ stop. HasImportedAtLeast list text stop.done)
+  stops_import : (old new : S) (list text : List ℕ) (stop : ImportStop) → CrashAfterTablesCall g old new {A = Report} (Err stop) (λ a stop b. HasImportedAtLeast list text stop.done a b)
+      → CrashOutcome g old new (HasImportedAtLeast list text 0) {A = Report} (Err stop) (λ stop. HasImportedAtLeast list text stop.done)
   stops_import old new list text stop crash = record {
-    during_call = leaves_as g (store_connection old) (store_connection new) (HasImportedAtLeast list text stop.done) (HasImportedAtLeast list text 0) (some_more list text stop.done) crash;
+    during_call = leaves_as g old new (HasImportedAtLeast list text stop.done) (HasImportedAtLeast list text 0) (some_more list text stop.done) crash;
     after_error = crash;
   }
 
   -- ---- the file is not taken in
 
-  pub none_imported : (old new : Store S) (list text : List ℕ) (stop : ImportStop) → stop.done ≡ 0 → WritesNothing g old new
-      → CrashOutcome g (store_connection old) (store_connection new) (HasImportedAtLeast list text 0) {A = Report} (Err stop) (λ stop. HasImportedAtLeast list text stop.done)
+  pub none_imported : (old new : S) (list text : List ℕ) (stop : ImportStop) → stop.done ≡ 0 → WritesNothing g old new
+      → CrashOutcome g old new (HasImportedAtLeast list text 0) {A = Report} (Err stop) (λ stop. HasImportedAtLeast list text stop.done)
   none_imported old new list text stop none quiet =
       stops_import old new list text stop (λ returned held was db may. (archive_in g old, inl (none, refl), was db (quiet db (returned, may)).1))
 
   -- ---- its messages are added
 
-  pub added_lasts : (old new : Store S) (list : List ℕ) (items : List Item) (result : Result Report ImportStop)
+  pub added_lasts : (old new : S) (list : List ℕ) (items : List Item) (result : Result Report ImportStop)
       → CallsStoreWithTables g old new import_stop_reason result (λ a b report. HasAddedAllItems list items a b report) (λ a b why. IsRefusedAdd list items a b why.0 why.1)
       (λ a b stop. IsBrokenAdd list items a b stop.done stop.fault) → StaysOpenUnlessDiskFails g old new
   added_lasts old new list items result added = calls_last g (HoldsTables g) old new import_stop_reason (λ a b report. HasAddedAllItems list items a b report)
       (λ a b why. IsRefusedAdd list items a b why.0 why.1) (λ a b stop. IsBrokenAdd list items a b stop.done stop.fault) result added
 
-  pub stopped_crash : (old new : Store S) (list : List ℕ) (items : List Item) (stop : AddError) (told : ImportStop) → told.done ≡ stop.done
-      → CrashAddsAllBatches g (store_connection old) (store_connection new) list items (Err stop)
+  pub stopped_crash : (old new : S) (list : List ℕ) (items : List Item) (stop : AddError) (told : ImportStop) → told.done ≡ stop.done
+      → CrashAddsAllBatches g old new list items (Err stop)
       → CrashAfterTablesCall g old new {A = Report} (Err told) (λ a s b. HasAddedAtLeast list items s.done a b)
   stopped_crash old new list items stop told same crash = λ returned held was db may.
       let it = crash.after_error returned held was db may in
@@ -102,7 +106,7 @@ module _ {S : Type 0} (g : Ghosts S) where
   abbrev pub IsThere : List ℕ → Archive → Archive → Type 0
   IsThere list a b = (b ≡ a) × (list_refusal a list ≡ None) × (has_list a list ≡ true)
 
-  module _ (old mid new : Store S) (list text : List ℕ) (goes : RelatesArchivesUnder g (HoldsTables g) old mid (IsThere list))
+  module _ (old mid new : S) (list text : List ℕ) (goes : RelatesArchivesUnder g (HoldsTables g) old mid (IsThere list))
       (quiet : WritesNothing g old mid)
       (items : List Item) (divided : DividesIntoItems text items) (lasts : StaysOpenUnlessDiskFails g mid new) where
     pub some_imported : (result : Result Report ImportStop) → CrashAfterTablesCall g mid new result (λ a stop b. HasAddedAtLeast list items stop.done a b)
@@ -119,12 +123,12 @@ module _ {S : Type 0} (g : Ghosts S) where
       let same = it.adds_all.archive_is ∙ ap (λ (xs : List Item). (taken a list xs).archive) (sym (take_all all it.items (omega arith))) in
       inr (it.items, it.divides_into_items, (all, omega arith, (omega arith, same)))
 
-  pub import_crash : (old new : Store S) (list text : List ℕ) (result : Result Report ImportStop)
+  pub import_crash : (old new : S) (list text : List ℕ) (result : Result Report ImportStop)
       → CallsStoreWithTables g old new import_stop_reason result (λ a b report. IsImported list text a b report) (λ a b why. IsRefusedImport list text a b why.0 why.1)
       (λ a b stop. IsBrokenImport list text a b stop.done stop.fault) → CrashAfterTablesCall g old new result (λ a stop b. HasImportedAtLeast list text stop.done a b)
-      → CrashOutcome g (store_connection old) (store_connection new) (HasImportedAtLeast list text 0) result (λ stop. HasImportedAtLeast list text stop.done)
+      → CrashOutcome g old new (HasImportedAtLeast list text 0) result (λ stop. HasImportedAtLeast list text stop.done)
   import_crash old new list text (Ok report) call crash = record {
-    during_call = leaves_now g (store_connection old) (store_connection new) (HasImportedAtLeast list text 0)
+    during_call = leaves_now g old new (HasImportedAtLeast list text 0)
         (λ returned held. all_imported list text (archive_in g old) (archive_in g new) report (call.1 returned held).1) crash;
     after_error = tt;
   }

@@ -1,11 +1,10 @@
 -- Why an export stops before its first byte.
 use Rattle.std.proofs.Common.{◌≡◌, ℕ, List, Option, Some, None, Err}
 use Rattle.std.specs.Prelude.{MatchOption, option_map}
-use Rattle.sqlite.specs.Store.{Ghosts}
+use Rattle.archive_port.specs.declared.state.ArchiveState.{Ghosts}
 use Rattle.archive_model.specs.Records.{Archive}
-use Rattle.archive_store.specs.Told.{HoldsTables}
-use Rattle.archive_store.specs.declared.store.Store.{Store}
-use Rattle.archive_store.proofs.Joins.{goes_in_as}
+use Rattle.archive_port.specs.Told.{HoldsTables}
+use Rattle.archive_port.proofs.Joins.{goes_in_as}
 use Rattle.archive_results.specs.Access.{Ask, AskRefusal, ask_refusal}
 use Rattle.archive_desk.specs.Exporting.{IsExportRefused, export_stop_reason}
 use Rattle.archive_desk.specs.Holding.{RelatesTableArchives, RelatesTableArchivesIfOpen, CallsStoreWithTables}
@@ -24,7 +23,7 @@ asked_refusal (Some x) before after text count not_written is = absurd (cc)
 asked_refusal None before after text count (declined why) is = absurd (cc)
 asked_refusal (Some x) before after text count (declined why) is = absurd (cc)
 
-pub not_viewed : {S : Type 0} (g : Ghosts S) (old new : Store S) (ask : Ask) (before after : List ℕ) (text : Archive → List ℕ) (fault : DeskError)
+pub not_viewed : {S W : Type 0} (g : Ghosts S W) (old new : S) (ask : Ask) (before after : List ℕ) (text : Archive → List ℕ) (fault : DeskError)
     → MatchOption (refusal_reason fault) (RelatesTableArchivesIfOpen g old new (λ a b. b ≡ a)) (λ why. RelatesTableArchives g old new (λ a b. (b ≡ a) × (ask_reason a ask ≡ Some why)))
     → CallsStoreWithTables g old new {A = ℕ} export_stop_reason (Err (record { written = 0; fault = fault })) (λ a b _. b ≡ a)
     (λ a b why. (b ≡ a) × IsExportRefused (ask_reason a ask) before after (text a) why.0 why.1) (λ a b _. b ≡ a)

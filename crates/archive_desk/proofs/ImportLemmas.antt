@@ -1,7 +1,7 @@
 -- What an import says, from what its calls say.
 use Rattle.std.proofs.Common.{◌≡◌, ◌≤◌, refl, sym, ◌∙◌, subst, inl, inr, ℕ, Bool, true, false, not, cond, List, length, take, Option, Some, None, Result, Ok, Err}
-use Rattle.std.specs.Prelude.{MatchOption, option_map}
-use Rattle.sqlite.specs.Store.{Ghosts}
+use Rattle.std.specs.Prelude.{IsTrue, MatchOption, option_map}
+use Rattle.archive_port.specs.declared.state.ArchiveState.{Ghosts}
 use Rattle.mbox_core.specs.Division.{Item, DividesIntoItems}
 use Rattle.mbox_core.specs.Faults.{IsCutFault}
 use Rattle.mbox_core.specs.declared.faults.MboxFault.{MboxFault}
@@ -10,23 +10,17 @@ use Rattle.archive_model.specs.Records.{Archive}
 use Rattle.archive_model.specs.Commands.{Refusal, no_list, bad_name, bad_text, list_exists, person_exists, no_person, token_taken}
 use Rattle.archive_model.specs.Commands.{no_message, already_withdrawn, not_withdrawn, bad_days, list_full, too_large}
 use Rattle.archive_model.specs.Questions.{has_list, list_refusal}
-use Rattle.sqlite.specs.Held.{state}
-use Rattle.sqlite.specs.State.{HasCleanDisk}
 use Rattle.archive_model.specs.Runs.{taken}
 use Rattle.archive_model.specs.Sound.{IsIndexedCorrectly}
-use Rattle.archive_tables.specs.Tables.{IsArchiveAtRest, archive_of}
-use Rattle.archive_store.specs.Batches.{AddsAllMessages, HoldsAddedItemsIfOpen}
-use Rattle.archive_port.specs.Adding.{IsRefusedAt, tally_of_report as store_tally}
-use Rattle.archive_store.specs.Held.{store_connection}
+use Rattle.archive_port.specs.Adding.{AddsAllMessages, IsRefusedAt, tally_of_report as store_tally}
 use Rattle.archive_port.specs.Replies.{refusal_of_fault}
 use Rattle.archive_port.specs.declared.reports.AddError.{AddError}
 use Rattle.archive_port.specs.declared.reports.AddReport.{AddReport}
-use Rattle.archive_store.specs.Told.{StaysOpenUnlessDiskFails, HoldsTables, archive_in, RelatesArchivesUnder, RelatesArchivesUnderIfOpen, CallsReadyStore}
-use Rattle.archive_store.specs.declared.store.Store.{Store}
+use Rattle.archive_port.specs.Told.{StaysOpenUnlessDiskFails, HoldsTables, archive_in, RelatesArchivesUnder, RelatesArchivesUnderIfOpen, CallsReadyStore}
 use Rattle.archive_port.specs.declared.faults.StoreFault.{StoreFault}
 use Rattle.archive_port.specs.declared.faults.StoreFault.TheVariants.{Memory as NoMemory}
-use Rattle.archive_store.proofs.Joins.{goes_in_as, goes_in_as_if_open}
-use Rattle.archive_store.proofs.RightLemmas.{taken_right}
+use Rattle.archive_port.proofs.Joins.{goes_in_as, goes_in_as_if_open}
+use Rattle.archive_port.proofs.RightLemmas.{taken_right}
 use Rattle.archive_desk.proofs.CallLemmas.{calls_after, calls_right}
 use Rattle.archive_desk.specs.Holding.{RelatesTableArchives, RelatesTableArchivesIfOpen, CallsStoreWithTables}
 use Rattle.archive_desk.specs.Importing.{ImportStopCause, no_mbox, not_taken, import_stop_reason, import_tally_of, HasAddedAllItems}
@@ -51,7 +45,7 @@ refused_list list text a b why same is =
     let it = missing a list why is in
     subst (λ r. IsRefusedImport list text a b 0 (not_taken r)) it.0 (refl, same, it.1)
 
-module _ {S : Type 0} (g : Ghosts S) (old new : Store S) (list text : List ℕ) where
+module _ {S W : Type 0} (g : Ghosts S W) (old new : S) (list text : List ℕ) where
   abbrev Says : Archive → Archive → Report → Type 0
   Says a b report = IsImported list text a b report
 
@@ -97,9 +91,9 @@ module _ {S : Type 0} (g : Ghosts S) (old new : Store S) (list text : List ℕ) 
 
 -- ---- its messages are added, one after the other
 
-module _ {S : Type 0} (g : Ghosts S) (old new : Store S) (list : List ℕ) (items : List Item) (lasts : StaysOpenUnlessDiskFails g old new) where
+module _ {S W : Type 0} (g : Ghosts S W) (old new : S) (list : List ℕ) (items : List Item) (lasts : StaysOpenUnlessDiskFails g old new) where
   -- all of them
-  pub added_all : (counts : AddReport) (report : Report) → import_tally_of report ≡ store_tally counts → AddsAllMessages g (store_connection old) (store_connection new) (Ok counts) list items
+  pub added_all : (counts : AddReport) (report : Report) → import_tally_of report ≡ store_tally counts → AddsAllMessages g old new (Ok counts) list items
       → RelatesTableArchives g old new (λ a b. HasAddedAllItems list items a b report)
   added_all counts report same adds = (
     lasts,
@@ -113,15 +107,15 @@ module _ {S : Type 0} (g : Ghosts S) (old new : Store S) (list : List ℕ) (item
     abbrev first : List Item
     first = take stop.done items
 
-    pub added_first : AddsAllMessages g (store_connection old) (store_connection new) (Err stop) list items
+    pub added_first : AddsAllMessages g old new (Err stop) list items
         → CallsStoreWithTables g old new {A = Report} import_stop_reason (Err (record { done = stop.done; fault = Stored stop.fault })) (λ a b report. HasAddedAllItems list items a b report)
         (λ a b why. IsRefusedAdd list items a b why.0 why.1) (λ a b stop. IsBrokenAdd list items a b stop.done stop.fault)
     added_first adds = by_reason (refusal_of_fault stop.fault) adds
       where
         by_reason : (r : Option Refusal)
-            → (HasCleanDisk (state g (store_connection new)) → IsArchiveAtRest (state g (store_connection old))
-            → MatchOption r (HoldsAddedItemsIfOpen (state g (store_connection new)) (archive_in g old) list first)
-            (λ why. IsArchiveAtRest (state g (store_connection new)) × (archive_of (state g (store_connection new)) ≡ (taken (archive_in g old) list first).archive)
+            → (g.has_clean_disk new → g.is_at_rest old
+            → MatchOption r (IsTrue (g.is_open new) → g.is_at_rest new × (g.archive new ≡ (taken (archive_in g old) list first).archive))
+            (λ why. g.is_at_rest new × (g.archive new ≡ (taken (archive_in g old) list first).archive)
             × IsRefusedAt (archive_in g old) list items stop.done why))
             → MatchOption {T = ℕ × ImportStopCause} (option_map (λ (cause : ImportStopCause). (stop.done, cause)) (option_map not_taken r))
             (RelatesTableArchivesIfOpen g old new (λ a b. IsBrokenAdd list items a b stop.done (Stored stop.fault)))
@@ -173,7 +167,7 @@ pub completed : (list text : List ℕ) (items : List Item) (a b c : Archive) (re
 completed list text items a b c report divides before added =
     record { list_exists = before.2; items = items; divides_into_items = divides; adds_all = subst (λ x. HasAddedAllItems list items x c report) before.0 added }
 
-module _ {S : Type 0} (g : Ghosts S) (old mid new : Store S) (list text : List ℕ) (items : List Item) (divides : DividesIntoItems text items) where
+module _ {S W : Type 0} (g : Ghosts S W) (old mid new : S) (list text : List ℕ) (items : List Item) (divides : DividesIntoItems text items) where
   -- the list is there, the file is cut, and its messages are added
   pub import_after : (result : Result Report ImportStop) → RelatesArchivesUnder g (HoldsTables g) old mid (λ a b. (b ≡ a) × (list_refusal a list ≡ None) × (has_list a list ≡ true))
       → CallsStoreWithTables g mid new import_stop_reason result (λ a b report. HasAddedAllItems list items a b report) (λ a b why. IsRefusedAdd list items a b why.0 why.1)
@@ -220,7 +214,7 @@ module _ (list text : List ℕ) (a b : Archive) (right : IsIndexedCorrectly a) w
   broken_right done (Stored fault) it = elim it [ inl none ↦ subst IsIndexedCorrectly (sym none.1) right | inr first ↦ first_right done first ]
 
 -- an import into a store that is ready leaves it ready
-pub import_right : {S : Type 0} (g : Ghosts S) (old new : Store S) (list text : List ℕ) (result : Result Report ImportStop)
+pub import_right : {S W : Type 0} (g : Ghosts S W) (old new : S) (list text : List ℕ) (result : Result Report ImportStop)
     → CallsStoreWithTables g old new import_stop_reason result (λ a b report. IsImported list text a b report) (λ a b why. IsRefusedImport list text a b why.0 why.1)
     (λ a b stop. IsBrokenImport list text a b stop.done stop.fault)
     → CallsReadyStore g old new import_stop_reason result (λ a b report. IsImported list text a b report) (λ a b why. IsRefusedImport list text a b why.0 why.1)

@@ -4,17 +4,16 @@ use Rattle.std.specs.Prelude.{⊤, IfErr, MatchOption, Vec, option_map}
 use Rattle.std.specs.declared.alloc.Global.{Global}
 use Rattle.std.proofs.lemmas.List.{append-nil, map-append}
 use Rattle.std.proofs.lemmas.List.Elements.{filter-append}
-use Rattle.sqlite.specs.Store.{Ghosts}
-use Rattle.archive_tables.proofs.LastLemmas.{lasts_then}
+use Rattle.archive_port.specs.declared.state.ArchiveState.{Ghosts}
+use Rattle.archive_port.proofs.LastLemmas.{lasts_then, left_holds}
 use Rattle.archive_model.specs.Records.{Archive, Message as Remembered}
 use Rattle.archive_model.specs.Messages.{archived_message}
 use Rattle.archive_model.specs.Questions.{list_refusal}
 use Rattle.archive_model.specs.declared.messages.Message.{Message}
 use Rattle.archive_port.specs.Replies.{refusal_of_fault}
-use Rattle.archive_store.specs.Told.{AnswersFromStoreUnder, RelatesArchivesUnder, RelatesArchivesUnderIfOpen, StaysOpenUnlessDiskFails, StoreHasCleanDisk, HoldsTables, IsOpen, archive_in}
-use Rattle.archive_store.specs.Walking.{BeginsOver, Walk, WalksOver}
+use Rattle.archive_port.specs.Told.{AnswersFromStoreUnder, RelatesArchivesUnder, RelatesArchivesUnderIfOpen, StaysOpenUnlessDiskFails, StoreHasCleanDisk, HoldsTables, IsOpen, archive_in}
+use Rattle.archive_port.specs.Walking.{BeginsOver, Walk, WalksOver}
 use Rattle.archive_desk.proofs.Counted.{CountsOne}
-use Rattle.archive_store.specs.declared.store.Store.{Store}
 use Rattle.archive_results.specs.Access.{Ask, ReaderFacts, is_shown, reader_facts}
 use Rattle.archive_desk.specs.Asking.{DeterminesVerdicts}
 use Rattle.archive_desk.specs.Faults.{ask_reason, declined, desk_error_of, refusal_reason}
@@ -59,13 +58,13 @@ module _ {X : Type 0} (made : List Remembered → List X) (apart : IsMadeApart m
       by_test true h = absurd (cc)
       by_test false h = sym (append-nil before) ∙ ap (λ xs. before ++ xs) (sym empty)
 
-  module _ {S : Type 0} (g : Ghosts S) where
+  module _ {S W : Type 0} (g : Ghosts S W) where
     -- this was made of the messages that a walk gave, as far as the policy shows them
-    abbrev pub ListedSoFar : (old now : Walk S) → List X → Type 0
+    abbrev pub ListedSoFar : (old now : Walk S W) → List X → Type 0
     ListedSoFar old now found = StoreHasCleanDisk g now.store → (all : List Remembered) (a : Archive) → WalksOver g ask.list all a [] old
         → (given : List Remembered) × WalksOver g ask.list all a given now × (found ≡ made_of_shown given)
 
-    module _ (old mid new : Walk S) (so_many : List X) (so_far : ListedSoFar old mid so_many)
+    module _ (old mid new : Walk S W) (so_many : List X) (so_far : ListedSoFar old mid so_many)
         (was : StoreHasCleanDisk g new.store → StoreHasCleanDisk g mid.store) where
       -- one message more
       pub listed_more : (m : Message) (more : List X)
@@ -124,22 +123,21 @@ module _ {X : Type 0} (made : List Remembered → List X) (apart : IsMadeApart m
           rw none (λ up. let last = rests returned all a it.0 it.1 up in (last.is_archive_at_rest, last.archive_is))
 
     -- a want of memory that is counted changes nothing of it
-    pub listed_counted : (old new counted : Walk S) (fault : DeskError) → CountsOne new counted → ListsRows g old new ask reader made (Err fault)
+    pub listed_counted : (old new counted : Walk S W) (fault : DeskError) → CountsOne g new counted → ListsRows g old new ask reader made (Err fault)
         → ListsRows g old counted ask reader made (Err fault)
     listed_counted old new counted fault one lists = λ returned all a w.
-        subst (λ s. MatchOption (refusal_reason fault) (IsOpen g s → HoldsTables g s × (archive_in g s ≡ a)) (λ _. HoldsTables g s × (archive_in g s ≡ a))) (sym one.store)
-        (lists (subst (StoreHasCleanDisk g) one.store returned) all a w)
+        left_holds g new.store new.store counted.store one.store.leaves_archive (refusal_reason fault) a returned (lists (one.store.leaves_archive.remains_open.disk_was_clean returned) all a w)
 
 -- ---- the walk
 
-module _ {X : Type 0} (made : List Remembered → List X) {S : Type 0} (g : Ghosts S) (old mid : Store S) (ask : Ask) (which : Archive → List Remembered) where
+module _ {X : Type 0} (made : List Remembered → List X) {S W : Type 0} (g : Ghosts S W) (old mid : S) (ask : Ask) (which : Archive → List Remembered) where
   -- this was made of those of some messages of the archive that the policy shows the reader
   abbrev pub Held : Archive → Vec X Global → Type 0
   Held a found = found.items ≡ made (filter (is_shown ask (reader_facts a ask)) (which a))
 
   -- the walk over them does not begin
   pub not_listed : (First : Archive → Type 0) → RelatesArchivesUnder g (HoldsTables g) old mid (λ a b. (b ≡ a) × (ask_reason a ask ≡ None) × First a)
-      → (last : Store S) (fault : StoreFault)
+      → (last : S) (fault : StoreFault)
       → MatchOption (refusal_of_fault fault) (RelatesArchivesUnderIfOpen g (HoldsTables g) mid last (λ a b. b ≡ a))
       (λ why. RelatesArchivesUnder g (HoldsTables g) mid last (λ a b. (b ≡ a) × (list_refusal a ask.list ≡ Some why)))
       → AnswersFromStoreUnder g (HoldsTables g) old last refusal_reason (Err (desk_error_of fault)) (λ a. ask_reason a ask) Held
@@ -152,11 +150,11 @@ module _ {X : Type 0} (made : List Remembered → List X) {S : Type 0} (g : Ghos
       (λ a b c why first h. (h.0 ∙ first.0, subst (λ x. ask_reason x ask ≡ Some why) first.0 h.1))
       (λ a b c f first h. h ∙ first.0) (Err (desk_error_of fault)) found (list_declined g ask mid last fault Nothing Held it)
 
-  module _ (last : Store S) (walk new : Walk S) (reader : ReaderFacts) (is : last ≡ new.store)
+  module _ (last : S) (walk new : Walk S W) (reader : ReaderFacts) (is : last ≡ new.store)
       (found : RelatesArchivesUnder g (HoldsTables g) old mid (λ a b. (b ≡ a) × (ask_reason a ask ≡ None) × DeterminesVerdicts a ask reader))
       (begun : BeginsOver g mid ask.list which walk) (lasts : StaysOpenUnlessDiskFails g walk.store new.store) where
     through : StaysOpenUnlessDiskFails g old last
-    through = subst (StaysOpenUnlessDiskFails g old) (sym is) (lasts_then _ _ _ (lasts_then _ _ _ found.0 begun.remains_open) lasts)
+    through = subst (StaysOpenUnlessDiskFails g old) (sym is) (lasts_then g _ _ _ (lasts_then g _ _ _ found.0 begun.remains_open) lasts)
 
     at_walk : StoreHasCleanDisk g last → StoreHasCleanDisk g walk.store
     at_walk returned = lasts.disk_was_clean (subst (StoreHasCleanDisk g) is returned)

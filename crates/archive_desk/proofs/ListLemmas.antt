@@ -1,12 +1,11 @@
 -- The index of a view, and what is made of it.
 use Rattle.std.proofs.Common.{◌≡◌, refl, sym, ap, ◌∙◌, subst, ℕ, Bool, List, map, Option, Some, None, Result}
 use Rattle.std.specs.Prelude.{MatchOption}
-use Rattle.sqlite.specs.Store.{Ghosts}
+use Rattle.archive_port.specs.declared.state.ArchiveState.{Ghosts}
 use Rattle.archive_model.specs.Records.{Archive, Message as Remembered}
 use Rattle.archive_model.specs.Questions.{merge_of}
-use Rattle.archive_store.specs.Told.{HoldsTables, RelatesArchivesUnder, RelatesArchivesUnderIfOpen, AnswersFromStoreUnder}
-use Rattle.archive_store.specs.declared.store.Store.{Store}
-use Rattle.archive_store.proofs.Joins.{goes_in_as}
+use Rattle.archive_port.specs.Told.{HoldsTables, RelatesArchivesUnder, RelatesArchivesUnderIfOpen, AnswersFromStoreUnder}
+use Rattle.archive_port.proofs.Joins.{goes_in_as}
 use Rattle.archive_results.specs.Access.{Ask, view_of}
 use Rattle.archive_results.specs.Index.{MessageSummary, summary_of}
 use Rattle.archive_results.specs.Results.{TreeLine, thread_lines}
@@ -31,9 +30,9 @@ first_reason (Some x) next why e = e
 abbrev pub IsIndexed : Archive → Ask → List MessageSummary → (merge : Bool) → Type 0
 IsIndexed a ask headers merge = (headers ≡ map summary_of (view_of a ask)) × (merge ≡ merge_of a ask.list)
 
-module _ {S : Type 0} (g : Ghosts S) (ask : Ask) where
+module _ {S W : Type 0} (g : Ghosts S W) (ask : Ask) where
   -- the list is asked how it is threaded, after the headers are read
-  pub index_after : (old mid new : Store S) (headers : List MessageSummary) (result : Result Bool DeskError)
+  pub index_after : (old mid new : S) (headers : List MessageSummary) (result : Result Bool DeskError)
       → RelatesArchivesUnder g (HoldsTables g) old mid (λ a b. (b ≡ a) × (ask_reason a ask ≡ None) × (headers ≡ map summary_of (view_of a ask)))
       → AnswersFromStoreUnder g (HoldsTables g) mid new refusal_reason result (λ a. missing_list_reason a ask) (λ a merge. merge ≡ merge_of a ask.list)
       → AnswersFromStoreUnder g (HoldsTables g) old new refusal_reason result (λ a. ask_reason a ask) (λ a merge. IsIndexed a ask headers merge)
@@ -46,7 +45,7 @@ module _ {S : Type 0} (g : Ghosts S) (ask : Ask) where
       (λ a b c why first it. (it.0 ∙ first.0, no_such_list a ask why (subst (λ x. missing_list_reason x ask ≡ Some why) first.0 it.1)))
       (λ a b c fault first it. it ∙ first.0) result found asked
 
-module _ {S : Type 0} (g : Ghosts S) (old new : Store S) (ask : Ask) where
+module _ {S W : Type 0} (g : Ghosts S W) (old new : S) (ask : Ask) where
   module _ (headers : List MessageSummary) (merge : Bool) (indexed : RelatesArchivesUnder g (HoldsTables g) old new (λ a b. (b ≡ a) × (ask_reason a ask ≡ None) × IsIndexed a ask headers merge)) where
     -- what is made of them
     pub listed_from : (Says : Bool → List Remembered → Type 0) → ((view : List Remembered) → headers ≡ map summary_of view → Says merge view)

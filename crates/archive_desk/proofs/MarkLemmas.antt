@@ -4,7 +4,7 @@ use Rattle.std.specs.Prelude.{option_map}
 use Rattle.std.specs.Option.{option_map_or, option_and_then}
 use Rattle.std.proofs.lemmas.List.{append-nil}
 use Rattle.std.proofs.lemmas.List.Elements.{filter-append}
-use Rattle.sqlite.specs.Store.{Ghosts}
+use Rattle.archive_port.specs.declared.state.ArchiveState.{Ghosts}
 use Rattle.policy_core.specs.declared.access.Standing.{Standing}
 use Rattle.policy_core.specs.declared.access.Standing.TheVariants.{Public, Member, Subscriber, Moderator}
 use Rattle.policy_core.specs.Facts.{Facts}
@@ -12,10 +12,9 @@ use Rattle.policy_core.specs.Verdict.{verdict_of}
 use Rattle.archive_model.specs.Records.{Archive, Message}
 use Rattle.archive_model.specs.Commands.{no_list as unknown_list, no_person as unknown_person}
 use Rattle.archive_model.specs.Questions.{address_of, has_list, has_person, standing_of, standing_refusal}
-use Rattle.archive_store.specs.Told.{HoldsTables, RelatesArchivesUnder, AnswersFromStoreUnder}
+use Rattle.archive_port.specs.Told.{HoldsTables, RelatesArchivesUnder, AnswersFromStoreUnder}
 use Rattle.archive_port.specs.Words.{standing_rank}
-use Rattle.archive_store.specs.declared.store.Store.{Store}
-use Rattle.archive_store.proofs.Joins.{goes_in_as, stays_there_in}
+use Rattle.archive_port.proofs.Joins.{goes_in_as, stays_there_in}
 use Rattle.archive_results.specs.Access.{Ask, ReaderFacts, policy_facts_of, is_allowed_ruling, is_shown, message_facts, reader_facts, reader_standing, ruling_on, standing_of_rank}
 use Rattle.archive_results.specs.Access.{asked_under_ruling, asked_of_message}
 use Rattle.archive_desk.specs.Asking.{DeterminesVerdicts, person_reason, standing_reason}
@@ -84,7 +83,7 @@ marks_of_nobody a ask is =
       address = option_and_then (address_of a) r;
     }) (sym is)
 
-pub nobody_known : {S : Type 0} (g : Ghosts S) (store : Store S) (ask : Ask) → ask.reader ≡ None
+pub nobody_known : {S W : Type 0} (g : Ghosts S W) (store : S) (ask : Ask) → ask.reader ≡ None
     → RelatesArchivesUnder g (HoldsTables g) store store (λ a b. (b ≡ a) × (standing_reason a ask ≡ None) × DeterminesVerdicts a ask (record { standing = Public; address = None }))
 nobody_known g store ask is =
     goes_in_as g (HoldsTables g) store store (λ a b. b ≡ a) (λ a b. (b ≡ a) × (standing_reason a ask ≡ None) × DeterminesVerdicts a ask (record { standing = Public; address = None }))
@@ -108,7 +107,7 @@ person_there a person list is = by_test (has_person a person) (cond (not (has_li
     by_test true rest e = refl
     by_test false rest e = absurd (cc)
 
-module _ {S : Type 0} (g : Ghosts S) (ask : Ask) (person : List ℕ) (standing : Standing) where
+module _ {S W : Type 0} (g : Ghosts S W) (ask : Ask) (person : List ℕ) (standing : Standing) where
   -- what is asked by this person
   abbrev asks : Ask
   asks = record ask { reader = Some person }
@@ -121,7 +120,7 @@ module _ {S : Type 0} (g : Ghosts S) (ask : Ask) (person : List ℕ) (standing :
   IsKnown reader a b = (b ≡ a) × (option_map reason_of_refusal (standing_refusal a person ask.list) ≡ None) × DeterminesVerdicts a asks reader
 
   -- no rule asks for the address
-  pub person_unasked : (old new : Store S) → RelatesArchivesUnder g (HoldsTables g) old new Stands
+  pub person_unasked : (old new : S) → RelatesArchivesUnder g (HoldsTables g) old new Stands
       → ((f : Facts) (own : Bool) → verdict_of ask.rules (record f { own = own }) ≡ verdict_of ask.rules f)
       → RelatesArchivesUnder g (HoldsTables g) old new (IsKnown (record { standing = standing; address = None }))
   person_unasked old new found alike =
@@ -129,7 +128,7 @@ module _ {S : Type 0} (g : Ghosts S) (ask : Ask) (person : List ℕ) (standing :
       (λ a b h. (h.0, h.1, enough_unasked a asks standing alike h.2)) found
 
   -- the address was asked
-  pub person_known : (old mid new : Store S) {X : Type 0} (say : X → Option (List ℕ)) (mark : X → ReaderFacts)
+  pub person_known : (old mid new : S) {X : Type 0} (say : X → Option (List ℕ)) (mark : X → ReaderFacts)
       → ((x : X) → mark x ≡ record { standing = standing; address = say x }) → (result : Result X DeskError)
       → RelatesArchivesUnder g (HoldsTables g) old mid Stands
       → AnswersFromStoreUnder g (HoldsTables g) mid new refusal_reason result (λ a. person_reason a person) (λ a address. say address ≡ address_of a person)

@@ -1,15 +1,12 @@
 -- Of an archive that can be read nothing breaks a question, but the disk.
-use Rattle.std.proofs.Common.{◌≡◌, ◌≢◌, ◌⊎◌, ℕ, ℤ, Bool, true, false, ◌&&◌, inl, inr, refl, List, [], ◌∷◌, cond, Option, Some, None, Result, arith, if◌then◌else◌}
+use Rattle.std.proofs.Common.{◌≡◌, ◌≢◌, ◌⊎◌, ℕ, ℤ, Bool, true, false, ◌&&◌, inl, inr, refl, List, [], ◌∷◌, cond, Option, Some, None, Result, if◌then◌else◌}
 use Rattle.std.specs.Prelude.{map, filter, find, zip, int_lt, option_map, IfErr, IfSome, IsUtf8, bytes_eq}
 use Rattle.std.specs.Int.{int_max}
 use Rattle.std.specs.List.{All}
 use Rattle.std.specs.Option.{IsSomeAnd}
 use Rattle.std.proofs.lemmas.List.Elements.{All-nil, All-cons, All-head, All-tail, All-map, All-filter}
-use Rattle.sqlite.specs.Store.{Ghosts}
-use Rattle.sqlite.specs.Steps.{over_memory}
-use Rattle.sqlite.proofs.Callers.{memory_is_clean}
-use Rattle.sqlite_disk.specs.Disk.{MoreFaults}
-use Rattle.sqlite_trees.specs.declared.memory.MemStore.{MemStore}
+use Rattle.archive_port.specs.declared.state.ArchiveState.{Ghosts}
+use Rattle.archive_port.specs.Told.{E15MeansDiskFailedOr as StoreCausedOr, DiskHasFailed, archive_in}
 use Rattle.policy_core.specs.declared.access.Standing.{Standing}
 use Rattle.policy_core.specs.declared.access.Standing.TheVariants.{Public}
 use Rattle.archive_model.specs.Records.{Address, Archive, IndexColumns, Grant, Message, Person}
@@ -17,16 +14,13 @@ use Rattle.archive_model.specs.Filing.{IndexedMessage, indexed_messages, message
 use Rattle.archive_model.specs.Filing.{messages_in_month, is_indexed_by_author, is_indexed_in_month, is_sent_before, insert_by_indexed_date}
 use Rattle.archive_model.specs.Questions.{address_of, max_rank, grant_holds_on, is_address_of, is_grant_of, is_message_at_key, message_of, messages_in, person_of_token, standing_of}
 use Rattle.archive_port.specs.Messages.{IsReadable}
-use Rattle.archive_store.specs.Held.{store_connection}
-use Rattle.archive_store.specs.Told.{E15MeansDiskFailedOr as StoreCausedOr, DiskHasFailed, archive_in}
 use Rattle.archive_port.specs.Words.{standing_rank}
 use Rattle.archive_port.specs.declared.faults.StoreFault.{StoreFault}
 use Rattle.archive_port.specs.declared.faults.StoreFault.TheVariants as faults
-use Rattle.archive_store.specs.declared.store.Store.{Store}
 use Rattle.archive_results.specs.Access.{Ask}
 use Rattle.archive_desk.specs.Causes.{DeskFaultMeansDiskFailedOr, HasCause, IsDeskDatabaseFault, IsMessageUnreadable, IsPersonUnreadable, IsReaderUnreadable, IsQuestionUnreadable}
 use Rattle.archive_desk.specs.Readable.{AreListsUnreadable, CanBeRead, IsTokenHolderUnreadable, QuestionHasNoDatabaseFault, ExportHasNoDatabaseFault}
-use Rattle.archive_desk.specs.Readable.{StoreQuestionHasNoFault, HasStandingRank, IsFullyReadableStore, HasNoDatabaseFault, MeetsNoDiskFault}
+use Rattle.archive_desk.specs.Readable.{StoreQuestionHasNoFault, HasStandingRank, HasNoDatabaseFault, MeetsNoDiskFault}
 use Rattle.archive_desk.specs.declared.exporting.ExportStop.{ExportStop}
 use Rattle.archive_desk.specs.declared.faults.DeskError.{DeskError}
 use Rattle.archive_desk.proofs.CauseLemmas.{each_fault}
@@ -148,7 +142,7 @@ module _ (a : Archive) (can : CanBeRead a) where
 
 -- ---- so only the disk breaks a question
 
-module _ {S : Type 0} (g : Ghosts S) (old new : Store S) (well : MeetsNoDiskFault g old new) where
+module _ {S W : Type 0} (g : Ghosts S W) (old new : S) (well : MeetsNoDiskFault g old new) where
   abbrev before : Archive
   before = archive_in g old
 
@@ -189,11 +183,3 @@ module _ {S : Type 0} (g : Ghosts S) (old new : Store S) (well : MeetsNoDiskFaul
     lists = told result AreListsUnreadable (lists_read before can_be_read);
     holder = λ token. told result (λ a. IsTokenHolderUnreadable a token) (holder_read before can_be_read token);
   }
-
--- ---- memory never fails as a disk does
-
-never_more : MoreFaults 0 0 → ⊥
-never_more more = absurd (omega (arith, more))
-
-pub memory_is_untroubled : (old new : Store MemStore) → IsFullyReadableStore over_memory old → MeetsNoDiskFault over_memory old new
-memory_is_untroubled old new fully_readable = record { fully_readable = fully_readable; no_disk_failure = never_more; disk_is_clean = memory_is_clean (store_connection new) }

@@ -1,16 +1,16 @@
 -- What an export says that walks the list.
+use Rattle.archive_port.specs.Walking.{BeginsOver}
 use Rattle.std.proofs.Common.{◌≡◌, refl, Result, sym, ap, ◌∙◌, subst, ℕ, min, List, [], ◌++◌, length, map, Some, None, Ok, Err, arith}
 use Rattle.std.specs.Prelude.{⊤, IfErr, MatchOption}
 use Rattle.std.proofs.lemmas.List.{append-nil}
-use Rattle.sqlite.specs.Store.{Ghosts}
+use Rattle.archive_port.specs.declared.state.ArchiveState.{Ghosts}
 use Rattle.mbox_core.specs.Written.{AppendsPrefixOfText}
-use Rattle.archive_tables.proofs.LastLemmas.{lasts_then}
+use Rattle.archive_port.proofs.LastLemmas.{lasts_then}
 use Rattle.archive_model.specs.Records.{Archive}
 use Rattle.archive_model.specs.Questions.{list_refusal, messages_in}
 use Rattle.archive_port.specs.Replies.{refusal_of_fault}
-use Rattle.archive_store.specs.Told.{RelatesArchivesUnder, RelatesArchivesUnderIfOpen, StoreHasCleanDisk, StaysOpenUnlessDiskFails, HoldsTables, IsOpen, archive_in}
-use Rattle.archive_store.specs.Walking.{Walk, BeginsListWalk}
-use Rattle.archive_store.specs.declared.store.Store.{Store}
+use Rattle.archive_port.specs.Told.{RelatesArchivesUnder, RelatesArchivesUnderIfOpen, StoreHasCleanDisk, StaysOpenUnlessDiskFails, HoldsTables, IsOpen, archive_in}
+use Rattle.archive_port.specs.Walking.{Walk}
 use Rattle.archive_port.specs.declared.faults.StoreFault.{StoreFault}
 use Rattle.archive_results.specs.Access.{Ask, ReaderFacts}
 use Rattle.archive_results.specs.Results.{export_text}
@@ -35,10 +35,10 @@ use Rattle.archive_desk.proofs.MarkLemmas.{view_alike}
 pub none_cut : (told text : List ℕ) → AppendsPrefixOfText told told text 0
 none_cut told text = (omega (arith), sym (append-nil told))
 
-module _ {S : Type 0} (g : Ghosts S) (old mid : Store S) (ask : Ask) (First : Archive → Type 0)
+module _ {S W : Type 0} (g : Ghosts S W) (old mid : S) (ask : Ask) (First : Archive → Type 0)
     (found : RelatesArchivesUnder g (HoldsTables g) old mid (λ a b. (b ≡ a) × (ask_reason a ask ≡ None) × First a)) where
   -- it does not begin
-  pub not_begun : (last : Store S) (before after : List ℕ) (text : Archive → List ℕ) (fault : StoreFault)
+  pub not_begun : (last : S) (before after : List ℕ) (text : Archive → List ℕ) (fault : StoreFault)
       → MatchOption (refusal_of_fault fault) (RelatesArchivesUnderIfOpen g (HoldsTables g) mid last (λ a b. b ≡ a))
       (λ why. RelatesArchivesUnder g (HoldsTables g) mid last (λ a b. (b ≡ a) × (list_refusal a ask.list ≡ Some why)))
       → CallsStoreWithTables g old last {A = ℕ} export_stop_reason (Err (record { written = 0; fault = desk_error_of fault })) (λ a b _. b ≡ a)
@@ -53,10 +53,10 @@ module _ {S : Type 0} (g : Ghosts S) (old mid : Store S) (ask : Ask) (First : Ar
       (λ a b c why first h. (h.0 ∙ first.0, subst (λ x. ask_reason x ask ≡ Some why) first.0 h.1))
       (λ a b c f first h. h ∙ first.0) (Err (desk_error_of fault)) found (list_declined g ask mid last fault Nothing Nothing it))
 
-module _ {S : Type 0} (g : Ghosts S) (old mid last : Store S) (walk new : Walk S) (ask : Ask) (reader : ReaderFacts) (head before after : List ℕ)
+module _ {S W : Type 0} (g : Ghosts S W) (old mid last : S) (walk new : Walk S W) (ask : Ask) (reader : ReaderFacts) (head before after : List ℕ)
     (is : last ≡ new.store)
     (found : RelatesArchivesUnder g (HoldsTables g) old mid (λ a b. (b ≡ a) × (ask_reason a ask ≡ None) × DeterminesVerdicts a ask reader))
-    (begun : BeginsListWalk g mid ask.list walk) (lasts : StaysOpenUnlessDiskFails g walk.store new.store) where
+    (begun : BeginsOver g mid ask.list (λ a. messages_in a ask.list) walk) (lasts : StaysOpenUnlessDiskFails g walk.store new.store) where
   abbrev text : Archive → List ℕ
   text a = head ++ exported_text a ask
 
@@ -68,7 +68,7 @@ module _ {S : Type 0} (g : Ghosts S) (old mid last : Store S) (walk new : Walk S
   texts a b same enough = ap seen same ∙ ap (λ ms. head ++ export_text (map shown_message ms)) (view_alike a ask reader enough (messages_in a ask.list))
 
   through : StaysOpenUnlessDiskFails g old last
-  through = subst (StaysOpenUnlessDiskFails g old) (sym is) (lasts_then _ _ _ (lasts_then _ _ _ found.0 begun.remains_open) lasts)
+  through = subst (StaysOpenUnlessDiskFails g old) (sym is) (lasts_then g _ _ _ (lasts_then g _ _ _ found.0 begun.remains_open) lasts)
 
   at_walk : StoreHasCleanDisk g last → StoreHasCleanDisk g walk.store
   at_walk returned = lasts.disk_was_clean (subst (StoreHasCleanDisk g) is returned)
@@ -180,7 +180,7 @@ module _ {S : Type 0} (g : Ghosts S) (old mid last : Store S) (walk new : Walk S
   walk_tells failed fails (Err stop) it = record { no_failure_if_ok = tt; cause = walk_cause stop.written failed fails stop.fault it.cause }
 
 -- where nothing was written yet
-pub leaves_none : {S : Type 0} (g : Ghosts S) (old last : Store S) (ask : Ask) (told : List ℕ) (text : Archive → List ℕ) (fault : DeskError)
+pub leaves_none : {S W : Type 0} (g : Ghosts S W) (old last : S) (ask : Ask) (told : List ℕ) (text : Archive → List ℕ) (fault : DeskError)
     → LeavesPartialExport g old last ask told told text (Err (record { written = 0; fault = fault }))
 leaves_none g old last ask told text fault = record {
   exports_part = λ returned held fits. none_cut told (text (archive_in g old));

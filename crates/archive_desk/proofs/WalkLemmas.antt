@@ -1,17 +1,18 @@
 -- How far the messages of a walk are out.
+use Rattle.archive_port.proofs.LastLemmas.{left_holds}
 use Rattle.std.proofs.Common.{◌≡◌, refl, sym, ap, ◌∙◌, subst, ℕ, ◌+◌, ◌<◌, ◌^◌, min, Bool, true, false, cond, List, [], ◌∷◌, ◌++◌, length, take}
 use Rattle.std.proofs.Common.{filter, map, Option, Some, None, Ok, Err, arith, append_assoc, length-append, length-take}
 use Rattle.std.specs.Prelude.{MatchOption}
 use Rattle.std.proofs.lemmas.List.{append-nil, take-append-le}
 use Rattle.std.proofs.Math.Seq.{take-append-add}
-use Rattle.sqlite.specs.Store.{Ghosts}
+use Rattle.archive_port.specs.declared.state.ArchiveState.{Ghosts}
 use Rattle.mbox_core.specs.Division.{Item}
 use Rattle.mbox_core.specs.Written.{AppendsPrefixOfText, written, written_item}
 use Rattle.archive_model.specs.Records.{Archive, Message as Remembered}
 use Rattle.archive_model.specs.Messages.{archived_message}
 use Rattle.archive_model.specs.declared.messages.Message.{Message}
-use Rattle.archive_store.specs.Told.{StoreHasCleanDisk, HoldsTables, IsOpen, archive_in}
-use Rattle.archive_store.specs.Walking.{Walk, WalksOver}
+use Rattle.archive_port.specs.Told.{StoreHasCleanDisk, IsOpen}
+use Rattle.archive_port.specs.Walking.{Walk, WalksOver}
 use Rattle.archive_desk.proofs.Counted.{CountsOne}
 use Rattle.archive_results.specs.Access.{Ask, ReaderFacts, is_shown}
 use Rattle.archive_results.specs.Shown.{shown_message}
@@ -76,10 +77,10 @@ cut_there before after part rest all out whole =
     let here = cut_behind before after after part [] rest all 0 out whole none in
     subst (λ n. AppendsPrefixOfText before after all n) (let e : length part + 0 ≡ length part = omega (arith) in e) here
 
-module _ {S : Type 0} (g : Ghosts S) (ask : Ask) (reader : ReaderFacts) where
+module _ {S W : Type 0} (g : Ghosts S W) (ask : Ask) (reader : ReaderFacts) where
   -- What was written is the text of the messages that the walk gave, as far as the policy shows them, and it was counted. The
   -- walk has those left that are not written.
-  pub record RowsSoFar (old now : Walk S) (before after : List ℕ) (counted counts : ℕ) : Type 0 where
+  pub record RowsSoFar (old now : Walk S W) (before after : List ℕ) (counted counts : ℕ) : Type 0 where
     pub part : List ℕ
     pub out : after ≡ before ++ part
     pub counts_is : counts ≡ min (counted + length part) 18446744073709551615
@@ -87,13 +88,13 @@ module _ {S : Type 0} (g : Ghosts S) (ask : Ask) (reader : ReaderFacts) where
         → (given : List Remembered) × WalksOver g ask.list all a given now × (part ≡ shown_mbox_text ask reader given)
 
   -- whatever the fault
-  stands_still : (walk : Walk S) (a : Archive) (why : Option RefusalReason) → WalkHoldsArchive g a walk
+  stands_still : (walk : Walk S W) (a : Archive) (why : Option RefusalReason) → WalkHoldsArchive g a walk
       → MatchOption why (IsOpen g walk.store → WalkHoldsArchive g a walk) (λ _. WalkHoldsArchive g a walk)
   stands_still walk a None it = λ up. it
   stands_still walk a (Some why) it = it
 
   -- nothing yet
-  pub rows_none : (walk : Walk S) (told : List ℕ) (counted : ℕ) → counted < 2 ^ 64 → RowsSoFar walk walk told told counted counted
+  pub rows_none : (walk : Walk S W) (told : List ℕ) (counted : ℕ) → counted < 2 ^ 64 → RowsSoFar walk walk told told counted counted
   rows_none walk told counted fits = record {
     part = [];
     out = sym (append-nil told);
@@ -101,7 +102,7 @@ module _ {S : Type 0} (g : Ghosts S) (ask : Ask) (reader : ReaderFacts) where
     walked = λ returned all a w. ([], w, refl);
   }
 
-  module _ (old mid new : Walk S) (before middle : List ℕ) (counted count : ℕ) (s : RowsSoFar old mid before middle counted count)
+  module _ (old mid new : Walk S W) (before middle : List ℕ) (counted count : ℕ) (s : RowsSoFar old mid before middle counted count)
       (was : StoreHasCleanDisk g new.store → StoreHasCleanDisk g mid.store) where
     -- why it stopped after a message, where memory was wanting
     pub rows_wanting : (after : List ℕ) (failed fails : ℕ) → after ≡ middle → fails ≡ failed → IsRowsStop before after failed fails counted count Memory
@@ -213,18 +214,16 @@ module _ {S : Type 0} (g : Ghosts S) (ask : Ask) (reader : ReaderFacts) where
         )
 
   -- a want of memory that is counted changes nothing of it
-  pub rows_counted : (old new counted : Walk S) (before after : List ℕ) (from to : ℕ) (fault : DeskError) → CountsOne new counted
+  pub rows_counted : (old new counted : Walk S W) (before after : List ℕ) (from to : ℕ) (fault : DeskError) → CountsOne g new counted
       → WritesRows g old new ask reader before after from to (Err fault) → WritesRows g old counted ask reader before after from to (Err fault)
   rows_counted old new counted before after from to fault one rows = λ returned all a w.
-      let it = rows (subst (StoreHasCleanDisk g) one.store returned) all a w in (
-        subst (λ s. MatchOption (refusal_reason fault) (IsOpen g s → HoldsTables g s × (archive_in g s ≡ a)) (λ _. HoldsTables g s × (archive_in g s ≡ a))) (sym one.store) it.0,
-        it.1,
-      )
+      let it = rows (one.store.leaves_archive.remains_open.disk_was_clean returned) all a w in
+      (left_holds g new.store new.store counted.store one.store.leaves_archive (refusal_reason fault) a returned it.0, it.1)
 
 -- ---- behind a head
 
 -- the writer fails in the head
-pub head_unwritten : {S : Type 0} (g : Ghosts S) (ask : Ask) (reader : ReaderFacts) (walk : Walk S) (head before after : List ℕ) (k : ℕ) → AppendsPrefixOfText before after head k
+pub head_unwritten : {S W : Type 0} (g : Ghosts S W) (ask : Ask) (reader : ReaderFacts) (walk : Walk S W) (head before after : List ℕ) (k : ℕ) → AppendsPrefixOfText before after head k
     → WritesWalk g walk walk ask reader head before after (Err (record { written = k; fault = Write }))
 head_unwritten g ask reader walk head before after k cut = λ returned all a w.
     let text = shown_mbox_text ask reader all in (
@@ -234,7 +233,7 @@ head_unwritten g ask reader walk head before after k cut = λ returned all a w.
           subst (λ n. AppendsPrefixOfText before after (head ++ text) n) none (cut_behind before before after [] head text (head ++ text) k (sym (append-nil before)) refl cut),
     )
 
-module _ {S : Type 0} (g : Ghosts S) (ask : Ask) (reader : ReaderFacts) (old new : Walk S) (head before middle after : List ℕ) (out : middle ≡ before ++ head)
+module _ {S W : Type 0} (g : Ghosts S W) (ask : Ask) (reader : ReaderFacts) (old new : Walk S W) (head before middle after : List ℕ) (out : middle ≡ before ++ head)
     (fits : length head < 2 ^ 64) where
   -- all of it is out
   pub walk_written : (count : ℕ) → WritesRows g old new ask reader middle after (length head) count (Ok tt)

@@ -3,18 +3,14 @@
 use Rattle.std.specs.Prelude.{◌≡◌, ◌≢◌, ◌⊎◌, ℕ, true, List, Result, IfErr, IsUtf8}
 use Rattle.std.specs.List.{All}
 use Rattle.std.specs.Option.{IsSomeAnd}
-use Rattle.sqlite.specs.Effect.{Database}
-use Rattle.sqlite.specs.Store.{Ghosts}
-use Rattle.sqlite.specs.Held.{state}
+use Rattle.archive_port.specs.declared.state.ArchiveState.{Ghosts}
 use Rattle.policy_core.specs.declared.access.Standing.{Standing}
 use Rattle.policy_core.specs.Rules.{has_own_condition}
 use Rattle.archive_model.specs.Records.{Archive, Message}
 use Rattle.archive_model.specs.Questions.{address_of, message_of, standing_of}
 use Rattle.archive_port.specs.Messages.{IsReadable}
-use Rattle.archive_store.specs.Held.{store_connection}
-use Rattle.archive_store.specs.Told.{DiskHasFailed, HasNoStepLimit, StoreHasCleanDisk, HoldsTables, archive_in}
+use Rattle.archive_port.specs.Told.{DiskHasFailed, HasNoStepLimit, StoreHasCleanDisk, HoldsTables, archive_in}
 use Rattle.archive_port.specs.Words.{standing_rank}
-use Rattle.archive_store.specs.declared.store.Store.{Store}
 use Rattle.archive_port.specs.declared.faults.StoreFault.TheVariants as faults
 use Rattle.archive_results.specs.Access.{Ask}
 use Rattle.archive_desk.specs.declared.faults.DeskError.{DeskError}
@@ -70,7 +66,7 @@ IsQuestionUnreadable archive ask messages = HasUnreadableMessage messages ⊎ Is
 
 -- ---- a call
 
-module _ {S : Type 0} (g : Ghosts S) (old new : Store S) where
+module _ {S W : Type 0} (g : Ghosts S W) (old new : S) where
   -- The cause of a call that the database broke, of the desk or of a layer above it: where the disk has returned what was written
   -- to it, the tables are an archive's and no limit is set on the steps of a query, the disk failed in that call, or this is so of
   -- the archive, which holds what no command writes.
@@ -78,10 +74,10 @@ module _ {S : Type 0} (g : Ghosts S) (old new : Store S) where
   HasCause Unread = StoreHasCleanDisk g new → HoldsTables g old → HasNoStepLimit g old → DiskHasFailed g old new ⊎ Unread (archive_in g old)
 
   -- The same of a call that carries out as much as it can, under a premise on the store (`HoldsTables`, `IsReady`): the disk failed, or
-  -- this is so of the archive before the call and of the rows which the store holds then.
-  abbrev pub HasPartialCallCause : (Store S → Type 0) → (Archive → Database → Type 0) → Type 0
+  -- this is so of the archive before the call and of the state behind it.
+  abbrev pub HasPartialCallCause : (S → Type 0) → (Archive → S → Type 0) → Type 0
   HasPartialCallCause Premise Stops = StoreHasCleanDisk g new → Premise old → HasNoStepLimit g old
-      → DiskHasFailed g old new ⊎ Stops (archive_in g old) (state g (store_connection new)).now
+      → DiskHasFailed g old new ⊎ Stops (archive_in g old) new
 
   -- the same, where every archive can be read: the disk failed
   abbrev pub HasDiskCause : Type 0

@@ -1,10 +1,9 @@
 -- The view as an mbox, written to a device.
 use Rattle.std.specs.Prelude.{◌≡◌, ◌<◌, ◌^◌, ◌-◌, ◌++◌, ℕ, List, length, map, filter, min, Option, Some, None, Result, option_map}
-use Rattle.sqlite.specs.Store.{Ghosts}
+use Rattle.archive_port.specs.declared.state.ArchiveState.{Ghosts}
 use Rattle.mbox_core.specs.Written.{AppendsPrefixOfText}
 use Rattle.archive_model.specs.Records.{Archive, Message as Remembered}
-use Rattle.archive_store.specs.Told.{StoreHasCleanDisk, HoldsTables, archive_in}
-use Rattle.archive_store.specs.declared.store.Store.{Store}
+use Rattle.archive_port.specs.Told.{StoreHasCleanDisk, HoldsTables, archive_in}
 use Rattle.archive_results.specs.Access.{Ask, ReaderFacts, is_shown, view_of}
 use Rattle.archive_results.specs.Results.{export_text}
 use Rattle.archive_results.specs.Shown.{shown_message}
@@ -36,7 +35,7 @@ IsExportRefused asked before after text count (declined why) = ⊥
 
 -- An export of this text: after Ok the writer got it, and the count is its length, as far as 64 bits go; else why it stopped.
 -- The archive stays.
-abbrev pub ExportsMbox : {S : Type 0} → Ghosts S → Store S → Store S → Result ℕ ExportStop → Ask → List ℕ → List ℕ → (Archive → List ℕ) → Type 0
+abbrev pub ExportsMbox : {S W : Type 0} → Ghosts S W → S → S → Result ℕ ExportStop → Ask → List ℕ → List ℕ → (Archive → List ℕ) → Type 0
 ExportsMbox g old new result ask before after text = CallsStoreWithTables g old new export_stop_reason result
     (λ a b count. (b ≡ a) × (ask_reason a ask ≡ None) × (after ≡ before ++ text a) × (count ≡ min (length (text a)) (2 ^ 64 - 1)))
     (λ a b why. (b ≡ a) × IsExportRefused (ask_reason a ask) before after (text a) why.0 why.1)
@@ -56,10 +55,10 @@ IsExportStop before after failed fails count other = (count ≡ 0) × (after ≡
 
 -- Whatever the fault, and whether the connection is still open: exactly the first bytes of the text of what the store
 -- remembered were written, where the writer told fewer than 2^64 bytes.
-abbrev pub ExportsPart : {S : Type 0} → Ghosts S → Store S → Store S → (before after : List ℕ) → ℕ → (Archive → List ℕ) → Type 0
+abbrev pub ExportsPart : {S W : Type 0} → Ghosts S W → S → S → (before after : List ℕ) → ℕ → (Archive → List ℕ) → Type 0
 ExportsPart g old new before after count text =
     StoreHasCleanDisk g new → HoldsTables g old → length after < 2 ^ 64 → AppendsPrefixOfText before after (text (archive_in g old)) count
 
 -- Where some bytes were written, what is asked is not refused: the list is there, and so is the reader.
-abbrev pub WritesOnlyIfNotRefused : {S : Type 0} → Ghosts S → Store S → Store S → Ask → ℕ → Type 0
+abbrev pub WritesOnlyIfNotRefused : {S W : Type 0} → Ghosts S W → S → S → Ask → ℕ → Type 0
 WritesOnlyIfNotRefused g old new ask count = StoreHasCleanDisk g new → HoldsTables g old → 0 < count → ask_reason (archive_in g old) ask ≡ None

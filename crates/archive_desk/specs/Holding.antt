@@ -1,11 +1,10 @@
 -- Calls to a store whose tables are an archive's, whatever is filed of a message.
 use Rattle.std.specs.Prelude.{Option, Result}
-use Rattle.sqlite.specs.Store.{Ghosts}
+use Rattle.archive_port.specs.declared.state.ArchiveState.{Ghosts}
 use Rattle.archive_model.specs.Records.{Archive}
-use Rattle.archive_store.specs.Told.{RelatesArchivesUnder, RelatesArchivesUnderIfOpen, CallsStoreUnder, AnswersFromStoreUnder, HoldsTables}
-use Rattle.archive_store.specs.declared.store.Store.{Store}
+use Rattle.archive_port.specs.Told.{RelatesArchivesUnder, RelatesArchivesUnderIfOpen, CallsStoreUnder, AnswersFromStoreUnder, HoldsTables}
 
-module _ {S : Type 0} (g : Ghosts S) (old new : Store S) where
+module _ {S W : Type 0} (g : Ghosts S W) (old new : S) where
   -- The store lasts, and where its tables were an archive's they are, and this holds of the archives that it remembered and remembers.
   abbrev pub RelatesTableArchives : (Archive → Archive → Type 0) → Type 0
   RelatesTableArchives R = RelatesArchivesUnder g (HoldsTables g) old new R

@@ -1,6 +1,5 @@
 -- What becomes of the messages of a file that are added to a list.
 use Rattle.std.specs.Prelude.{◌≡◌, ◌⊎◌, ℕ, ⊤, true, false, List, drop, Option, Some, None, option_map}
-use Rattle.sqlite.specs.Effect.{Database}
 use Rattle.mbox_core.specs.Division.{Item, DividesIntoItems, IsPreamble}
 use Rattle.mbox_core.specs.Faults.{IsCutFault}
 use Rattle.mbox_core.specs.declared.faults.MboxFault.TheVariants.{Preamble, Read, Memory, Failed}
@@ -8,8 +7,8 @@ use Rattle.archive_model.specs.Records.{Archive}
 use Rattle.archive_model.specs.Commands.{Refusal, no_list, list_full}
 use Rattle.archive_model.specs.Questions.{has_list}
 use Rattle.archive_model.specs.Runs.{taken, Tally, tally_replies}
-use Rattle.archive_port.specs.Adding.{HasAddedFirstItems, IsListFullAt, IsRefusedAt}
-use Rattle.archive_store.specs.Refusals.{RowsRefuseAnItem}
+use Rattle.archive_port.specs.declared.state.ArchiveState.{Ghosts}
+use Rattle.archive_port.specs.Adding.{HasAddedFirstItems, IsListFullAt, IsRefusedAt, RefusesAnItem}
 use Rattle.archive_port.specs.Replies.{refusal_of_fault}
 use Rattle.archive_port.specs.declared.faults.StoreFault.TheVariants.{Memory as NoMemory, Store as Broken}
 use Rattle.archive_desk.specs.declared.importing.Report.{Report}
@@ -98,6 +97,6 @@ abbrev pub IsBrokenImport : List ℕ → List ℕ → Archive → Archive → �
 IsBrokenImport list text a b done (Mbox fault) = ⊥
 IsBrokenImport list text a b done (Store fault) = ((done ≡ 0) × (b ≡ a)) ⊎ HasImportedFirst list text done a b
 
--- Some of the messages of the file behind the first `done` make rows that refuse the next, which the machine takes in.
-abbrev pub RowsRefuseImportItem : List ℕ → List ℕ → ℕ → Database → Type 0
-RowsRefuseImportItem list text done db = (items : List Item) × DividesIntoItems text items × RowsRefuseAnItem list (drop done items) db
+-- Some of the messages of the file behind the first `done` make of what is held what refuses the next, which the machine takes in.
+abbrev pub RowsRefuseImportItem : {S W : Type 0} → Ghosts S W → List ℕ → List ℕ → ℕ → S → Type 0
+RowsRefuseImportItem g list text done store = (items : List Item) × DividesIntoItems text items × RefusesAnItem g store list (drop done items)

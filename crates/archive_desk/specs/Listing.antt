@@ -3,8 +3,8 @@ use Rattle.std.specs.Prelude.{◌≡◌, ℕ, List, filter, map, Option, Some, N
 use Rattle.archive_model.specs.Records.{Archive, Message as Remembered}
 use Rattle.archive_model.specs.Questions.{merge_of}
 use Rattle.archive_port.specs.Replies.{refusal_of_fault}
-use Rattle.archive_store.specs.Walking.{selected_messages}
-use Rattle.archive_store.specs.declared.walking.Selection.{Selection}
+use Rattle.archive_port.specs.Walking.{selected_messages}
+use Rattle.archive_port.specs.declared.walking.Selection.{Selection}
 use Rattle.archive_results.specs.Access.{Ask, is_shown, reader_facts, view_of}
 use Rattle.archive_results.specs.Results.{lines_of, thread_lines}
 use Rattle.archive_results.specs.Shown.{Line, shown_message}

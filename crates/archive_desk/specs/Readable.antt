@@ -2,7 +2,7 @@
 use Rattle.std.specs.Prelude.{◌≡◌, ◌≢◌, ◌⊎◌, ⊤, ℕ, ℤ, true, List, Result, IfErr, IsUtf8}
 use Rattle.std.specs.List.{All}
 use Rattle.std.specs.Option.{IsSomeAnd}
-use Rattle.sqlite.specs.Store.{Ghosts}
+use Rattle.archive_port.specs.declared.state.ArchiveState.{Ghosts}
 use Rattle.civil_time.specs.Calendar.{is_day}
 use Rattle.mbox_core.specs.Written.{IsItem}
 use Rattle.policy_core.specs.declared.access.Standing.{Standing}
@@ -11,12 +11,11 @@ use Rattle.archive_model.specs.Commands.{Command, grant, add, withdraw, embargo}
 use Rattle.archive_model.specs.Filing.{messages_in_month, messages_by_author}
 use Rattle.archive_model.specs.Questions.{messages_in, person_of_token}
 use Rattle.archive_port.specs.Messages.{IsReadable}
-use Rattle.archive_store.specs.Told.{E15MeansDiskFailedOr as StoreCausedOr, DiskHasFailed, HasNoStepLimit, StoreHasCleanDisk, HoldsTables, archive_in}
+use Rattle.archive_port.specs.Told.{E15MeansDiskFailedOr as StoreCausedOr, DiskHasFailed, HasNoStepLimit, StoreHasCleanDisk, HoldsTables, archive_in}
 use Rattle.archive_port.specs.Words.{standing_rank}
 use Rattle.policy_core.specs.Numbers.{withdrawn_by_number, grant_kind_rank}
 use Rattle.archive_port.specs.declared.faults.StoreFault.{StoreFault}
 use Rattle.archive_port.specs.declared.faults.StoreFault.TheVariants as faults
-use Rattle.archive_store.specs.declared.store.Store.{Store}
 use Rattle.policy_core.specs.declared.access.GrantKind.{GrantKind}
 use Rattle.policy_core.specs.declared.access.WithdrawnBy.{WithdrawnBy}
 use Rattle.archive_results.specs.Access.{Ask}
@@ -73,12 +72,12 @@ abbrev pub HasNoDatabaseFault : {A : Type 0} → Result A DeskError → Type 0
 HasNoDatabaseFault result = IfErr result (λ fault. ¬ IsDeskDatabaseFault fault)
 
 -- its tables are those of an archive that can be read, and no limit is set on the steps of a query
-pub record IsFullyReadableStore {S : Type 0} (g : Ghosts S) (store : Store S) : Type 0 where
+pub record IsFullyReadableStore {S W : Type 0} (g : Ghosts S W) (store : S) : Type 0 where
   pub holds_tables : HoldsTables g store
   pub has_no_step_limit : HasNoStepLimit g store
   pub readable : CanBeRead (archive_in g store)
 
-module _ {S : Type 0} (g : Ghosts S) (old new : Store S) where
+module _ {S W : Type 0} (g : Ghosts S W) (old new : S) where
   -- the same before a call, in which the disk did not fail, and has returned what was written to it
   pub record MeetsNoDiskFault : Type 0 where
     pub fully_readable : IsFullyReadableStore g old

@@ -1,12 +1,12 @@
 -- Reading and writing the messages of a walk, one after the other.
 use Rattle.std.specs.Prelude.{◌≡◌, ◌⊎◌, ◌+◌, ◌<◌, ◌≤◌, ◌^◌, ◌-◌, ◌++◌, ℕ, Bool, true, List, [], length, filter, min, None, Result, IfErr, IfOk, MatchResult, MatchOption, Vec}
 use Rattle.std.specs.declared.alloc.Global.{Global}
-use Rattle.sqlite.specs.Store.{Ghosts}
+use Rattle.archive_port.specs.declared.state.ArchiveState.{Ghosts}
 use Rattle.mbox_core.specs.Written.{AppendsPrefixOfText}
 use Rattle.archive_model.specs.Records.{Archive, Message as Remembered}
 use Rattle.archive_port.specs.Replies.{refusal_of_fault}
-use Rattle.archive_store.specs.Told.{DiskHasFailed, HasNoStepLimit, StoreHasCleanDisk, HoldsTables, IsOpen, archive_in}
-use Rattle.archive_store.specs.Walking.{Walk, WalksOver, remaining_count}
+use Rattle.archive_port.specs.Told.{DiskHasFailed, HasNoStepLimit, StoreHasCleanDisk, HoldsTables, IsOpen, archive_in}
+use Rattle.archive_port.specs.Walking.{Walk, WalksOver, remaining_count}
 use Rattle.archive_port.specs.declared.faults.StoreFault.{StoreFault}
 use Rattle.archive_port.specs.declared.faults.StoreFault.TheVariants as faults
 use Rattle.archive_results.specs.Access.{Ask, ReaderFacts, is_shown}
@@ -54,28 +54,28 @@ IsMemoryOrDatabaseFault (Stored fault) = refusal_of_fault fault ≡ None
 IsMemoryOrDatabaseFault Memory = Unit {0}
 IsMemoryOrDatabaseFault other = ⊥
 
-module _ {S : Type 0} (g : Ghosts S) where
+module _ {S W : Type 0} (g : Ghosts S W) where
   -- its store holds an archive's tables, and remembers this archive
-  abbrev pub WalkHoldsArchive : Archive → Walk S → Type 0
+  abbrev pub WalkHoldsArchive : Archive → Walk S W → Type 0
   WalkHoldsArchive a walk = HoldsTables g walk.store × (archive_in g walk.store ≡ a)
 
   -- after a fault that has a reason so; after one of memory or of the database if the connection is still open
-  abbrev pub WalkHoldsArchiveIfOpen : Archive → Walk S → DeskError → Type 0
+  abbrev pub WalkHoldsArchiveIfOpen : Archive → Walk S W → DeskError → Type 0
   WalkHoldsArchiveIfOpen a walk fault = MatchOption (refusal_reason fault) (IsOpen g walk.store → WalkHoldsArchive a walk) (λ _. WalkHoldsArchive a walk)
 
   -- The cause of a walk that the database broke, over messages of the list, that gave none yet: where no limit is set on the steps of
   -- a query, the disk failed, or one of the messages cannot be read.
-  abbrev pub HasWalkCause : Walk S → Walk S → Ask → Type 0
+  abbrev pub HasWalkCause : Walk S W → Walk S W → Ask → Type 0
   HasWalkCause old new ask = StoreHasCleanDisk g new.store → HasNoStepLimit g old.store → (all : List Remembered) (a : Archive)
       → WalksOver g ask.list all a [] old → DiskHasFailed g old.store new.store ⊎ HasUnreadableMessage all
 
   -- the disk failed, or one of the messages cannot be read
-  abbrev pub E15MeansDiskFailedOrMessageUnreadable : {A : Type 0} → Walk S → Walk S → Ask → Result A StoreFault → Type 0
+  abbrev pub E15MeansDiskFailedOrMessageUnreadable : {A : Type 0} → Walk S W → Walk S W → Ask → Result A StoreFault → Type 0
   E15MeansDiskFailedOrMessageUnreadable old new ask result = StoreHasCleanDisk g new.store → (all : List Remembered) (a : Archive) (given : List Remembered)
       → WalksOver g ask.list all a given old → HasNoStepLimit g old.store
       → IfErr result (λ fault. fault ≡ faults.Store → DiskHasFailed g old.store new.store ⊎ HasUnreadableMessage all)
 
-  module _ (old new : Walk S) (ask : Ask) (reader : ReaderFacts) where
+  module _ (old new : Walk S W) (ask : Ask) (reader : ReaderFacts) where
     -- messages were passed by, as if they were given, that the policy does not show
     abbrev pub HasSkippedWithheld : List Remembered → Archive → List Remembered → Type 0
     HasSkippedWithheld all a given = (past : List Remembered) × WalksOver g ask.list all a (given ++ past) new × (filter (is_shown ask reader) past ≡ [])
@@ -84,13 +84,13 @@ module _ {S : Type 0} (g : Ghosts S) where
     pub record SkipsWithheldMessages {A : Type 0} (result : Result A StoreFault) : Type 0 where
       pub skips_withheld : StoreHasCleanDisk g new.store → (all : List Remembered) (a : Archive) (given : List Remembered) → WalksOver g ask.list all a given old
           → MatchResult result (λ _. HasSkippedWithheld all a given) (λ _. IsOpen g new.store → HasSkippedWithheld all a given)
-      pub remaining_never_grows : remaining_count new.walk ≤ remaining_count old.walk
+      pub remaining_never_grows : remaining_count g new.walk ≤ remaining_count g old.walk
       pub fault_is_no_refusal : IfErr result (λ fault. refusal_of_fault fault ≡ None)
 
     -- One message at most was passed by: whether one was, and then fewer are left.
     pub record SkipsAtMostOne (result : Result Bool StoreFault) : Type 0 where
       pub skips_withheld : SkipsWithheldMessages result
-      pub fewer_if_passed : IfOk result (λ passed. passed ≡ true → remaining_count new.walk < remaining_count old.walk)
+      pub fewer_if_passed : IfOk result (λ passed. passed ≡ true → remaining_count g new.walk < remaining_count g old.walk)
 
     -- A walk over messages of the list that gave none yet: this was made of them, as far as the policy shows them.
     abbrev pub ListsRows : {X : Type 0} → (made : List Remembered → List X) → Result (Vec X Global) DeskError → Type 0

@@ -2,8 +2,8 @@
 ghost use Rattle.std.specs.Prelude.{◌≡◌, ◌∷◌, [], ◌<◌, ◌^◌, ◌-◌, ◌++◌, min, length, OnOk, IfOk, IfErr};
 ghost use Rattle.mbox_core.specs.Written.{AppendsPrefixOfText};
 ghost use Rattle.archive_model.specs.Messages.{archived_message};
-ghost use Rattle.archive_store.specs.Told.{WritesNothing};
-ghost use Rattle.archive_store.specs.Walking.{walk_over_store};
+ghost use Rattle.archive_port.specs.Crashes.{WritesNothing};
+ghost use Rattle.archive_port.specs.Walking.{walk_over_store};
 ghost use Rattle.archive_desk.specs.Ending.{EndsExport, EndsWalk, LeavesPartialExport, ReportsWriterFailure};
 ghost use Rattle.archive_desk.specs.Exporting.{ExportsMbox, IsExportStop, exported_text, shown_mbox_text};
 ghost use Rattle.archive_desk.specs.Walking.{IsRowsStop, IsMessageWriteStop, IsWalkStop, WritesRows, WritesWalk, partial_message_bytes};
@@ -11,12 +11,11 @@ ghost use Rattle.archive_desk.specs.Walking.{IsRowsStop, IsMessageWriteStop, IsW
 use crate::faults::DeskError;
 use crate::passing::pass_withheld;
 use crate::viewing::resolve_reader;
+use archive_port::{ArchiveStore, Message, Selection};
 use archive_results::{Ask, ReaderFacts, is_shown};
-use archive_store::{Message, MessageWalk, Store};
 use mail_core::Memory;
 use mbox_core::device::{Sink, write_bytes};
 use mbox_core::{write_item, written_len};
-use sqlite::Alter;
 use std::alloc::Global;
 
 /// Where an export stopped: exactly the first `written` bytes of the text went out, those of the head among them.
@@ -31,53 +30,53 @@ pub struct ExportStop {
 /// Writes the view as an mbox (RFC 4155): how many bytes that is. It holds one message at a time. G1 where there is no
 /// such list, G2 where there is no such person, and nothing was written; G6 where the writer failed, G5 where no memory is left,
 /// G4 where the store has none or fails, before the first byte or at a message.
-pub fn export<S: Alter, W: Sink>(
-    store: &mut Store<S>,
+pub fn export<S: ArchiveStore, W: Sink>(
+    store: &mut S,
     alloc: Global,
     ask: &Ask<'_>,
     out: &mut W,
 ) -> Result<u64, ExportStop>
-    ensures exported { ExportsMbox S.Store store.old store.new result ask.now (W.told out.old)
+    ensures exported { ExportsMbox S.ArchiveState store.old store.new result ask.now (W.told out.old)
         (W.told out.new)
         (λ a. exported_text a ask.now) }
-    ensures stopped { LeavesPartialExport S.Store store.old store.new ask.now (W.told out.old)
+    ensures stopped { LeavesPartialExport S.ArchiveState store.old store.new ask.now (W.told out.old)
         (W.told out.new)
         (λ a. exported_text a ask.now) result }
     ensures writer { ReportsWriterFailure (W.failures out.old) (W.failures out.new) result
         (λ stop. IsExportStop (W.told out.old) (W.told out.new) (W.failures out.old)
         (W.failures out.new) stop.written stop.fault) }
-    ensures ends { EndsExport S.Store store.old store.new ask.now result }
-    ensures writes_nothing { WritesNothing S.Store store.old store.new }
+    ensures ends { EndsExport S.ArchiveState store.old store.new ask.now result }
+    ensures writes_nothing { WritesNothing S.ArchiveState store.old store.new }
 {
     export_after(store, alloc, ask, b"", out)
 }
 
 /// Writes these bytes, and then the view as an mbox: how many bytes that is in all. The list and the reader's standing
 /// are asked, and the walk begins, before the first byte. The refusals are those of `export`.
-pub fn export_after<S: Alter, W: Sink>(
-    store: &mut Store<S>,
+pub fn export_after<S: ArchiveStore, W: Sink>(
+    store: &mut S,
     alloc: Global,
     ask: &Ask<'_>,
     head: &[u8],
     out: &mut W,
 ) -> Result<u64, ExportStop>
-    ensures exported { ExportsMbox S.Store store.old store.new result ask.now (W.told out.old)
+    ensures exported { ExportsMbox S.ArchiveState store.old store.new result ask.now (W.told out.old)
         (W.told out.new)
         (λ a. head.now ++ exported_text a ask.now) }
-    ensures stopped { LeavesPartialExport S.Store store.old store.new ask.now (W.told out.old)
+    ensures stopped { LeavesPartialExport S.ArchiveState store.old store.new ask.now (W.told out.old)
         (W.told out.new)
         (λ a. head.now ++ exported_text a ask.now) result }
     ensures writer { ReportsWriterFailure (W.failures out.old) (W.failures out.new) result
         (λ stop. IsExportStop (W.told out.old) (W.told out.new) (W.failures out.old)
         (W.failures out.new) stop.written stop.fault) }
-    ensures ends { EndsExport S.Store store.old store.new ask.now result }
-    ensures writes_nothing { WritesNothing S.Store store.old store.new }
+    ensures ends { EndsExport S.ArchiveState store.old store.new ask.now result }
+    ensures writes_nothing { WritesNothing S.ArchiveState store.old store.new }
 {
     let reader = match resolve_reader(store, ask) {
         Ok(reader) => reader,
         Err(fault) => return Err(ExportStop { written: 0, fault }),
     };
-    match store.each_row(alloc, ask.list) {
+    match store.each_selected(alloc, ask.list, &Selection::Every) {
         Ok(mut walk) => write_walk(store, alloc, ask, &reader, head, &mut walk, out),
         Err(fault) => Err(ExportStop {
             written: 0,
@@ -87,22 +86,22 @@ pub fn export_after<S: Alter, W: Sink>(
 }
 
 /// Writes these bytes, and then the messages of a walk, as far as the policy shows them: how many bytes that is in all.
-fn write_walk<S: Alter, W: Sink>(
-    store: &mut Store<S>,
+fn write_walk<S: ArchiveStore, W: Sink>(
+    store: &mut S,
     alloc: Global,
     ask: &Ask<'_>,
     reader: &ReaderFacts,
     head: &[u8],
-    walk: &mut MessageWalk,
+    walk: &mut S::Walk,
     out: &mut W,
 ) -> Result<u64, ExportStop>
-    ensures written { WritesWalk S.Store (walk_over_store store.old walk.old) (walk_over_store store.new walk.new) ask.now reader.now head.now
+    ensures written { WritesWalk S.ArchiveState (walk_over_store store.old walk.old) (walk_over_store store.new walk.new) ask.now reader.now head.now
         (W.told out.old) (W.told out.new) result }
     ensures writer { ReportsWriterFailure (W.failures out.old) (W.failures out.new) result
         (λ stop. IsWalkStop (W.told out.old) (W.told out.new) (W.failures out.old)
         (W.failures out.new) stop.written stop.fault) }
-    ensures ends { EndsWalk S.Store (walk_over_store store.old walk.old) (walk_over_store store.new walk.new) ask.now (λ stop. stop.fault) result }
-    ensures writes_nothing { WritesNothing S.Store store.old store.new }
+    ensures ends { EndsWalk S.ArchiveState (walk_over_store store.old walk.old) (walk_over_store store.new walk.new) ask.now (λ stop. stop.fault) result }
+    ensures writes_nothing { WritesNothing S.ArchiveState store.old store.new }
 {
     if let Err(fault) = write_bytes(out, head) {
         return Err(ExportStop {
@@ -121,28 +120,28 @@ fn write_walk<S: Alter, W: Sink>(
 }
 
 /// Writes the messages that a walk has not given yet, as far as the policy shows them, and counts their bytes.
-fn write_rows<S: Alter, W: Sink>(
-    store: &mut Store<S>,
+fn write_rows<S: ArchiveStore, W: Sink>(
+    store: &mut S,
     alloc: Global,
     ask: &Ask<'_>,
     reader: &ReaderFacts,
-    walk: &mut MessageWalk,
+    walk: &mut S::Walk,
     out: &mut W,
     count: &mut u64,
 ) -> Result<(), DeskError>
     requires { count.old < 2 ^ 64 }
-    ensures written { WritesRows S.Store (walk_over_store store.old walk.old) (walk_over_store store.new walk.new) ask.now reader.now (W.told out.old)
+    ensures written { WritesRows S.ArchiveState (walk_over_store store.old walk.old) (walk_over_store store.new walk.new) ask.now reader.now (W.told out.old)
         (W.told out.new)
         count.old count.new result }
     ensures writer { ReportsWriterFailure (W.failures out.old) (W.failures out.new) result
         (λ fault. IsRowsStop (W.told out.old) (W.told out.new) (W.failures out.old)
         (W.failures out.new) count.old count.new fault) }
-    ensures ends { EndsWalk S.Store (walk_over_store store.old walk.old) (walk_over_store store.new walk.new) ask.now (λ fault. fault) result }
-    ensures writes_nothing { WritesNothing S.Store store.old store.new }
+    ensures ends { EndsWalk S.ArchiveState (walk_over_store store.old walk.old) (walk_over_store store.new walk.new) ask.now (λ fault. fault) result }
+    ensures writes_nothing { WritesNothing S.ArchiveState store.old store.new }
 {
     loop {
         pass_withheld(store, ask, reader, walk)?;
-        let Some(message) = walk.next(store)? else {
+        let Some(message) = store.next(walk)? else {
             return Ok(());
         };
         match write_shown(alloc, ask, reader, &message, out) {
@@ -152,7 +151,7 @@ fn write_rows<S: Alter, W: Sink>(
                 return Err(DeskError::Write);
             }
             Err(Unshown::Refused(refused)) => {
-                store.wants.increment(refused.into());
+                store.count_refusal(refused.into());
                 return Err(DeskError::Memory);
             }
         }

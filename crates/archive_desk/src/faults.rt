@@ -1,7 +1,7 @@
 //! Why a question is not answered.
 ghost use Rattle.archive_desk.specs.Faults.{desk_error_of};
 
-use archive_store::StoreFault;
+use archive_port::StoreFault;
 use std::error::Error;
 use std::fmt;
 

@@ -3,21 +3,18 @@ ghost use Rattle.std.specs.Prelude.{◌≡◌, ◌∷◌, [], true, drop, IfOk, 
 ghost use Rattle.mbox_core.specs.Division.{DividesIntoItems};
 ghost use Rattle.archive_model.specs.Commands.{no_list};
 ghost use Rattle.archive_model.specs.Questions.{has_list, list_refusal};
-ghost use Rattle.archive_store.specs.Held.{store_connection};
-ghost use Rattle.archive_store.specs.Refusals.{RowsRefuseAnItem};
 ghost use Rattle.archive_port.specs.Replies.{refusal_of_fault};
-ghost use Rattle.archive_store.specs.Told.{AnswersFromStoreUnder, EndsQuestion, HoldsTables, WasOpen, WritesNothing};
-ghost use Rattle.archive_store.specs.Crashes.{CrashOutcome};
-ghost use Rattle.archive_port.specs.Adding.{HasAddedAtLeast};
+ghost use Rattle.archive_port.specs.Told.{AnswersFromStoreUnder, EndsQuestion, HoldsTables, WasOpen};
+ghost use Rattle.archive_port.specs.Crashes.{WritesNothing, CrashOutcome};
+ghost use Rattle.archive_port.specs.Adding.{HasAddedAtLeast, RefusesAnItem};
 ghost use Rattle.archive_desk.specs.Crashes.{CrashAfterTablesCall, HasImportedAtLeast};
 ghost use Rattle.archive_desk.specs.Ending.{EndsImport};
 ghost use Rattle.archive_desk.specs.Holding.{CallsStoreWithTables};
 ghost use Rattle.archive_desk.specs.Importing.{HasAddedAllItems, IsBrokenAdd, IsBrokenImport, IsImportStoreMemoryRefusal, IsSplitError};
 ghost use Rattle.archive_desk.specs.Importing.{IsImported, IsRefusedAdd, IsRefusedImport, RowsRefuseImportItem, import_stop_reason};
 
-use archive_store::{Store, StoreFault};
+use archive_port::{ArchiveStore, StoreFault};
 use mbox_core::{Item, MboxFault, cut};
-use sqlite::Alter;
 use std::alloc::{AllocError, Global};
 use std::error::Error;
 use std::fmt;
@@ -69,21 +66,21 @@ impl Error for ImportError {}
 /// 50,000 messages and the next is not on it, E14 where no memory is left, E15 where the database fails. After a stop the
 /// same file can be imported again. Wherever the machine stops, an open finds so many first messages of the file, and no
 /// other, and once the call has returned an error at least those that it told: what is repeated then is known.
-pub fn import<S: Alter>(
-    store: &mut Store<S>,
+pub fn import<S: ArchiveStore>(
+    store: &mut S,
     alloc: Global,
     list: &str,
     mbox: &[u8],
 ) -> Result<Report, ImportStop>
-    ensures imports { CallsStoreWithTables S.Store store.old store.new import_stop_reason result
+    ensures imports { CallsStoreWithTables S.ArchiveState store.old store.new import_stop_reason result
         (λ a b report. IsImported list.now mbox.now a b report)
         (λ a b why. IsRefusedImport list.now mbox.now a b why.0 why.1)
         (λ a b stop. IsBrokenImport list.now mbox.now a b stop.done stop.fault) }
-    ensures crash { CrashOutcome S.Store (store_connection store.old) (store_connection store.new)
+    ensures crash { CrashOutcome S.ArchiveState store.old store.new
         (HasImportedAtLeast list.now mbox.now 0) result
         (λ stop. HasImportedAtLeast list.now mbox.now stop.done) }
-    ensures ends { EndsImport S.Store store.old store.new (HoldsTables S.Store) IsImportStoreMemoryRefusal result
-        (λ _ done db. RowsRefuseImportItem list.now mbox.now done db) }
+    ensures ends { EndsImport S.ArchiveState store.old store.new (HoldsTables S.ArchiveState) IsImportStoreMemoryRefusal result
+        (λ _ done last. RowsRefuseImportItem S.ArchiveState list.now mbox.now done last) }
 {
     if let Err(fault) = check_list_exists(store, list) {
         return Err(ImportStop {
@@ -98,7 +95,7 @@ pub fn import<S: Alter>(
             Err(ImportStop { done: 0, fault })
         }
         Err(Uncut::Refused(refused)) => {
-            store.wants.increment(refused.into());
+            store.count_refusal(refused.into());
             let fault = ImportError::Store(StoreFault::Memory);
             Err(ImportStop { done: 0, fault })
         }
@@ -114,13 +111,13 @@ enum Uncut {
 }
 
 /// Looks a list up: E4 where there is none of this name; E14, E15.
-pub fn check_list_exists<S: Alter>(store: &mut Store<S>, list: &str) -> Result<(), StoreFault>
-    ensures found { AnswersFromStoreUnder S.Store (HoldsTables S.Store) store.old store.new refusal_of_fault result
+pub fn check_list_exists<S: ArchiveStore>(store: &mut S, list: &str) -> Result<(), StoreFault>
+    ensures found { AnswersFromStoreUnder S.ArchiveState (HoldsTables S.ArchiveState) store.old store.new refusal_of_fault result
         (λ a. list_refusal a list.now)
         (λ a _. has_list a list.now ≡ true) }
-    ensures writes_nothing { WritesNothing S.Store store.old store.new }
-    ensures was_open { WasOpen S.Store store.old store.new refusal_of_fault result }
-    ensures ends { EndsQuestion S.Store store.old store.new result (no_list ∷ []) }
+    ensures writes_nothing { WritesNothing S.ArchiveState store.old store.new }
+    ensures was_open { WasOpen S.ArchiveState store.old store.new refusal_of_fault result }
+    ensures ends { EndsQuestion S.ArchiveState store.old store.new result (no_list ∷ []) }
 {
     match store.has_list(list) {
         Ok(true) => Ok(()),
@@ -145,20 +142,20 @@ fn cut_items<'a>(alloc: Global, mbox: &'a [u8]) -> Result<Vec<Item<'a>>, Uncut>
 }
 
 /// Adds messages to a list, and counts what became of them.
-fn add_items<S: Alter>(
-    store: &mut Store<S>,
+fn add_items<S: ArchiveStore>(
+    store: &mut S,
     alloc: Global,
     list: &str,
     items: &[Item<'_>],
 ) -> Result<Report, ImportStop>
-    ensures added { CallsStoreWithTables S.Store store.old store.new import_stop_reason result
+    ensures added { CallsStoreWithTables S.ArchiveState store.old store.new import_stop_reason result
         (λ a b report. HasAddedAllItems list.now items.entry.now a b report)
         (λ a b why. IsRefusedAdd list.now items.entry.now a b why.0 why.1)
         (λ a b stop. IsBrokenAdd list.now items.entry.now a b stop.done stop.fault) }
-    ensures crash { CrashAfterTablesCall S.Store store.old store.new result
+    ensures crash { CrashAfterTablesCall S.ArchiveState store.old store.new result
         (λ a stop b. HasAddedAtLeast list.now items.entry.now stop.done a b) }
-    ensures ends { EndsImport S.Store store.old store.new (HoldsTables S.Store) IsImportStoreMemoryRefusal result
-        (λ _ done db. RowsRefuseAnItem list.now (drop done items.entry.now) db) }
+    ensures ends { EndsImport S.ArchiveState store.old store.new (HoldsTables S.ArchiveState) IsImportStoreMemoryRefusal result
+        (λ _ done db. RefusesAnItem S.ArchiveState db list.now (drop done items.entry.now)) }
 {
     match store.add_all(alloc, list, items) {
         Ok(counts) => Ok(Report {

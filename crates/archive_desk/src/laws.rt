@@ -1,34 +1,29 @@
 //! Laws of the desk: each contract is a law over definitions, or over what it is given, and no call does anything.
 ghost use Rattle.std.specs.Prelude.{◌≡◌, ℕ, List, Result, map};
 ghost use Rattle.std.specs.List.{All};
-ghost use Rattle.sqlite.specs.Steps.{over_memory};
-ghost use Rattle.sqlite_trees.specs.declared.memory.MemStore.{MemStore};
 ghost use Rattle.mbox_core.specs.Division.{Item};
 ghost use Rattle.mbox_core.specs.Written.{IsItem};
 ghost use Rattle.archive_model.specs.Records.{Archive};
 ghost use Rattle.archive_model.specs.Commands.{Command as Told};
 ghost use Rattle.archive_model.specs.Machine.{step};
 ghost use Rattle.archive_model.specs.Runs.{run, taken};
-ghost use Rattle.archive_tables.specs.Making.{empty_archive};
 ghost use Rattle.archive_port.specs.Commands.{spec_command};
 ghost use Rattle.archive_port.specs.declared.faults.StoreFault.{StoreFault};
-ghost use Rattle.archive_store.specs.declared.store.Store.{Store};
 ghost use Rattle.archive_results.specs.Access.{Ask};
 ghost use Rattle.archive_port.specs.Adding.{HasAddedAtLeast};
 ghost use Rattle.archive_desk.specs.Crashes.{HasImportedAtLeast};
 ghost use Rattle.archive_desk.specs.Importing.{IsImported};
 ghost use Rattle.archive_desk.specs.Readable.{BreaksNoQuestion, CanBeRead, QuestionHasNoDatabaseFault, ExportHasNoDatabaseFault};
-ghost use Rattle.archive_desk.specs.Readable.{StoreQuestionHasNoFault, IsWellFormedCommand, IsFullyReadableStore, MeetsNoDiskFault};
+ghost use Rattle.archive_desk.specs.Readable.{StoreQuestionHasNoFault, IsWellFormedCommand, MeetsNoDiskFault};
 ghost use Rattle.archive_desk.specs.declared.exporting.ExportStop.{ExportStop};
 ghost use Rattle.archive_desk.specs.declared.importing.Report.{Report};
 ghost use Rattle.archive_desk.specs.declared.faults.DeskError.{DeskError};
 
-use archive_store::Command;
+use archive_port::{ArchiveStore, Command};
 use mbox_core::laws::whole_items_stay_items;
-use sqlite::Alter;
 
 /// Where an archive can be read, it can be after a command for which `IsWellFormedCommand` holds, as it does for each of the code, after any
-/// number of them, and after messages that can be written are added. The empty archive can be read.
+/// number of them, and after messages that can be written are added.
 pub fn commands_write_readable_archives()
     ensures step { (a : Archive) (command : Told) → IsWellFormedCommand command → CanBeRead a
         → CanBeRead (step a command).0 }
@@ -36,7 +31,6 @@ pub fn commands_write_readable_archives()
         → CanBeRead (run a commands).archive }
     ensures taken { (a : Archive) (list : List ℕ) (items : List Item) → All IsItem items
         → CanBeRead a → CanBeRead (taken a list items).archive }
-    ensures empty { CanBeRead empty_archive }
 {
     whole_items_stay_items();
 }
@@ -86,24 +80,13 @@ pub fn a_readable_archive_fails_no_question()
 
 /// Over a disk that does not fail in a call, no question of an archive that can be read is answered by G4 that carries E15, no export
 /// stops with it, and neither the lists nor who has a token are refused with E15.
-pub fn only_a_disk_fault_fails_a_question<S: Alter, A>()
-    ensures question { (old new : Store S) (result : Result A DeskError) (ask : Ask)
-        → MeetsNoDiskFault S.Store old new
-        → QuestionHasNoDatabaseFault S.Store old new result ask }
-    ensures export { (old new : Store S) (result : Result A ExportStop) (ask : Ask)
-        → MeetsNoDiskFault S.Store old new
-        → ExportHasNoDatabaseFault S.Store old new result ask }
-    ensures names { (old new : Store S) (result : Result A StoreFault)
-        → MeetsNoDiskFault S.Store old new → StoreQuestionHasNoFault S.Store old new result }
-{}
-
-/// In memory each call is such, on the tables of an archive that can be read, without a limit on the steps of a query: so there it
-/// never comes.
-pub fn in_memory_no_question_fails<A>()
-    ensures question { (old new : Store MemStore) (result : Result A DeskError) (ask : Ask)
-        → IsFullyReadableStore over_memory old → QuestionHasNoDatabaseFault over_memory old new result ask }
-    ensures export { (old new : Store MemStore) (result : Result A ExportStop) (ask : Ask)
-        → IsFullyReadableStore over_memory old → ExportHasNoDatabaseFault over_memory old new result ask }
-    ensures names { (old new : Store MemStore) (result : Result A StoreFault)
-        → IsFullyReadableStore over_memory old → StoreQuestionHasNoFault over_memory old new result }
+pub fn only_a_disk_fault_fails_a_question<S: ArchiveStore, A>()
+    ensures question { (old new : S) (result : Result A DeskError) (ask : Ask)
+        → MeetsNoDiskFault S.ArchiveState old new
+        → QuestionHasNoDatabaseFault S.ArchiveState old new result ask }
+    ensures export { (old new : S) (result : Result A ExportStop) (ask : Ask)
+        → MeetsNoDiskFault S.ArchiveState old new
+        → ExportHasNoDatabaseFault S.ArchiveState old new result ask }
+    ensures names { (old new : S) (result : Result A StoreFault)
+        → MeetsNoDiskFault S.ArchiveState old new → StoreQuestionHasNoFault S.ArchiveState old new result }
 {}

@@ -7,20 +7,20 @@ ghost use Rattle.archive_results.specs.Index.{AreSummariesOf};
 ghost use Rattle.archive_results.specs.Filed.{indexed_author_lines, indexed_month_lines};
 ghost use Rattle.archive_results.specs.Results.{author_lines, month_lines, tree_lines, thread_lines};
 ghost use Rattle.archive_results.specs.Shown.{shown_message};
-ghost use Rattle.archive_store.specs.Told.{AnswersFromReadyStore, AnswersFromStoreUnder, HoldsTables, WritesNothing};
+ghost use Rattle.archive_port.specs.Told.{AnswersFromReadyStore, AnswersFromStoreUnder, HoldsTables};
+ghost use Rattle.archive_port.specs.Crashes.{WritesNothing};
 ghost use Rattle.archive_desk.specs.Causes.{IsQuestionUnreadable};
 ghost use Rattle.archive_desk.specs.Ending.{EndsDeskCall, EndsDeskQuestion};
 ghost use Rattle.archive_desk.specs.Faults.{IsAskFault, ask_reason, missing_list_reason, refusal_reason};
 ghost use Rattle.archive_desk.specs.Holding.{AnswersFromStoreTables};
-ghost use Rattle.archive_store.specs.Walking.{selected_messages};
+ghost use Rattle.archive_port.specs.Walking.{selected_messages};
 ghost use Rattle.archive_desk.specs.Listing.{IsThreadFault, lines_shown, thread_reason, view_in};
 
 use crate::faults::DeskError;
 use crate::index::read_headers;
+use archive_port::{ArchiveStore, Key, Selection};
 use archive_results::{Ask, Line, MessageSummary, TreeLine, columns_of, thread_lines, tree_lines};
-use archive_store::{Key, Selection, Store};
 use civil_time::Month;
-use sqlite::Alter;
 use std::alloc::Global;
 use thread_core::Threader;
 
@@ -28,20 +28,20 @@ use thread_core::Threader;
 /// it, by the sent date that is filed, also where another program filed them otherwise. G1 where there is no such list, G2
 /// where there is no such person; G5 where no memory is left, G4 where the store has none or fails. No other message of the list
 /// is read.
-pub fn month<S: Alter>(
-    store: &mut Store<S>,
+pub fn month<S: ArchiveStore>(
+    store: &mut S,
     alloc: Global,
     ask: &Ask<'_>,
     month: Month,
 ) -> Result<Vec<Line>, DeskError>
-    ensures listed { AnswersFromReadyStore S.Store store.old store.new refusal_reason result (λ a. ask_reason a ask.now)
+    ensures listed { AnswersFromReadyStore S.ArchiveState store.old store.new refusal_reason result (λ a. ask_reason a ask.now)
         (λ a lines. lines.items ≡ month_lines month (map shown_message (view_of a ask.now))) }
-    ensures filed { AnswersFromStoreUnder S.Store (HoldsTables S.Store) store.old store.new refusal_reason result
+    ensures filed { AnswersFromStoreUnder S.ArchiveState (HoldsTables S.ArchiveState) store.old store.new refusal_reason result
         (λ a. ask_reason a ask.now)
         (λ a lines. lines.items ≡ indexed_month_lines a ask.now (pos month)) }
-    ensures ends { EndsDeskQuestion S.Store store.old store.new IsAskFault result
+    ensures ends { EndsDeskQuestion S.ArchiveState store.old store.new IsAskFault result
         (λ a. IsQuestionUnreadable a ask.now (messages_in_month a ask.now.list (pos month))) }
-    ensures writes_nothing { WritesNothing S.Store store.old store.new }
+    ensures writes_nothing { WritesNothing S.ArchiveState store.old store.new }
 {
     read_lines(store, alloc, ask, &Selection::InMonth(month))
 }
@@ -49,37 +49,37 @@ pub fn month<S: Alter>(
 /// The messages of the view that have an author key, by sent date and then in mailbox order: those that are filed under it, as
 /// for a month. G1 where there is no such list, G2 where there is no such person; G5 where no memory is left, G4 where the
 /// store has none or fails.
-pub fn author<S: Alter>(
-    store: &mut Store<S>,
+pub fn author<S: ArchiveStore>(
+    store: &mut S,
     alloc: Global,
     ask: &Ask<'_>,
     key: &[u8],
 ) -> Result<Vec<Line>, DeskError>
-    ensures listed { AnswersFromReadyStore S.Store store.old store.new refusal_reason result (λ a. ask_reason a ask.now)
+    ensures listed { AnswersFromReadyStore S.ArchiveState store.old store.new refusal_reason result (λ a. ask_reason a ask.now)
         (λ a lines. lines.items ≡ author_lines key.now (map shown_message (view_of a ask.now))) }
-    ensures filed { AnswersFromStoreUnder S.Store (HoldsTables S.Store) store.old store.new refusal_reason result
+    ensures filed { AnswersFromStoreUnder S.ArchiveState (HoldsTables S.ArchiveState) store.old store.new refusal_reason result
         (λ a. ask_reason a ask.now)
         (λ a lines. lines.items ≡ indexed_author_lines a ask.now key.now) }
-    ensures ends { EndsDeskQuestion S.Store store.old store.new IsAskFault result
+    ensures ends { EndsDeskQuestion S.ArchiveState store.old store.new IsAskFault result
         (λ a. IsQuestionUnreadable a ask.now (messages_by_author a ask.now.list key.now)) }
-    ensures writes_nothing { WritesNothing S.Store store.old store.new }
+    ensures writes_nothing { WritesNothing S.ArchiveState store.old store.new }
 {
     read_lines(store, alloc, ask, &Selection::ByAuthor(key))
 }
 
 /// The lines of these of a list's messages, as far as the policy shows them, in their order.
-fn read_lines<S: Alter>(
-    store: &mut Store<S>,
+fn read_lines<S: ArchiveStore>(
+    store: &mut S,
     alloc: Global,
     ask: &Ask<'_>,
     which: &Selection<'_>,
 ) -> Result<Vec<Line>, DeskError>
-    ensures held { AnswersFromStoreUnder S.Store (HoldsTables S.Store) store.old store.new refusal_reason result
+    ensures held { AnswersFromStoreUnder S.ArchiveState (HoldsTables S.ArchiveState) store.old store.new refusal_reason result
         (λ a. ask_reason a ask.now)
         (λ a lines. lines.items ≡ lines_shown (view_in a ask.now which.now)) }
-    ensures ends { EndsDeskQuestion S.Store store.old store.new IsAskFault result
+    ensures ends { EndsDeskQuestion S.ArchiveState store.old store.new IsAskFault result
         (λ a. IsQuestionUnreadable a ask.now (selected_messages a ask.now.list which.now)) }
-    ensures writes_nothing { WritesNothing S.Store store.old store.new }
+    ensures writes_nothing { WritesNothing S.ArchiveState store.old store.new }
 {
     let headers = match read_headers(store, alloc, ask, which) {
         Ok(headers) => headers,
@@ -88,7 +88,7 @@ fn read_lines<S: Alter>(
     match columns_of(alloc, headers) {
         Ok(columns) => Ok(columns.lines),
         Err(refused) => {
-            store.wants.increment(refused.into());
+            store.count_refusal(refused.into());
             Err(DeskError::Memory)
         }
     }
@@ -97,18 +97,18 @@ fn read_lines<S: Alter>(
 /// The threads of the view (RFC 5256, section 3, THREAD=REFERENCES), in preorder. Those of one subject are gathered where the
 /// list has it so. G1 where there is no such list, G2 where there is no such person; G5 where no memory is left, G4 where the
 /// store has none or fails.
-pub fn threads<T: Threader, S: Alter>(
-    store: &mut Store<S>,
+pub fn threads<T: Threader, S: ArchiveStore>(
+    store: &mut S,
     alloc: Global,
     ask: &Ask<'_>,
     threader: &T,
 ) -> Result<Vec<TreeLine>, DeskError>
-    ensures listed { AnswersFromStoreTables S.Store store.old store.new refusal_reason result (λ a. ask_reason a ask.now)
+    ensures listed { AnswersFromStoreTables S.ArchiveState store.old store.new refusal_reason result (λ a. ask_reason a ask.now)
         (λ a rows. rows.items ≡ tree_lines (merge_of a ask.now.list)
         (map shown_message (view_of a ask.now))) }
-    ensures ends { EndsDeskQuestion S.Store store.old store.new IsAskFault result
+    ensures ends { EndsDeskQuestion S.ArchiveState store.old store.new IsAskFault result
         (λ a. IsQuestionUnreadable a ask.now (messages_in a ask.now.list)) }
-    ensures writes_nothing { WritesNothing S.Store store.old store.new }
+    ensures writes_nothing { WritesNothing S.ArchiveState store.old store.new }
 {
     let index = match read_view_summaries(store, alloc, ask) {
         Ok(index) => index,
@@ -117,7 +117,7 @@ pub fn threads<T: Threader, S: Alter>(
     match tree_lines(alloc, threader, index.headers, index.merge) {
         Ok(rows) => Ok(rows),
         Err(refused) => {
-            store.wants.increment(refused.into());
+            store.count_refusal(refused.into());
             Err(DeskError::Memory)
         }
     }
@@ -126,20 +126,20 @@ pub fn threads<T: Threader, S: Alter>(
 /// The rows of the top thread of the view that holds the message of a key. G1 where there is no such list, G2 where there is
 /// no such person, G3 where the view does not hold the message; G5 where no memory is left, G4 where the store has none or
 /// fails.
-pub fn thread<T: Threader, S: Alter>(
-    store: &mut Store<S>,
+pub fn thread<T: Threader, S: ArchiveStore>(
+    store: &mut S,
     alloc: Global,
     ask: &Ask<'_>,
     threader: &T,
     key: &Key,
 ) -> Result<Vec<TreeLine>, DeskError>
-    ensures listed { AnswersFromStoreTables S.Store store.old store.new refusal_reason result
+    ensures listed { AnswersFromStoreTables S.ArchiveState store.old store.new refusal_reason result
         (λ a. thread_reason a ask.now key.now)
         (λ a rows. thread_lines (merge_of a ask.now.list) key.now
         (map shown_message (view_of a ask.now)) ≡ Some rows.items) }
-    ensures ends { EndsDeskQuestion S.Store store.old store.new IsThreadFault result
+    ensures ends { EndsDeskQuestion S.ArchiveState store.old store.new IsThreadFault result
         (λ a. IsQuestionUnreadable a ask.now (messages_in a ask.now.list)) }
-    ensures writes_nothing { WritesNothing S.Store store.old store.new }
+    ensures writes_nothing { WritesNothing S.ArchiveState store.old store.new }
 {
     let index = match read_view_summaries(store, alloc, ask) {
         Ok(index) => index,
@@ -149,7 +149,7 @@ pub fn thread<T: Threader, S: Alter>(
         Ok(Some(rows)) => Ok(rows),
         Ok(None) => Err(DeskError::NotInView),
         Err(refused) => {
-            store.wants.increment(refused.into());
+            store.count_refusal(refused.into());
             Err(DeskError::Memory)
         }
     }
@@ -166,18 +166,18 @@ pub struct ViewSummaries {
 
 /// The index of the view: the list is walked, one message at a time, and is then asked how it is threaded. G1 where there is no
 /// such list, G2 where there is no such person; G5 where no memory is left, G4 where the store has none or fails.
-pub fn read_view_summaries<S: Alter>(
-    store: &mut Store<S>,
+pub fn read_view_summaries<S: ArchiveStore>(
+    store: &mut S,
     alloc: Global,
     ask: &Ask<'_>,
 ) -> Result<ViewSummaries, DeskError>
-    ensures held { AnswersFromStoreUnder S.Store (HoldsTables S.Store) store.old store.new refusal_reason result
+    ensures held { AnswersFromStoreUnder S.ArchiveState (HoldsTables S.ArchiveState) store.old store.new refusal_reason result
         (λ a. ask_reason a ask.now)
         (λ a index. AreSummariesOf (view_of a ask.now) index.headers.items
         × (index.merge ≡ merge_of a ask.now.list)) }
-    ensures ends { EndsDeskQuestion S.Store store.old store.new IsAskFault result
+    ensures ends { EndsDeskQuestion S.ArchiveState store.old store.new IsAskFault result
         (λ a. IsQuestionUnreadable a ask.now (messages_in a ask.now.list)) }
-    ensures writes_nothing { WritesNothing S.Store store.old store.new }
+    ensures writes_nothing { WritesNothing S.ArchiveState store.old store.new }
 {
     let headers = match read_headers(store, alloc, ask, &Selection::Every) {
         Ok(headers) => headers,
@@ -190,12 +190,12 @@ pub fn read_view_summaries<S: Alter>(
 }
 
 /// Whether the threads of the list are gathered by subject.
-fn find_merge<S: Alter>(store: &mut Store<S>, ask: &Ask<'_>) -> Result<bool, DeskError>
-    ensures found { AnswersFromStoreUnder S.Store (HoldsTables S.Store) store.old store.new refusal_reason result
+fn find_merge<S: ArchiveStore>(store: &mut S, ask: &Ask<'_>) -> Result<bool, DeskError>
+    ensures found { AnswersFromStoreUnder S.ArchiveState (HoldsTables S.ArchiveState) store.old store.new refusal_reason result
         (λ a. missing_list_reason a ask.now)
         (λ a merge. merge ≡ merge_of a ask.now.list) }
-    ensures ends { EndsDeskCall S.Store store.old store.new IsAskFault result (λ _. ⊥) }
-    ensures writes_nothing { WritesNothing S.Store store.old store.new }
+    ensures ends { EndsDeskCall S.ArchiveState store.old store.new IsAskFault result (λ _. ⊥) }
+    ensures writes_nothing { WritesNothing S.ArchiveState store.old store.new }
 {
     Ok(store.merge_of(ask.list)?)
 }

@@ -3,7 +3,8 @@ ghost use Rattle.std.specs.Prelude.{◌≡◌, map, filter, IfOk, Some, option_m
 ghost use Rattle.archive_model.specs.Questions.{address_of, messages_in, standing_of, standing_refusal};
 ghost use Rattle.archive_model.specs.Messages.{archived_message};
 ghost use Rattle.archive_results.specs.Access.{is_shown, standing_of_rank, view_of};
-ghost use Rattle.archive_store.specs.Told.{AnswersFromStoreUnder, HoldsTables, WritesNothing};
+ghost use Rattle.archive_port.specs.Told.{AnswersFromStoreUnder, HoldsTables};
+ghost use Rattle.archive_port.specs.Crashes.{WritesNothing};
 ghost use Rattle.archive_desk.specs.Asking.{DeterminesVerdicts, person_reason, standing_reason};
 ghost use Rattle.archive_desk.specs.Causes.{HasUnreadableMessage, IsAddressUnreadable, IsPersonUnreadable, IsRankUnknown};
 ghost use Rattle.archive_desk.specs.Causes.{IsReaderUnreadable, IsQuestionUnreadable};
@@ -13,25 +14,24 @@ ghost use Rattle.archive_desk.specs.Holding.{AnswersFromStoreTables};
 
 use crate::faults::DeskError;
 use crate::importing::check_list_exists;
+use archive_port::{ArchiveStore, Message};
 use archive_results::{Ask, Reader, ReaderFacts, is_shown};
-use archive_store::{Message, Store};
 use mail_core::Memory;
 use policy_core::Standing;
-use sqlite::Alter;
 use std::alloc::Global;
 
 /// The messages of the list that the policy lets the reader see on the day, in mailbox order. G1 where there is no such
 /// list, G2 where there is no such person; G5 where no memory is left, G4 where the store has none or fails.
-pub fn view<S: Alter>(
-    store: &mut Store<S>,
+pub fn view<S: ArchiveStore>(
+    store: &mut S,
     alloc: Global,
     ask: &Ask<'_>,
 ) -> Result<Vec<Message>, DeskError>
-    ensures shown { AnswersFromStoreTables S.Store store.old store.new refusal_reason result (λ a. ask_reason a ask.now)
+    ensures shown { AnswersFromStoreTables S.ArchiveState store.old store.new refusal_reason result (λ a. ask_reason a ask.now)
         (λ a found. map (archived_message ask.now.list) found.items ≡ view_of a ask.now) }
-    ensures ends { EndsDeskCall S.Store store.old store.new IsAskFault result
+    ensures ends { EndsDeskCall S.ArchiveState store.old store.new IsAskFault result
         (λ a. IsQuestionUnreadable a ask.now (messages_in a ask.now.list)) }
-    ensures writes_nothing { WritesNothing S.Store store.old store.new }
+    ensures writes_nothing { WritesNothing S.ArchiveState store.old store.new }
 {
     let messages = match read_list(store, alloc, ask) {
         Ok(messages) => messages,
@@ -44,24 +44,24 @@ pub fn view<S: Alter>(
     match keep_shown(alloc, ask, &reader, messages) {
         Ok(kept) => Ok(kept),
         Err(refused) => {
-            store.wants.increment(refused.into());
+            store.count_refusal(refused.into());
             Err(DeskError::Memory)
         }
     }
 }
 
 /// All messages of the list.
-pub(crate) fn read_list<S: Alter>(
-    store: &mut Store<S>,
+pub(crate) fn read_list<S: ArchiveStore>(
+    store: &mut S,
     alloc: Global,
     ask: &Ask<'_>,
 ) -> Result<Vec<Message>, DeskError>
-    ensures held { AnswersFromStoreUnder S.Store (HoldsTables S.Store) store.old store.new refusal_reason result
+    ensures held { AnswersFromStoreUnder S.ArchiveState (HoldsTables S.ArchiveState) store.old store.new refusal_reason result
         (λ a. missing_list_reason a ask.now)
         (λ a found. map (archived_message ask.now.list) found.items ≡ messages_in a ask.now.list) }
-    ensures ends { EndsDeskCall S.Store store.old store.new IsAskFault result
+    ensures ends { EndsDeskCall S.ArchiveState store.old store.new IsAskFault result
         (λ a. HasUnreadableMessage (messages_in a ask.now.list)) }
-    ensures writes_nothing { WritesNothing S.Store store.old store.new }
+    ensures writes_nothing { WritesNothing S.ArchiveState store.old store.new }
 {
     Ok(store.rows(alloc, ask.list)?)
 }
@@ -69,16 +69,16 @@ pub(crate) fn read_list<S: Alter>(
 /// What a policy asks of the reader of a list that is there: the standing on the list and the day, and the address where a rule
 /// turns on it. G1 where there is no such list, and then G2 where there is no such person; G4 where the store has no memory or
 /// fails.
-pub fn resolve_reader<S: Alter>(
-    store: &mut Store<S>,
+pub fn resolve_reader<S: ArchiveStore>(
+    store: &mut S,
     ask: &Ask<'_>,
 ) -> Result<ReaderFacts, DeskError>
-    ensures found { AnswersFromStoreUnder S.Store (HoldsTables S.Store) store.old store.new refusal_reason result
+    ensures found { AnswersFromStoreUnder S.ArchiveState (HoldsTables S.ArchiveState) store.old store.new refusal_reason result
         (λ a. ask_reason a ask.now)
         (λ a reader. DeterminesVerdicts a ask.now reader) }
-    ensures ends { EndsDeskQuestion S.Store store.old store.new IsAskFault result
+    ensures ends { EndsDeskQuestion S.ArchiveState store.old store.new IsAskFault result
         (λ a. IsReaderUnreadable a ask.now) }
-    ensures writes_nothing { WritesNothing S.Store store.old store.new }
+    ensures writes_nothing { WritesNothing S.ArchiveState store.old store.new }
 {
     match check_list_exists(store, ask.list) {
         Ok(()) => find_marks(store, ask),
@@ -87,16 +87,16 @@ pub fn resolve_reader<S: Alter>(
 }
 
 /// What a policy asks of the reader, on the list and the day: nobody is the public.
-pub(crate) fn find_marks<S: Alter>(
-    store: &mut Store<S>,
+pub(crate) fn find_marks<S: ArchiveStore>(
+    store: &mut S,
     ask: &Ask<'_>,
 ) -> Result<ReaderFacts, DeskError>
-    ensures found { AnswersFromStoreUnder S.Store (HoldsTables S.Store) store.old store.new refusal_reason result
+    ensures found { AnswersFromStoreUnder S.ArchiveState (HoldsTables S.ArchiveState) store.old store.new refusal_reason result
         (λ a. standing_reason a ask.now)
         (λ a reader. DeterminesVerdicts a ask.now reader) }
-    ensures ends { EndsDeskCall S.Store store.old store.new IsAskFault result
+    ensures ends { EndsDeskCall S.ArchiveState store.old store.new IsAskFault result
         (λ a. IsReaderUnreadable a ask.now) }
-    ensures writes_nothing { WritesNothing S.Store store.old store.new }
+    ensures writes_nothing { WritesNothing S.ArchiveState store.old store.new }
 {
     match ask.reader {
         Reader::Nobody => Ok(ReaderFacts {
@@ -109,17 +109,17 @@ pub(crate) fn find_marks<S: Alter>(
 
 /// What a policy asks of this person. The address is asked only where a rule asks whether a message is the reader's own, since
 /// nothing else turns on it.
-fn person_marks<S: Alter>(
-    store: &mut Store<S>,
+fn person_marks<S: ArchiveStore>(
+    store: &mut S,
     ask: &Ask<'_>,
     name: &str,
 ) -> Result<ReaderFacts, DeskError>
-    ensures found { AnswersFromStoreUnder S.Store (HoldsTables S.Store) store.old store.new refusal_reason result
+    ensures found { AnswersFromStoreUnder S.ArchiveState (HoldsTables S.ArchiveState) store.old store.new refusal_reason result
         (λ a. option_map reason_of_refusal (standing_refusal a name.now ask.now.list))
         (λ a reader. DeterminesVerdicts a (record ask.now { reader = Some name.now }) reader) }
-    ensures ends { EndsDeskCall S.Store store.old store.new IsAskFault result
+    ensures ends { EndsDeskCall S.ArchiveState store.old store.new IsAskFault result
         (λ a. IsPersonUnreadable a ask.now name.now) }
-    ensures writes_nothing { WritesNothing S.Store store.old store.new }
+    ensures writes_nothing { WritesNothing S.ArchiveState store.old store.new }
 {
     let standing = match find_standing(store, ask, name) {
         Ok(standing) => standing,
@@ -138,30 +138,30 @@ fn person_marks<S: Alter>(
 }
 
 /// The standing of a person, on the list and the day.
-fn find_standing<S: Alter>(
-    store: &mut Store<S>,
+fn find_standing<S: ArchiveStore>(
+    store: &mut S,
     ask: &Ask<'_>,
     name: &str,
 ) -> Result<Standing, DeskError>
-    ensures found { AnswersFromStoreUnder S.Store (HoldsTables S.Store) store.old store.new refusal_reason result
+    ensures found { AnswersFromStoreUnder S.ArchiveState (HoldsTables S.ArchiveState) store.old store.new refusal_reason result
         (λ a. option_map reason_of_refusal (standing_refusal a name.now ask.now.list))
         (λ a standing. standing ≡ standing_of_rank
         (standing_of a name.now ask.now.list ask.now.day)) }
-    ensures ends { EndsDeskCall S.Store store.old store.new IsAskFault result
+    ensures ends { EndsDeskCall S.ArchiveState store.old store.new IsAskFault result
         (λ a. IsRankUnknown a ask.now name.now) }
-    ensures writes_nothing { WritesNothing S.Store store.old store.new }
+    ensures writes_nothing { WritesNothing S.ArchiveState store.old store.new }
 {
     Ok(store.standing(name, ask.list, ask.day)?)
 }
 
 /// The address of a person, who may have none.
-fn find_address<S: Alter>(store: &mut Store<S>, name: &str) -> Result<Option<String>, DeskError>
-    ensures found { AnswersFromStoreUnder S.Store (HoldsTables S.Store) store.old store.new refusal_reason result
+fn find_address<S: ArchiveStore>(store: &mut S, name: &str) -> Result<Option<String>, DeskError>
+    ensures found { AnswersFromStoreUnder S.ArchiveState (HoldsTables S.ArchiveState) store.old store.new refusal_reason result
         (λ a. person_reason a name.now)
         (λ a address. option_map string_bytes address ≡ address_of a name.now) }
-    ensures ends { EndsDeskCall S.Store store.old store.new IsAskFault result
+    ensures ends { EndsDeskCall S.ArchiveState store.old store.new IsAskFault result
         (λ a. IsAddressUnreadable a name.now) }
-    ensures writes_nothing { WritesNothing S.Store store.old store.new }
+    ensures writes_nothing { WritesNothing S.ArchiveState store.old store.new }
 {
     Ok(store.address(name)?)
 }

@@ -15,7 +15,7 @@ use Rattle.archive_model.specs.Machine.{StepOutcome, step}
 use Rattle.archive_model.specs.Runs.{run, taken, Tally, tally_replies, is_added_reply, is_known_reply, is_too_large_reply}
 use Rattle.archive_model.proofs.RunLemmas.{archive_of_both, replies_of_both}
 use Rattle.archive_port.specs.Adding.{HasAddedFirstItems, IsListFullAt, total_text_bytes}
-use Rattle.archive_store.proofs.RunLemmas.{run_nothing}
+use Rattle.archive_port.proofs.RightLemmas.{run_nothing}
 use Rattle.archive_desk.specs.Importing.{import_tally_of}
 use Rattle.archive_import.specs.declared.intake.TheConstants.{MESSAGES_HELD, BYTES_HELD}
 use Rattle.archive_import.specs.Intake.{IntakeState, IsUnderWay, FitsIntakeLimits, ReportGrowsBy, tally_sum}

@@ -2,7 +2,7 @@
 use Rattle.std.proofs.Common.{◌≡◌, ℕ, ◌≤◌, true, List, [], ◌++◌, length, inl, inr, Option, Some, None, Result, Ok, Err}
 use Rattle.std.proofs.Common.{refl, ap, sym, subst, ◌∙◌, arith, append-nil}
 use Rattle.std.specs.Prelude.{MatchOption, option_map, OnOk}
-use Rattle.sqlite.specs.Store.{Ghosts}
+use Rattle.archive_port.specs.declared.state.ArchiveState.{Ghosts}
 use Rattle.mbox_core.specs.Division.{Item, DividesIntoItems, IsPreamble}
 use Rattle.mbox_core.specs.declared.faults.MboxFault.{MboxFault}
 use Rattle.mbox_core.specs.declared.faults.MboxFault.TheVariants.{Preamble, Read, Memory, Failed}
@@ -17,12 +17,11 @@ use Rattle.archive_model.specs.Questions.{has_list, list_refusal}
 use Rattle.archive_model.specs.Runs.{taken}
 use Rattle.archive_port.specs.Adding.{HasAddedFirstItems}
 use Rattle.archive_port.specs.Replies.{refusal_of_fault}
-use Rattle.archive_store.specs.Told.{HoldsTables}
+use Rattle.archive_port.specs.Told.{HoldsTables}
 use Rattle.archive_desk.specs.Holding.{CallsStoreWithTables, RelatesTableArchives, RelatesTableArchivesIfOpen}
-use Rattle.archive_store.specs.declared.store.Store.{Store}
 use Rattle.archive_port.specs.declared.faults.StoreFault.{StoreFault}
-use Rattle.archive_store.proofs.Joins.{goes_on_in, goes_in_as, goes_in_as_if_open, stays_there_in}
-use Rattle.archive_store.proofs.RunLemmas.{run_nothing}
+use Rattle.archive_port.proofs.Joins.{goes_on_in, goes_in_as, goes_in_as_if_open, stays_there_in}
+use Rattle.archive_port.proofs.RightLemmas.{run_nothing}
 use Rattle.archive_desk.specs.Importing.{IsBrokenAdd}
 use Rattle.archive_desk.specs.declared.importing.Report.{Report}
 use Rattle.archive_desk.specs.declared.importing.ImportStop.{ImportStop}
@@ -55,7 +54,7 @@ unread_halt list items a b done unknown_list it = it
 unread_halt list items a b done full it = it
 unread_halt list items a b done (declined why) it = it
 
-module _ {S : Type 0} (g : Ghosts S) (old new : Store S) (list : List ℕ) (i : IntakeState) where
+module _ {S W : Type 0} (g : Ghosts S W) (old new : S) (list : List ℕ) (i : IntakeState) where
   pub unread_added : (j : IntakeState) (at : ImportStop) → at ≡ record { done = j.done; fault = Mbox Read } → RelatesTableArchives g old new (Keeps list i j) → j.held ≡ []
       → CallsStoreWithTables g old new {A = Unit {0}} halt_reason (Err at) Nothing (Unreads list i) (BreaksAmid list i)
   unread_added j at is keeps none = subst (λ s. CallsStoreWithTables g old new {A = Unit {0}} halt_reason (Err s) Nothing (Unreads list i) (BreaksAmid list i)) (sym is)
@@ -128,7 +127,7 @@ settled_whole text offset p = let P : List ℕ → Type 0 = λ x. IsPreamble x o
 
 -- ---- a fault of reading, or of the end
 
-module _ {S : Type 0} (g : Ghosts S) (old new : Store S) (list : List ℕ) (from items : List Item) (i j : IntakeState) (begun : RelatesTableArchives g old new (Begun list from items i j))
+module _ {S W : Type 0} (g : Ghosts S W) (old new : S) (list : List ℕ) (from items : List Item) (i j : IntakeState) (begun : RelatesTableArchives g old new (Begun list from items i j))
     (stream text piece : List ℕ) (ends : ℕ) (are : items ≡ settled_items stream) (e : text ≡ stream ++ piece) where
   abbrev StopsAt : ImportStop → Type 0
   StopsAt at = CallsStoreWithTables g old new {A = Unit {0}} halt_reason (Err at) Nothing (HaltsRead list text ends from i) (BreaksRead list text ends from i)
@@ -167,7 +166,7 @@ module _ {S : Type 0} (g : Ghosts S) (old new : Store S) (list : List ℕ) (from
 
 -- ---- a stop while what was read is added
 
-module _ {S : Type 0} (g : Ghosts S) (old mid new : Store S) (list : List ℕ) (from items : List Item) (i j : IntakeState) (begun : RelatesTableArchives g old mid (Begun list from items i j)) where
+module _ {S W : Type 0} (g : Ghosts S W) (old mid new : S) (list : List ℕ) (from items : List Item) (i j : IntakeState) (begun : RelatesTableArchives g old mid (Begun list from items i j)) where
   -- as the messages are added that wait
   pub waiting_stopped : (k : IntakeState) (text : List ℕ) (ends : ℕ) (waiting : List Item) (stop : ImportStop)
       → AreItemsOfReadText text ends (items ++ waiting) → CallsStoreWithTables g mid new {A = Unit {0}} halt_reason (Err stop) (λ b c _. Grows list j k waiting b c) (Halts list j waiting)
@@ -215,7 +214,7 @@ module _ {S : Type 0} (g : Ghosts S) (old mid new : Store S) (list : List ℕ) (
       (λ b c d stop begun breaks a w. broken_read list text 1 items a d stop.done (inr (refl, divides)) stop.fault (breaks a items (begun a w)))
       stop begun call
 
-pub begun_none : {S : Type 0} (g : Ghosts S) (store : Store S) (list : List ℕ) (from items : List Item) (i : IntakeState) → items ≡ from
+pub begun_none : {S W : Type 0} (g : Ghosts S W) (store : S) (list : List ℕ) (from items : List Item) (i : IntakeState) → items ≡ from
     → RelatesTableArchives g store store (Begun list from items i i)
 begun_none g store list from items i e = goes_in_as g (HoldsTables g) store store (λ a b. b ≡ a) (Begun list from items i i)
     (λ b c same a w. subst (λ is. IsUnderWay list a c is i) (sym e) (subst (λ x. IsUnderWay list a x from i) (sym same) w)) (stays_there_in g (HoldsTables g) store)
@@ -238,7 +237,7 @@ IsFound list a b = (b ≡ a) × (list_refusal a list ≡ None) × (has_list a li
 abbrev pub no_intake : IntakeState
 no_intake = record { held = []; done = 0; report = record { new = 0; known = 0; too_large = 0 } }
 
-module _ {S : Type 0} (g : Ghosts S) (old new : Store S) (list : List ℕ) where
+module _ {S W : Type 0} (g : Ghosts S W) (old new : S) (list : List ℕ) where
   nothing_broken : (a b : Archive) → b ≡ a → HasAddedFirstItems list (settled_items []) 0 a b
   nothing_broken a b same = (omega arith, same ∙ run_nothing a)
 
@@ -260,7 +259,7 @@ module _ {S : Type 0} (g : Ghosts S) (old new : Store S) (list : List ℕ) where
           let it = missing a list why h.1 in
           subst (λ r. IsImportError list [] 0 a b 0 (halt_of_refusal r)) it.0 (refl, h.0, it.1, refl, refl)) it
 
-module _ {S : Type 0} (g : Ghosts S) (old mid new : Store S) (list : List ℕ) (i : IntakeState) (is : i ≡ no_intake) (found : RelatesTableArchives g old mid (IsFound list)) where
+module _ {S W : Type 0} (g : Ghosts S W) (old mid new : S) (list : List ℕ) (i : IntakeState) (is : i ≡ no_intake) (found : RelatesTableArchives g old mid (IsFound list)) where
   started : (a b : Archive) → IsFound list a b → IsUnderWay list a b [] i
   started a b it = under_way_first list a b i it.2 it.0 is
 
@@ -276,7 +275,7 @@ module _ {S : Type 0} (g : Ghosts S) (old mid new : Store S) (list : List ℕ) (
       (HaltsRead list text 0 [] i) (λ a b why. IsImportError list text 0 a b why.0 why.1) (BreaksRead list text 0 [] i) (λ a b stop. IsBrokenInputImport list text 0 a b stop.done stop.fault)
       (λ a b c why it halts. halts a (started a b it)) (λ a b c stop it breaks. breaks a (started a b it)) stop found call
 
-module _ {S : Type 0} (g : Ghosts S) (old mid new : Store S) (list text : List ℕ) (items : List Item) (j : IntakeState)
+module _ {S W : Type 0} (g : Ghosts S W) (old mid new : S) (list text : List ℕ) (items : List Item) (j : IntakeState)
     (before : RelatesTableArchives g old mid (λ a c. IsUnderWay list a c items j)) where
   pub last_stopped : (stop : ImportStop)
       → CallsStoreWithTables g mid new {A = Unit {0}} halt_reason (Err stop) Nothing (HaltsRead list text 1 items j) (BreaksRead list text 1 items j)

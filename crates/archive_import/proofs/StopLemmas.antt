@@ -1,25 +1,19 @@
 -- What adding what is held, and holding more, says of a store.
 use Rattle.std.proofs.Common.{◌≡◌, ℕ, ◌+◌, ◌≤◌, true, List, [], ◌∷◌, ◌++◌, length, take, refl, ap, sym, subst, ◌∙◌, append_assoc, append-nil, Option, Some, None, Result, Ok, Err}
-use Rattle.std.specs.Prelude.{MatchOption, option_map, OnOk, IfErr}
-use Rattle.sqlite.specs.Store.{Ghosts}
-use Rattle.sqlite.specs.Held.{state}
-use Rattle.sqlite.specs.State.{HasCleanDisk}
+use Rattle.std.specs.Prelude.{IsTrue, MatchOption, option_map, OnOk, IfErr}
+use Rattle.archive_port.specs.declared.state.ArchiveState.{Ghosts}
 use Rattle.mbox_core.specs.Division.{Item}
 use Rattle.mbox_core.specs.declared.faults.MboxFault.TheVariants.{Memory as NoRoom}
 use Rattle.archive_model.specs.Records.{Archive}
 use Rattle.archive_model.specs.Commands.{Refusal, no_list, bad_name, bad_text, list_exists, person_exists, no_person, token_taken}
 use Rattle.archive_model.specs.Commands.{no_message, already_withdrawn, not_withdrawn, bad_days, list_full, too_large}
 use Rattle.archive_model.specs.Runs.{taken}
-use Rattle.archive_tables.specs.Tables.{IsArchiveAtRest, archive_of}
-use Rattle.archive_store.specs.Batches.{AddsAllMessages, HoldsAddedItemsIfOpen}
-use Rattle.archive_port.specs.Adding.{IsRefusedAt, tally_of_report}
-use Rattle.archive_store.specs.Held.{store_connection}
+use Rattle.archive_port.specs.Adding.{AddsAllMessages, IsRefusedAt, tally_of_report}
 use Rattle.archive_port.specs.Replies.{refusal_of_fault}
-use Rattle.archive_store.specs.Told.{StaysOpenUnlessDiskFails, HoldsTables}
-use Rattle.archive_store.specs.declared.store.Store.{Store}
+use Rattle.archive_port.specs.Told.{StaysOpenUnlessDiskFails, HoldsTables}
 use Rattle.archive_port.specs.declared.reports.AddError.{AddError}
 use Rattle.archive_port.specs.declared.reports.AddReport.{AddReport}
-use Rattle.archive_store.proofs.Joins.{goes_on_in, goes_on_in_if_open, goes_in_as, goes_in_as_if_open, stays_there_in}
+use Rattle.archive_port.proofs.Joins.{goes_on_in, goes_on_in_if_open, goes_in_as, goes_in_as_if_open, stays_there_in}
 use Rattle.archive_desk.specs.Holding.{CallsStoreWithTables, RelatesTableArchives, RelatesTableArchivesIfOpen}
 use Rattle.archive_desk.specs.Importing.{IsBrokenAdd}
 use Rattle.archive_desk.specs.declared.importing.ImportStop.{ImportStop}
@@ -31,7 +25,7 @@ use Rattle.archive_import.proofs.IntakeLemmas.{some_added, full_amid, still_list
 
 -- ---- a stop after other calls, whatever these answer
 
-module _ {S : Type 0} (g : Ghosts S) (old mid new : Store S) {A B F R : Type 0} (reason : F → Option R) (Before : Archive → Archive → Type 0)
+module _ {S W : Type 0} (g : Ghosts S W) (old mid new : S) {A B F R : Type 0} (reason : F → Option R) (Before : Archive → Archive → Type 0)
     (Says : Archive → Archive → A → Type 0) (Says' : Archive → Archive → B → Type 0) (Refuses Refuses' : Archive → Archive → R → Type 0)
     (Stops Stops' : Archive → Archive → F → Type 0) (refuses : (a b c : Archive) (why : R) → Before a b → Refuses b c why → Refuses' a c why)
     (stops : (a b c : Archive) (fault : F) → Before a b → Stops b c fault → Stops' a c fault) where
@@ -48,7 +42,7 @@ module _ {S : Type 0} (g : Ghosts S) (old mid new : Store S) {A B F R : Type 0} 
           goes_in_as g (HoldsTables g) old new (λ a c. (b : Archive) × Before a b × Refuses b c why) (λ a c. Refuses' a c why) (λ a c h. refuses a h.0 c why h.1 h.2)
           (goes_on_in g (HoldsTables g) old mid new Before (λ b c. Refuses b c why) before last)
 
-module _ {S : Type 0} (g : Ghosts S) (old new : Store S) {A B F R : Type 0} (reason : F → Option R)
+module _ {S W : Type 0} (g : Ghosts S W) (old new : S) {A B F R : Type 0} (reason : F → Option R)
     (Says : Archive → Archive → A → Type 0) (Says' : Archive → Archive → B → Type 0) (Refuses Refuses' : Archive → Archive → R → Type 0)
     (Stops Stops' : Archive → Archive → F → Type 0) (refuses : (a b : Archive) (why : R) → Refuses a b why → Refuses' a b why)
     (stops : (a b : Archive) (fault : F) → Stops a b fault → Stops' a b fault) where
@@ -118,8 +112,8 @@ HaltsAmid list i b c why = (a : Archive) (items : List Item) → IsUnderWay list
 abbrev pub BreaksAmid : (list : List ℕ) → (i : IntakeState) → Archive → Archive → ImportStop → Type 0
 BreaksAmid list i b c stop = (a : Archive) (items : List Item) → IsUnderWay list a b items i → IsBrokenAdd list items a c stop.done stop.fault
 
-module _ {S : Type 0} (g : Ghosts S) (old new : Store S) (list : List ℕ) (i : IntakeState) where
-  pub held_added : (j : IntakeState) (counts : AddReport) → StaysOpenUnlessDiskFails g old new → AddsAllMessages g (store_connection old) (store_connection new) (Ok counts) list i.held
+module _ {S W : Type 0} (g : Ghosts S W) (old new : S) (list : List ℕ) (i : IntakeState) where
+  pub held_added : (j : IntakeState) (counts : AddReport) → StaysOpenUnlessDiskFails g old new → AddsAllMessages g old new (Ok counts) list i.held
       → j.held ≡ [] → j.done ≡ i.done + length i.held → ReportGrowsBy i.report (tally_of_report counts) j.report → RelatesTableArchives g old new (Keeps list i j)
   held_added j counts lasts adds none done more = (
     lasts,
@@ -131,17 +125,17 @@ module _ {S : Type 0} (g : Ghosts S) (old new : Store S) (list : List ℕ) (i : 
   )
 
   pub add_stopped : (stop : AddError) (at : ImportStop) → at ≡ record { done = i.done + stop.done; fault = Stored stop.fault } → StaysOpenUnlessDiskFails g old new
-      → AddsAllMessages g (store_connection old) (store_connection new) (Err stop) list i.held → stop.done ≤ length i.held
+      → AddsAllMessages g old new (Err stop) list i.held → stop.done ≤ length i.held
       → CallsStoreWithTables g old new {A = Unit {0}} halt_reason (Err at) Nothing (HaltsAmid list i) (BreaksAmid list i)
   add_stopped stop at is lasts adds low = subst (λ s. CallsStoreWithTables g old new {A = Unit {0}} halt_reason (Err s) Nothing (HaltsAmid list i) (BreaksAmid list i))
       (sym is) (by_reason (refusal_of_fault stop.fault) adds)
     where
       by_reason : (r : Option Refusal)
-          → (HasCleanDisk (state g (store_connection new)) → IsArchiveAtRest (state g (store_connection old))
-          → MatchOption r (HoldsAddedItemsIfOpen (state g (store_connection new)) (archive_of (state g (store_connection old))) list (take stop.done i.held))
-          (λ why. IsArchiveAtRest (state g (store_connection new))
-          × (archive_of (state g (store_connection new)) ≡ (taken (archive_of (state g (store_connection old))) list (take stop.done i.held)).archive)
-          × IsRefusedAt (archive_of (state g (store_connection old))) list i.held stop.done why))
+          → (g.has_clean_disk new → g.is_at_rest old
+          → MatchOption r (IsTrue (g.is_open new) → g.is_at_rest new × (g.archive new ≡ (taken (g.archive old) list (take stop.done i.held)).archive))
+          (λ why. g.is_at_rest new
+          × (g.archive new ≡ (taken (g.archive old) list (take stop.done i.held)).archive)
+          × IsRefusedAt (g.archive old) list i.held stop.done why))
           → MatchOption (option_map (λ (halt : HaltReason). (i.done + stop.done, halt)) (option_map halt_of_refusal r))
           (RelatesTableArchivesIfOpen g old new (λ b c. BreaksAmid list i b c (record { done = i.done + stop.done; fault = Stored stop.fault })))
           (λ why. RelatesTableArchives g old new (λ b c. HaltsAmid list i b c why))
@@ -160,7 +154,7 @@ module _ {S : Type 0} (g : Ghosts S) (old new : Store S) (list : List ℕ) (i : 
 
 -- ---- a message more is held
 
-module _ {S : Type 0} (g : Ghosts S) (old mid : Store S) (list : List ℕ) (i j : IntakeState) (item : Item) (before : RelatesTableArchives g old mid (Keeps list i j)) where
+module _ {S W : Type 0} (g : Ghosts S W) (old mid : S) (list : List ℕ) (i j : IntakeState) (item : Item) (before : RelatesTableArchives g old mid (Keeps list i j)) where
   pub held_more : (k : IntakeState) → k ≡ record j { held = j.held ++ item ∷ [] } → RelatesTableArchives g old mid (Grows list i k (item ∷ []))
   held_more k is = goes_in_as g (HoldsTables g) old mid (Keeps list i j) (Grows list i k (item ∷ []))
       (λ b c keeps a items w. one_held list a c items j (keeps a items w) k item is) before
@@ -179,18 +173,18 @@ module _ {S : Type 0} (g : Ghosts S) (old mid : Store S) (list : List ℕ) (i j 
   hold_says k (Ok done) ok err = held_more k ok
   hold_says k (Err stop) ok err = not_held stop err
 
-pub keeps_all : {S : Type 0} (g : Ghosts S) (store : Store S) (list : List ℕ) (i : IntakeState) → RelatesTableArchives g store store (Keeps list i i)
+pub keeps_all : {S W : Type 0} (g : Ghosts S W) (store : S) (list : List ℕ) (i : IntakeState) → RelatesTableArchives g store store (Keeps list i i)
 keeps_all g store list i = goes_in_as g (HoldsTables g) store store (λ a b. b ≡ a) (Keeps list i i) (λ b c same a items w. subst (λ x. IsUnderWay list a x items i) (sym same) w)
     (stays_there_in g (HoldsTables g) store)
 
 -- ---- one message after the other
 
-module _ {S : Type 0} (g : Ghosts S) (list : List ℕ) where
-  pub grows_none : (store : Store S) (i : IntakeState) → RelatesTableArchives g store store (Grows list i i [])
+module _ {S W : Type 0} (g : Ghosts S W) (list : List ℕ) where
+  pub grows_none : (store : S) (i : IntakeState) → RelatesTableArchives g store store (Grows list i i [])
   grows_none store i = goes_in_as g (HoldsTables g) store store (Keeps list i i) (Grows list i i [])
       (λ b c keeps a items w. subst (λ is. IsUnderWay list a c is i) (sym (append-nil items)) (keeps a items w)) (keeps_all g store list i)
 
-  module _ (old mid new : Store S) (i j : IntakeState) (more next : List Item) (before : RelatesTableArchives g old mid (Grows list i j more)) where
+  module _ (old mid new : S) (i j : IntakeState) (more next : List Item) (before : RelatesTableArchives g old mid (Grows list i j more)) where
     pub grows_more : (k : IntakeState) → RelatesTableArchives g mid new (Grows list j k next) → RelatesTableArchives g old new (Grows list i k (more ++ next))
     grows_more k then = goes_in_as g (HoldsTables g) old new (λ a c. (b : Archive) × Grows list i j more a b × Grows list j k next b c) (Grows list i k (more ++ next))
         (λ b c h a items w. subst (λ is. IsUnderWay list a c is k) (append_assoc items more next) (h.2 a (items ++ more) (h.1 a items w)))
@@ -211,7 +205,7 @@ module _ {S : Type 0} (g : Ghosts S) (list : List ℕ) where
         joined items = append_assoc (items ++ more) next rest ∙ append_assoc items more (next ++ rest) ∙ ap (λ is. items ++ is) (sym e)
 
 -- those that were held are not added, and so no further message is
-pub held_not_added : {S : Type 0} (g : Ghosts S) (old new : Store S) (list : List ℕ) (i j : IntakeState) (more : List Item) (stop : ImportStop)
+pub held_not_added : {S W : Type 0} (g : Ghosts S W) (old new : S) (list : List ℕ) (i j : IntakeState) (more : List Item) (stop : ImportStop)
     → CallsStoreWithTables g old new {A = Unit {0}} halt_reason (Err stop) (λ b c _. Keeps list i j b c) (HaltsAmid list i) (BreaksAmid list i)
     → CallsStoreWithTables g old new {A = Unit {0}} halt_reason (Err stop) Nothing (Halts list i more) (Breaks list i more)
 held_not_added g old new list i j more stop call = stopped_as g old new {A = Unit {0}} {B = Unit {0}} halt_reason (λ b c _. Keeps list i j b c) Nothing

@@ -1,12 +1,11 @@
 -- The messages that are held for one call of the store, and what became of those before them.
+use Rattle.archive_port.specs.declared.state.ArchiveState.{Ghosts}
 use Rattle.std.specs.Prelude.{◌≡◌, ◌⊎◌, ◌≤◌, ◌+◌, ◌++◌, ℕ, true, List, length, drop, Result, MatchResult}
-use Rattle.sqlite.specs.Effect.{Database}
 use Rattle.mbox_core.specs.Division.{Item}
 use Rattle.archive_model.specs.Records.{Archive}
 use Rattle.archive_model.specs.Questions.{has_list}
 use Rattle.archive_model.specs.Runs.{taken, Tally, tally_replies}
-use Rattle.archive_port.specs.Adding.{HasAddedFirstItems, total_text_bytes, reported_count, IsListFullAt}
-use Rattle.archive_store.specs.Refusals.{RowsRefuseAnItem}
+use Rattle.archive_port.specs.Adding.{HasAddedFirstItems, total_text_bytes, reported_count, IsListFullAt, RefusesAnItem}
 use Rattle.archive_port.specs.declared.reports.AddReport.{AddReport}
 use Rattle.archive_port.specs.declared.reports.AddError.{AddError}
 use Rattle.archive_desk.specs.Importing.{import_tally_of}
@@ -67,16 +66,16 @@ IsErrorAfterFailedRead list items a b done full = HasAddedFirstItems list items 
 IsErrorAfterFailedRead list items a b done (declined why) = ⊥
 
 -- Messages under way: the rows stop them behind the first `done`.
-abbrev pub RowsRefusePending : (list : List ℕ) → IntakeState → Archive → (done : ℕ) → Database → Type 0
-RowsRefusePending list intake b done db = (a : Archive) (items : List Item) → IsUnderWay list a b items intake → RowsRefuseAnItem list (drop done items) db
+abbrev pub RowsRefusePending : {S W : Type 0} → Ghosts S W → (list : List ℕ) → IntakeState → Archive → (done : ℕ) → S → Type 0
+RowsRefusePending g list intake b done db = (a : Archive) (items : List Item) → IsUnderWay list a b items intake → RefusesAnItem g db list (drop done items)
 
 -- these and more
-abbrev pub RowsRefusePendingOrMore : (list : List ℕ) → IntakeState → (more : List Item) → Archive → (done : ℕ) → Database → Type 0
-RowsRefusePendingOrMore list intake more b done db = (a : Archive) (items : List Item) → IsUnderWay list a b items intake → RowsRefuseAnItem list (drop done (items ++ more)) db
+abbrev pub RowsRefusePendingOrMore : {S W : Type 0} → Ghosts S W → (list : List ℕ) → IntakeState → (more : List Item) → Archive → (done : ℕ) → S → Type 0
+RowsRefusePendingOrMore g list intake more b done db = (a : Archive) (items : List Item) → IsUnderWay list a b items intake → RefusesAnItem g db list (drop done (items ++ more))
 
 -- those that are read
-abbrev pub RowsRefusePendingRead : (list text : List ℕ) → (ends : ℕ) → (items : List Item) → IntakeState → Archive → (done : ℕ) → Database → Type 0
-RowsRefusePendingRead list text ends items intake b done db = (a : Archive) → IsUnderWay list a b items intake → RowsRefuseReadItem list text ends done db
+abbrev pub RowsRefusePendingRead : {S W : Type 0} → Ghosts S W → (list text : List ℕ) → (ends : ℕ) → (items : List Item) → IntakeState → Archive → (done : ℕ) → S → Type 0
+RowsRefusePendingRead g list text ends items intake b done db = (a : Archive) → IsUnderWay list a b items intake → RowsRefuseReadItem g list text ends done db
 
 -- what is told of messages that are added in one call: a report tells of all of them, and a stop of no more
 abbrev pub ReportsWithinItems : List Item → Result AddReport AddError → Type 0

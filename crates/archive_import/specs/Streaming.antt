@@ -1,7 +1,6 @@
 -- What becomes of the messages of an mbox that is read piece by piece into a list.
 use Rattle.std.specs.Prelude.{◌≡◌, ◌⊎◌, ◌≤◌, ◌+◌, ◌++◌, ℕ, true, false, List, [], length, drop, Option, Some, None, option_map, Result, Ok, Err, IfErr, OnOk}
-use Rattle.sqlite.specs.Effect.{Database}
-use Rattle.sqlite.specs.Store.{Ghosts}
+use Rattle.archive_port.specs.declared.state.ArchiveState.{Ghosts}
 use Rattle.mbox_core.specs.Division.{Item, DividesIntoItems, IsPreamble}
 use Rattle.mbox_core.specs.declared.faults.MboxFault.TheVariants.{Preamble, Read, Memory, Failed}
 use Rattle.mbox_stream.specs.Cutter.{CutterState, IsCutterConsistent}
@@ -11,15 +10,11 @@ use Rattle.archive_model.specs.Records.{Archive}
 use Rattle.archive_model.specs.Commands.{Refusal, no_list, list_full}
 use Rattle.archive_model.specs.Questions.{has_list}
 use Rattle.archive_model.specs.Runs.{taken}
-use Rattle.archive_port.specs.Adding.{HasAddedFirstItems, IsListFullAt}
-use Rattle.archive_port.specs.Adding.{HasAddedAtLeast}
-use Rattle.archive_store.specs.Crashes.{CrashLeavesRelatedArchive}
-use Rattle.archive_store.specs.Held.{store_connection}
-use Rattle.archive_store.specs.Refusals.{RowsRefuseAnItem}
+use Rattle.archive_port.specs.Adding.{HasAddedFirstItems, IsListFullAt, HasAddedAtLeast, RefusesAnItem}
+use Rattle.archive_port.specs.Crashes.{CrashLeavesRelatedArchive}
 use Rattle.archive_port.specs.Replies.{refusal_of_fault}
-use Rattle.archive_store.specs.Told.{HoldsTables}
+use Rattle.archive_port.specs.Told.{HoldsTables}
 use Rattle.archive_desk.specs.Holding.{CallsStoreWithTables}
-use Rattle.archive_store.specs.declared.store.Store.{Store as Open}
 use Rattle.archive_desk.specs.Ending.{EndsImport}
 use Rattle.archive_desk.specs.Importing.{IsImported, IsImportStoreMemoryRefusal}
 use Rattle.archive_desk.specs.declared.importing.Report.{Report}
@@ -106,8 +101,8 @@ abbrev pub HasAddedReadAtLeast : (list text : List ℕ) → (ends : ℕ) → (do
 HasAddedReadAtLeast list text ends done a b = (items : List Item) × AreItemsOfReadText text ends items × HasAddedAtLeast list items done a b
 
 -- Some of the messages read behind the first `done` make rows that refuse the next, which the machine takes in.
-abbrev pub RowsRefuseReadItem : (list text : List ℕ) → (ends : ℕ) → (done : ℕ) → Database → Type 0
-RowsRefuseReadItem list text ends done db = (items : List Item) × AreItemsOfReadText text ends items × RowsRefuseAnItem list (drop done items) db
+abbrev pub RowsRefuseReadItem : {S W : Type 0} → Ghosts S W → (list text : List ℕ) → (ends : ℕ) → (done : ℕ) → S → Type 0
+RowsRefuseReadItem g list text ends done db = (items : List Item) × AreItemsOfReadText text ends items × RefusesAnItem g db list (drop done items)
 
 -- all messages of the input, which was read to its end
 abbrev pub IsInputImported : (list text : List ℕ) → (ends : ℕ) → (a b : Archive) → Report → Type 0
@@ -146,20 +141,20 @@ pub record ReadsInputThroughCutter (before after : List ℕ) (ended ends failed 
 -- ---- what becomes of a store
 
 -- An import of this text, which was read of an input that met its end so often.
-abbrev pub ImportsInput : {S : Type 0} → Ghosts S → (old new : Open S) → (list text : List ℕ) → (ends : ℕ) → Result Report ImportStop → Type 0
+abbrev pub ImportsInput : {S W : Type 0} → Ghosts S W → (old new : S) → (list text : List ℕ) → (ends : ℕ) → Result Report ImportStop → Type 0
 ImportsInput g old new list text ends result = CallsStoreWithTables g old new halt_reason result
     (λ a b report. IsInputImported list text ends a b report)
     (λ a b why. IsImportError list text ends a b why.0 why.1)
     (λ a b stop. IsBrokenInputImport list text ends a b stop.done stop.fault)
 
 -- How it ends, and each call of it: why E15 comes, where the tables are an archive's, and that want of memory is counted.
-abbrev pub EndsReading : {S : Type 0} → Ghosts S → (old new : Open S) → {A : Type 0} → Result A ImportStop → (Archive → ℕ → Database → Type 0) → Type 0
+abbrev pub EndsReading : {S W : Type 0} → Ghosts S W → (old new : S) → {A : Type 0} → Result A ImportStop → (Archive → ℕ → S → Type 0) → Type 0
 EndsReading g old new result Stops = EndsImport g old new (HoldsTables g) IsImportMemoryRefusal result Stops
 
 -- What a stop of the machine leaves of an import of this text, which was read of an input that met its end so often.
-pub record CrashImportsInput {S : Type 0} (g : Ghosts S) (old new : Open S) (list text : List ℕ) (ends : ℕ) (result : Result Report ImportStop) : Type 0 where
+pub record CrashImportsInput {S W : Type 0} (g : Ghosts S W) (old new : S) (list text : List ℕ) (ends : ℕ) (result : Result Report ImportStop) : Type 0 where
   -- Within the call: so many first messages of the bytes that the input has. They begin with what was read, and are what was read where the
   -- end was met, as in each run over these bytes. Nothing else is named but the archive before.
-  pub when_crashed : (rest : List ℕ) → (ends ≡ 1 → rest ≡ []) → CrashLeavesRelatedArchive g (store_connection old) (store_connection new) (HasAddedReadAtLeast list (text ++ rest) 1 0)
+  pub when_crashed : (rest : List ℕ) → (ends ≡ 1 → rest ≡ []) → CrashLeavesRelatedArchive g old new (HasAddedReadAtLeast list (text ++ rest) 1 0)
   -- once it has stopped: at least those that it told, of what was read
-  pub when_stopped : IfErr result (λ stop. CrashLeavesRelatedArchive g (store_connection old) (store_connection new) (HasAddedReadAtLeast list text ends stop.done))
+  pub when_stopped : IfErr result (λ stop. CrashLeavesRelatedArchive g old new (HasAddedReadAtLeast list text ends stop.done))

@@ -3,12 +3,13 @@ ghost use Rattle.std.specs.Prelude.{◌≡◌, ◌+◌, ◌≤◌, ◌<◌, ◌^
 ghost use Rattle.archive_desk.specs.declared.importing.ImportError.TheVariants.{Mbox as NotCut, Store as Stored};
 ghost use Rattle.mbox_core.specs.declared.faults.MboxFault.TheVariants.{Memory as NoRoom};
 ghost use Rattle.archive_port.specs.Adding.{reported_count, tally_of_report as store_tally};
-ghost use Rattle.archive_port.specs.Wanting.{RaisesRefusalCount};
+ghost use Rattle.archive_port.specs.Crashes.{WritesNothing};
+ghost use Rattle.archive_port.specs.Told.{CountsRefusals, LeavesArchive};
 ghost use Rattle.archive_import.specs.Intake.{FitsIntakeLimits, ReportGrowsBy};
 ghost use Rattle.archive_import.specs.Streaming.{IsImportMemoryRefusal};
 
 use archive_desk::{ImportError, ImportStop, Report};
-use archive_store::{AddError, AddReport, RefusalCounter};
+use archive_port::{AddError, AddReport, ArchiveStore};
 use mbox_core::{MboxFault, OwnedItem};
 use std::alloc::{AllocError, Global};
 use std::marker::Model;
@@ -88,14 +89,16 @@ impl Intake {
     }
 
     /// The same for a fault of the stream. M3 is counted.
-    pub(crate) fn stop_uncut(&self, wants: &mut RefusalCounter, fault: MboxFault) -> ImportStop
+    pub(crate) fn stop_uncut<S: ArchiveStore>(&self, store: &mut S, fault: MboxFault) -> ImportStop
         ensures stop { result ≡ record { done = self.now.done; fault = NotCut fault } }
-        ensures counted { RaisesRefusalCount {A = Unit {0}} (λ stop. IsImportMemoryRefusal stop.fault) wants.old wants.new
+        ensures counted { CountsRefusals S.ArchiveState {A = Unit {0}} (λ stop. IsImportMemoryRefusal stop.fault) store.old store.new
             (Err result) }
+        ensures leaves { LeavesArchive S.ArchiveState store.old store.new }
+        ensures writes_nothing { WritesNothing S.ArchiveState store.old store.new }
     {
         match fault {
             MboxFault::Memory => {
-                wants.increment(AllocError.into());
+                store.count_refusal(AllocError.into());
                 self.stop(ImportError::Mbox(MboxFault::Memory))
             }
             _ => self.stop(ImportError::Mbox(fault)),
@@ -122,9 +125,9 @@ impl Intake {
     }
 
     /// Holds a message more. M3, which is counted: memory for it was refused.
-    pub(crate) fn hold(
+    pub(crate) fn hold<S: ArchiveStore>(
         &mut self,
-        wants: &mut RefusalCounter,
+        store: &mut S,
         item: OwnedItem,
     ) -> Result<(), ImportStop>
         requires { FitsIntakeLimits (self.old.held ++ item ∷ []) }
@@ -132,7 +135,8 @@ impl Intake {
             { held = self.old.held ++ item ∷ [] }) }
         ensures fault { IfErr result (λ stop. stop ≡ record
             { done = self.old.done; fault = NotCut NoRoom }) }
-        ensures counted { RaisesRefusalCount (λ stop. IsImportMemoryRefusal stop.fault) wants.old wants.new result }
+        ensures counted { CountsRefusals S.ArchiveState (λ stop. IsImportMemoryRefusal stop.fault) store.old store.new result }
+        ensures leaves { LeavesArchive S.ArchiveState store.old store.new × WritesNothing S.ArchiveState store.old store.new }
     {
         let bytes = self.bytes.saturating_add(item.text().len());
         match self.held.push(item) {
@@ -141,7 +145,7 @@ impl Intake {
                 Ok(())
             }
             Err(refused) => {
-                wants.increment(refused.into());
+                store.count_refusal(refused.into());
                 Err(self.stop(ImportError::Mbox(MboxFault::Memory)))
             }
         }

@@ -13,6 +13,6 @@ use Rattle.archive_desk.proofs.listing.author.Goals as goal
 pub returns-clause-listed : goal.returns-clause-listed
 returns-clause-listed g c =
     let ask = c.args.ask.now in
-    asks_right g.S.Store c.args.store.now c.read_lines.new.store refusal_reason (λ a. ask_reason a ask) (λ a (lines : Vec Line Global). lines.items ≡ indexed_author_lines a ask c.args.key.now)
+    asks_right g.S.ArchiveState c.args.store.now c.read_lines.new.store refusal_reason (λ a. ask_reason a ask) (λ a (lines : Vec Line Global). lines.items ≡ indexed_author_lines a ask c.args.key.now)
     (λ a (lines : Vec Line Global). lines.items ≡ author_lines c.args.key.now (map shown_message (view_of a ask)))
     (λ a (lines : Vec Line Global) right is. is ∙ author_is_filed a ask c.args.key.now right) c.read_lines.result c.read_lines.ensures.held

@@ -13,6 +13,7 @@ use Rattle.archive_desk.proofs.listing.month.Goals as goal
 pub returns-clause-listed : goal.returns-clause-listed
 returns-clause-listed g c =
     let ask = c.args.ask.now in
-    asks_right g.S.Store c.args.store.now c.read_lines.new.store refusal_reason (λ a. ask_reason a ask) (λ a (lines : Vec Line Global). lines.items ≡ indexed_month_lines a ask (pos c.args.month))
+    asks_right g.S.ArchiveState c.args.store.now c.read_lines.new.store refusal_reason (λ a. ask_reason a ask)
+    (λ a (lines : Vec Line Global). lines.items ≡ indexed_month_lines a ask (pos c.args.month))
     (λ a (lines : Vec Line Global). lines.items ≡ month_lines c.args.month (map shown_message (view_of a ask)))
     (λ a (lines : Vec Line Global) right is. is ∙ month_is_filed a ask c.args.month right) c.read_lines.result c.read_lines.ensures.held

@@ -4,14 +4,14 @@ use Rattle.archive_desk.proofs.listing.thread.Goals as goal
 
 pub returns-in-Err-clause-listed : goal.returns-in-Err-clause-listed
 returns-in-Err-clause-listed g c =
-    thread_refused g.S.Store c.args.store.now c.read_view_summaries.new.store c.args.ask.now c.args.key.now (refusal_reason c.in-Err.fault) c.in-Err.ensures.held
+    thread_refused g.S.ArchiveState c.args.store.now c.read_view_summaries.new.store c.args.ask.now c.args.key.now (refusal_reason c.in-Err.fault) c.in-Err.ensures.held
 
 pub returns-in-Ok-Some-clause-listed : goal.returns-in-Ok-Some-clause-listed
 returns-in-Ok-Some-clause-listed g c =
-    thread_from g.S.Store c.args.store.now c.read_view_summaries.new.store c.args.ask.now c.in-Ok.index.headers.items c.in-Ok.index.merge c.in-Ok.ensures.held
+    thread_from g.S.ArchiveState c.args.store.now c.read_view_summaries.new.store c.args.ask.now c.in-Ok.index.headers.items c.in-Ok.index.merge c.in-Ok.ensures.held
     c.args.key.now c.in-Ok-Some.rows.items (rw c.in-Ok-Some.field-0-is at c.in-Ok-Some.ensures)
 
 pub returns-in-Ok-None-clause-listed : goal.returns-in-Ok-None-clause-listed
 returns-in-Ok-None-clause-listed g c =
-    no_thread_from g.S.Store c.args.store.now c.read_view_summaries.new.store c.args.ask.now c.in-Ok.index.headers.items c.in-Ok.index.merge c.in-Ok.ensures.held
+    no_thread_from g.S.ArchiveState c.args.store.now c.read_view_summaries.new.store c.args.ask.now c.in-Ok.index.headers.items c.in-Ok.index.merge c.in-Ok.ensures.held
     c.args.key.now (rw c.in-Ok-None.field-0-is at c.in-Ok-None.ensures)

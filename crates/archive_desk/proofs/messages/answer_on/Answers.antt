@@ -13,5 +13,5 @@ returns-in_err-reader-clause-ends g c =
     let fault = c.in_err-reader.field-0.0 in
     let Unread : _ = λ a. IsReaderUnreadable a c.args.ask.now in
     let is : c.from_residual.result ≡ Err fault = search rules in
-    subst (λ r. EndsDeskCall g.S.Store old new IsAskFault r Unread) (sym is)
-    (stops_as g.S.Store old new IsAskFault ReaderFacts _ fault Unread Unread (λ a bad. bad) c.in_err-reader.ensures.ends)
+    subst (λ r. EndsDeskCall g.S.ArchiveState old new IsAskFault r Unread) (sym is)
+    (stops_as g.S.ArchiveState old new IsAskFault ReaderFacts _ fault Unread Unread (λ a bad. bad) c.in_err-reader.ensures.ends)

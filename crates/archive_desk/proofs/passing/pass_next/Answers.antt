@@ -1,17 +1,18 @@
 use Rattle.std.proofs.Common.{◌∙◌, ◌≡◌, Ok, arith, sym, subst, true}
-use Rattle.archive_store.specs.Walking.{PeeksNextMarks, walk_over_store}
-use Rattle.archive_store.proofs.CauseLemmas.{passed_on}
+use Rattle.archive_port.specs.Walking.{PeeksNextMarks, walk_over_store}
+use Rattle.archive_port.proofs.CauseLemmas.{passed_on}
 use Rattle.archive_desk.proofs.PassLemmas.{none_passed, none_seen, one_passed, unread_among}
 use Rattle.archive_desk.proofs.passing.pass_next.Goals as goal
 
 pub returns-then-asks_author-clause-passed : goal.returns-then-asks_author-clause-passed
 returns-then-asks_author-clause-passed g c =
-    none_passed g.S.Store c.args.ask.now c.args.reader.now (walk_over_store c.args.store.now c.args.walk.now) (walk_over_store c.args.store.now c.args.walk.now) (λ returned all a given w. w)
+    none_passed g.S.ArchiveState c.args.ask.now c.args.reader.now (walk_over_store c.args.store.now c.args.walk.now) (walk_over_store c.args.store.now c.args.walk.now) (λ returned all a given w. w)
     (omega arith)
 
 pub returns-in_err-marks-clause-passed : goal.returns-in_err-marks-clause-passed
 returns-in_err-marks-clause-passed g c =
-    none_seen g.S.Store c.args.ask.now c.args.reader.now (walk_over_store c.args.store.now c.args.walk.now) (walk_over_store c.peek_marks.new.store c.peek_marks.new.self) c.in_err-marks.field-0.0
+    none_seen g.S.ArchiveState c.args.ask.now c.args.reader.now (walk_over_store c.args.store.now c.args.walk.now) (walk_over_store c.peek_marks.new.self c.peek_marks.new.walk)
+    c.in_err-marks.field-0.0
     c.from_residual.result c.from_residual.ensures.1
     c.in_err-marks.ensures.shown
 
@@ -22,19 +23,20 @@ returns-in_err-marks-clause-caused g c = λ returned all a given w free.
 
 pub returns-in_default-clause-passed : goal.returns-in_default-clause-passed
 returns-in_default-clause-passed g c =
-    none_passed g.S.Store c.args.ask.now c.args.reader.now (walk_over_store c.args.store.now c.args.walk.now) (walk_over_store c.peek_marks.new.store c.peek_marks.new.self)
+    none_passed g.S.ArchiveState c.args.ask.now c.args.reader.now (walk_over_store c.args.store.now c.args.walk.now) (walk_over_store c.peek_marks.new.self c.peek_marks.new.walk)
     (λ returned all a given w. (c.in_ok-marks.ensures.shown.gives_next_marks returned c.args.ask.now.list all a given w).0) (omega (arith, c.in_ok-marks.ensures.shown.remaining_is_same))
 
 pub returns-then-not-is_withheld-clause-passed : goal.returns-then-not-is_withheld-clause-passed
 returns-then-not-is_withheld-clause-passed g c =
-    none_passed g.S.Store c.args.ask.now c.args.reader.now (walk_over_store c.args.store.now c.args.walk.now) (walk_over_store c.peek_marks.new.store c.peek_marks.new.self)
+    none_passed g.S.ArchiveState c.args.ask.now c.args.reader.now (walk_over_store c.args.store.now c.args.walk.now) (walk_over_store c.peek_marks.new.self c.peek_marks.new.walk)
     (λ returned all a given w. (c.in_ok-marks.ensures.shown.gives_next_marks returned c.args.ask.now.list all a given w).0) (omega (arith, c.in_ok-marks.ensures.shown.remaining_is_same))
 
 pub returns-clause-passed : goal.returns-clause-passed
 returns-clause-passed g c =
     let withheld : c.is_withheld.result ≡ true = cc in
-    let shown = subst (λ found. PeeksNextMarks g.S.Store (walk_over_store c.args.store.now c.args.walk.now) (walk_over_store c.peek_marks.new.store c.peek_marks.new.self) (Ok found)) c.in-Some.is
+    let shown = subst (λ found. PeeksNextMarks g.S.ArchiveState (walk_over_store c.args.store.now c.args.walk.now) (walk_over_store c.peek_marks.new.self c.peek_marks.new.walk) (Ok found))
+    c.in-Some.is
     c.in_ok-marks.ensures.shown in
-    one_passed g.S.Store c.args.ask.now c.args.reader.now (walk_over_store c.args.store.now c.args.walk.now) (walk_over_store c.peek_marks.new.store c.peek_marks.new.self) c.pass.new.self
+    one_passed g.S.ArchiveState c.args.ask.now c.args.reader.now (walk_over_store c.args.store.now c.args.walk.now) (walk_over_store c.peek_marks.new.self c.peek_marks.new.walk) c.pass.new.walk
     c.in-Some.marks c.weighed.result shown
     c.pass.ensures.passed c.pass.ensures.left c.weighed.ensures (λ m is. sym withheld ∙ c.is_withheld.ensures m is)

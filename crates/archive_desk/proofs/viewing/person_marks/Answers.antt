@@ -4,35 +4,34 @@ use Rattle.std.specs.declared.alloc.Global.{Global}
 use Rattle.policy_core.specs.Facts.{Facts}
 use Rattle.policy_core.specs.Rules.{Rule, has_own_condition}
 use Rattle.policy_core.specs.Verdict.{verdict_of}
-use Rattle.archive_results.specs.Access.{Ask}
+use Rattle.archive_results.specs.Access.{Ask, ReaderFacts}
 use Rattle.archive_desk.proofs.MarkLemmas.{person_known, person_unasked}
 use Rattle.archive_desk.specs.Causes.{IsAddressUnreadable, IsPersonUnreadable, IsRankUnknown}
 use Rattle.archive_desk.proofs.EndLemmas.{ends_after, stops_as}
 use Rattle.archive_desk.proofs.CallLemmas.{asks_last}
 use Rattle.archive_model.specs.Questions.{address_of}
-use Rattle.archive_store.specs.Told.{HoldsTables}
+use Rattle.archive_port.specs.Told.{HoldsTables}
 use Rattle.archive_desk.specs.Asking.{person_reason}
 use Rattle.archive_desk.specs.Faults.{IsAskFault, refusal_reason}
-use Rattle.archive_results.specs.Access.{ReaderFacts}
 use Rattle.policy_core.specs.declared.access.Standing.{Standing}
 use Rattle.archive_desk.proofs.viewing.person_marks.Goals as goal
 
 pub returns-then-not-asks_own-clause-found : goal.returns-then-not-asks_own-clause-found
 returns-then-not-asks_own-clause-found g c =
     let none : c.asks_own.result ≡ false = cc in
-    person_unasked g.S.Store c.args.ask.now c.args.name.now c.in-Ok.standing c.args.store.now c.find_standing.new.store c.in-Ok.ensures.found
+    person_unasked g.S.ArchiveState c.args.ask.now c.args.name.now c.in-Ok.standing c.args.store.now c.find_standing.new.store c.in-Ok.ensures.found
     (subst (λ (rules : List Rule). (facts : Facts) (own : Bool) → verdict_of rules (record facts { own = own }) ≡ verdict_of rules facts)
     (ap (λ (ask : Ask). ask.rules) c.ask.view_is) (c.asks_own.ensures.alike none))
 
 pub returns-in-Ok-find_address-clause-found : goal.returns-in-Ok-find_address-clause-found
 returns-in-Ok-find_address-clause-found g c =
-    person_known g.S.Store c.args.ask.now c.args.name.now c.in-Ok.standing c.args.store.now c.find_standing.new.store c.find_address.new.store
+    person_known g.S.ArchiveState c.args.ask.now c.args.name.now c.in-Ok.standing c.args.store.now c.find_standing.new.store c.find_address.new.store
     (λ address. option_map string_bytes address) (λ address. record { standing = c.in-Ok.standing; address = option_map string_bytes address }) (λ address. refl)
     (Ok c.in-Ok-find_address.address) c.in-Ok.ensures.found c.in-Ok-find_address.ensures.found
 
 pub returns-in-Err-find_address-clause-found : goal.returns-in-Err-find_address-clause-found
 returns-in-Err-find_address-clause-found g c =
-    rw c.in-Err-find_address.is at (person_known g.S.Store c.args.ask.now c.args.name.now c.in-Ok.standing c.args.store.now c.find_standing.new.store c.find_address.new.store
+    rw c.in-Err-find_address.is at (person_known g.S.ArchiveState c.args.ask.now c.args.name.now c.in-Ok.standing c.args.store.now c.find_standing.new.store c.find_address.new.store
     (λ address. option_map string_bytes address) (λ address. record { standing = c.in-Ok.standing; address = option_map string_bytes address }) (λ address. refl)
     c.find_address.result c.in-Ok.ensures.found c.find_address.ensures.found)
 
@@ -40,7 +39,7 @@ pub returns-in-Err-clause-ends : goal.returns-in-Err-clause-ends
 returns-in-Err-clause-ends g c =
     let ask = c.args.ask.now in
     let name = c.args.name.now in
-    stops_as g.S.Store c.args.store.now c.find_standing.new.store IsAskFault Standing ReaderFacts c.in-Err.fault (λ a. IsRankUnknown a ask name) (λ a. IsPersonUnreadable a ask name)
+    stops_as g.S.ArchiveState c.args.store.now c.find_standing.new.store IsAskFault Standing ReaderFacts c.in-Err.fault (λ a. IsRankUnknown a ask name) (λ a. IsPersonUnreadable a ask name)
     (λ a bad. inl bad) c.in-Err.ensures.ends
 
 pub returns-in-Err-find_address-clause-ends : goal.returns-in-Err-find_address-clause-ends
@@ -53,10 +52,10 @@ returns-in-Err-find_address-clause-ends g c =
     let fault = c.in-Err-find_address.fault in
     let asked : c.asks_own.result ≡ true = cc in
     let own : has_own_condition ask.rules ≡ true = sym (c.asks_own.ensures.value ∙ ap (λ (ask : Ask). has_own_condition ask.rules) c.ask.view_is) ∙ asked in
-    let last = asks_last g.S.Store (HoldsTables g.S.Store) mid new refusal_reason (λ a. person_reason a name)
+    let last = asks_last g.S.ArchiveState (HoldsTables g.S.ArchiveState) mid new refusal_reason (λ a. person_reason a name)
     (λ a address. option_map (string_bytes {Z = Global}) address ≡ address_of a name)
     (Err fault) c.in-Err-find_address.ensures.found in
-    ends_after g.S.Store old mid new (c.in-Ok.ensures.found.0, λ returned held. let there = c.in-Ok.ensures.found.1 returned held in (there.0, there.1.0)) last
+    ends_after g.S.ArchiveState old mid new (c.in-Ok.ensures.found.0, λ returned held. let there = c.in-Ok.ensures.found.1 returned held in (there.0, there.1.0)) last
     c.in-Ok.ensures.ends.refusals_counted.0 IsAskFault {A = ReaderFacts} (Err fault) (λ a. IsAddressUnreadable a name) (λ a. IsPersonUnreadable a ask name) (λ a bad. inr (own, bad))
-    (stops_as g.S.Store mid new IsAskFault _ ReaderFacts fault (λ a. IsAddressUnreadable a name) (λ a. IsAddressUnreadable a name) (λ a bad. bad)
+    (stops_as g.S.ArchiveState mid new IsAskFault _ ReaderFacts fault (λ a. IsAddressUnreadable a name) (λ a. IsAddressUnreadable a name) (λ a bad. bad)
     c.in-Err-find_address.ensures.ends)

@@ -7,12 +7,12 @@ use Rattle.archive_import.proofs.importing.add_waiting.Goals as goal
 
 pub loop-item-init : goal.loop-item-init
 loop-item-init g c = record {
-  adds = (moved_none _ _, grows_none g.S.Store c.args.list.now c.args.store.now c.args.intake.now);
+  adds = (moved_none _ _, grows_none g.S.ArchiveState c.args.list.now c.args.store.now c.args.intake.now);
   stream = refl;
   phase = refl;
   given = c.requires;
   grows = omega arith;
-  safe = safe_still g.S.Store c.args.store.now;
+  safe = safe_still g.S.ArchiveState c.args.store.now;
 }
 
 pub loop-item-preserved : goal.loop-item-preserved
@@ -22,14 +22,14 @@ loop-item-preserved g c =
     record {
       adds = (
         moved_one _ _ _ _ _ _ item i.adds.0 c.in-Some.ensures.item c.in-Some.ensures.taken,
-        grows_more g.S.Store c.args.list.now c.args.store.now c.loop-item.store c.hold_one.new.store c.args.intake.now c.loop-item.intake i.adds.0.done (item ∷ []) i.adds.1
+        grows_more g.S.ArchiveState c.args.list.now c.args.store.now c.loop-item.store c.hold_one.new.store c.args.intake.now c.loop-item.intake i.adds.0.done (item ∷ []) i.adds.1
             c.hold_one.new.intake c.in-Ok.ensures.adds,
       );
       stream = c.take.ensures.stream ∙ i.stream;
       phase = c.take.ensures.phase ∙ i.phase;
       given = c.take.ensures.given;
       grows = omega (arith, i.grows, c.hold_one.ensures.ends.refusals_counted.0);
-      safe = safe_then g.S.Store c.args.store.now c.loop-item.store c.hold_one.new.store (Grows c.args.list.now c.args.intake.now c.loop-item.intake i.adds.0.done) i.safe i.adds.1
+      safe = safe_then g.S.ArchiveState c.args.store.now c.loop-item.store c.hold_one.new.store (Grows c.args.list.now c.args.intake.now c.loop-item.intake i.adds.0.done) i.safe i.adds.1
           c.in-Ok.ensures.adds.0 c.in-Ok.ensures.crash;
     }
 
@@ -37,7 +37,7 @@ pub returns-in-Err-clause-adds : goal.returns-in-Err-clause-adds
 returns-in-Err-clause-adds g c =
     let item : Item = c.in-Some.item in
     let m = c.loop-item.invariant.adds in
-    grows_stopped g.S.Store c.args.list.now c.args.store.now c.loop-item.store c.hold_one.new.store c.args.intake.now c.loop-item.intake m.0.done (item ∷ []) m.1
+    grows_stopped g.S.ArchiveState c.args.list.now c.args.store.now c.loop-item.store c.hold_one.new.store c.args.intake.now c.loop-item.intake m.0.done (item ∷ []) m.1
     c.hold_one.new.intake c.take.new.self.waiting c.args.cutter.now.waiting c.in-Err.stop (m.0.was ∙ ap (λ is. m.0.done ++ is) c.in-Some.ensures.item) c.in-Err.ensures.adds
 
 pub returns-in-Err-clause-ends : goal.returns-in-Err-clause-ends
@@ -45,9 +45,9 @@ returns-in-Err-clause-ends g c =
     let item : Item = c.in-Some.item in
     let i = c.loop-item.invariant in
     let m = i.adds in
-    grown_ends g.S.Store c.args.store.now c.loop-item.store c.hold_one.new.store c.args.list.now c.args.intake.now c.loop-item.intake m.0.done (item ∷ []) c.take.new.self.waiting
+    grown_ends g.S.ArchiveState c.args.store.now c.loop-item.store c.hold_one.new.store c.args.list.now c.args.intake.now c.loop-item.intake m.0.done (item ∷ []) c.take.new.self.waiting
     c.args.cutter.now.waiting m.1
-    (more_lasts g.S.Store c.loop-item.store c.hold_one.new.store c.args.list.now c.loop-item.intake c.hold_one.new.intake (item ∷ []) c.in-Err.stop c.in-Err.ensures.adds)
+    (more_lasts g.S.ArchiveState c.loop-item.store c.hold_one.new.store c.args.list.now c.loop-item.intake c.hold_one.new.intake (item ∷ []) c.in-Err.stop c.in-Err.ensures.adds)
     i.grows c.in-Err.stop (m.0.was ∙ ap (λ is. m.0.done ++ is) c.in-Some.ensures.item) c.in-Err.ensures.ends
 
 pub returns-clause-ends : goal.returns-clause-ends
@@ -58,7 +58,7 @@ returns-in-Err-clause-crash g c =
     let item : Item = c.in-Some.item in
     let i = c.loop-item.invariant in
     let m = i.adds in
-    grown_crash g.S.Store c.args.store.now c.loop-item.store c.hold_one.new.store c.args.list.now c.args.intake.now c.loop-item.intake m.0.done (item ∷ []) c.take.new.self.waiting
+    grown_crash g.S.ArchiveState c.args.store.now c.loop-item.store c.hold_one.new.store c.args.list.now c.args.intake.now c.loop-item.intake m.0.done (item ∷ []) c.take.new.self.waiting
     c.args.cutter.now.waiting i.safe m.1
-    (more_lasts g.S.Store c.loop-item.store c.hold_one.new.store c.args.list.now c.loop-item.intake c.hold_one.new.intake (item ∷ []) c.in-Err.stop c.in-Err.ensures.adds)
+    (more_lasts g.S.ArchiveState c.loop-item.store c.hold_one.new.store c.args.list.now c.loop-item.intake c.hold_one.new.intake (item ∷ []) c.in-Err.stop c.in-Err.ensures.adds)
     c.in-Err.stop (m.0.was ∙ ap (λ is. m.0.done ++ is) c.in-Some.ensures.item) c.in-Err.ensures.crash
