@@ -1,13 +1,12 @@
 -- The outline of a part of a view, out of what is kept or read.
 use Rattle.std.proofs.Common.{◌≡◌, refl, sym, ap, ◌∙◌, subst, ℕ, ◌≤◌, false, List, length, Result, Some, None, Ok, Err, arith}
 use Rattle.std.specs.Prelude.{insert, option_map, position}
-use Rattle.sqlite.specs.Store.{Ghosts}
+use Rattle.archive_port.specs.declared.state.ArchiveState.{Ghosts}
 use Rattle.archive_model.specs.Records.{Archive}
 use Rattle.archive_model.specs.Questions.{messages_in}
-use Rattle.archive_store.specs.Held.{memory_refusal_count}
-use Rattle.archive_store.specs.Told.{StoreHasCleanDisk, HoldsTables, IsOpen, StaysOpenUnlessDiskFails, archive_in}
-use Rattle.archive_store.specs.declared.store.Store.{Store}
-use Rattle.archive_store.proofs.Joins.{goes_in_as, stays_there_in}
+use Rattle.archive_port.specs.Told.{LeavesArchive, memory_refusal_count, StoreHasCleanDisk, HoldsTables, IsOpen, StaysOpenUnlessDiskFails, archive_in}
+use Rattle.archive_port.proofs.Joins.{goes_in_as, stays_there_in}
+use Rattle.archive_port.proofs.LastLemmas.{left_calls}
 use Rattle.archive_results.specs.Access.{Ask, ReaderFacts}
 use Rattle.archive_desk.specs.Asking.{DeterminesVerdicts}
 use Rattle.archive_desk.specs.Causes.{IsQuestionUnreadable}
@@ -38,7 +37,19 @@ part_of_whole a ask whole other = absurd (cc)
 part_of_whole a ask (month m) other = refl
 part_of_whole a ask (author key) other = refl
 
-module _ {S : Type 0} (g : Ghosts S) (ask : Ask) (reader : ReaderFacts) where
+module _ {S W : Type 0} (g : Ghosts S W) (ask : Ask) (reader : ReaderFacts) where
+  -- behind a call that leaves the archive
+  pub index_left : (part : ViewPart) (old mid new : S) (kept later : CacheState) (result : Result ℕ DeskError) → LeavesArchive g mid new → FindsListIndex g old mid ask reader part kept later result
+      → FindsListIndex g old new ask reader part kept later result
+  index_left part old mid new kept later result leaves it = record {
+    calls_store = left_calls g old mid new leaves refusal_reason
+        (λ a b place. (b ≡ a) × (DeterminesVerdicts a ask reader → IsCacheCoherent a ask.rules ask.day kept → cached_index_at later place ≡ Some (index_for_ask a ask part)))
+        (λ a b why. (b ≡ a) × (ask_reason a ask ≡ Some why)) (λ a b _. b ≡ a) result it.calls_store;
+    finds_index = λ clean. it.finds_index (leaves.remains_open.disk_was_clean clean);
+    capacity_is_same = it.capacity_is_same;
+    cache_stays_bounded = it.cache_stays_bounded;
+  }
+
   -- where the marks are enough to know, and what was kept is of the archive
   abbrev pub Given : CacheState → Archive → Type 0 → Type 0
   Given kept a Then = DeterminesVerdicts a ask reader → IsCacheCoherent a ask.rules ask.day kept → Then
@@ -52,12 +63,12 @@ module _ {S : Type 0} (g : Ghosts S) (ask : Ask) (reader : ReaderFacts) where
   IsMade part kept outline a b = (b ≡ a) × Given kept a (outline ≡ index_for_ask a ask part)
 
   -- what is kept stays of the archive
-  abbrev pub Stays : (old new : Store S) (kept later : CacheState) → Type 0
+  abbrev pub Stays : (old new : S) (kept later : CacheState) → Type 0
   Stays old new kept later = StoreHasCleanDisk g new → HoldsTables g old → Given kept (archive_in g old) (IsCacheCoherent (archive_in g old) ask.rules ask.day later)
 
   module _ (part : ViewPart) where
     -- it is kept
-    pub finds_kept : (store : Store S) (kept : CacheState) (place : ℕ) → Some place ≡ position (is_view_of ask.list reader part) kept.views
+    pub finds_kept : (store : S) (kept : CacheState) (place : ℕ) → Some place ≡ position (is_view_of ask.list reader part) kept.views
         → FindsListIndex g store store ask reader part kept kept (Ok place)
     finds_kept store kept place is = record {
       calls_store = goes_in_as g (HoldsTables g) store store (λ a b. b ≡ a) (Stands part kept kept place)
@@ -68,12 +79,12 @@ module _ {S : Type 0} (g : Ghosts S) (ask : Ask) (reader : ReaderFacts) where
     }
 
     -- it cannot be read
-    pub finds_none : (old new : Store S) (kept : CacheState) (fault : DeskError) (Says : Archive → ListIndex → Type 0)
+    pub finds_none : (old new : S) (kept : CacheState) (fault : DeskError) (Says : Archive → ListIndex → Type 0)
         → AnswersFromStoreTables g old new {A = ListIndex} refusal_reason (Err fault) (λ a. ask_reason a ask) Says → FindsListIndex g old new ask reader part kept kept (Err fault)
     finds_none old new kept fault Says asks = record { calls_store = asks; finds_index = λ returned held enough are. are; capacity_is_same = refl; cache_stays_bounded = λ within. within }
 
     -- it is put, or it is not, where so much was kept before
-    module _ (old new : Store S) (kept mid later : CacheState) (outline : ListIndex) (made : RelatesTableArchives g old new (IsMade part kept outline)) (so_far : Stays old new kept mid)
+    module _ (old new : S) (kept mid later : CacheState) (outline : ListIndex) (made : RelatesTableArchives g old new (IsMade part kept outline)) (so_far : Stays old new kept mid)
         (same_most : later.most ≡ kept.most) (same_marks : later.withheld ≡ mid.withheld) (within : IsCacheBounded later) (rest : List CachedView) (dropped : DropsOldest mid.views rest) where
       abbrev view : CachedView
       view = record { list = ask.list; reader = reader; part = part; outline = outline }
@@ -115,7 +126,7 @@ module _ {S : Type 0} (g : Ghosts S) (ask : Ask) (reader : ReaderFacts) where
       }
 
     -- it is made of the whole, which was found
-    module _ (old new : Store S) (kept mid : CacheState) (place : ℕ) (finds : FindsListIndex g old new ask reader whole kept mid (Ok place)) where
+    module _ (old new : S) (kept mid : CacheState) (place : ℕ) (finds : FindsListIndex g old new ask reader whole kept mid (Ok place)) where
       pub made_of_whole : same_part part whole ≡ false → (outline : ListIndex) → cached_index_at mid place ≡ Some outline
           → RelatesTableArchives g old new (IsMade part kept (index_restricted_to part outline))
       made_of_whole other outline there = goes_in_as g (HoldsTables g) old new (Stands whole kept mid place) (IsMade part kept (index_restricted_to part outline))
@@ -126,7 +137,7 @@ module _ {S : Type 0} (g : Ghosts S) (ask : Ask) (reader : ReaderFacts) where
           )) finds.calls_store
 
   -- the whole cannot be found
-  pub finds_no_whole : (old new : Store S) (kept later : CacheState) (fault : DeskError) (one other : ViewPart) → FindsListIndex g old new ask reader one kept later (Err fault)
+  pub finds_no_whole : (old new : S) (kept later : CacheState) (fault : DeskError) (one other : ViewPart) → FindsListIndex g old new ask reader one kept later (Err fault)
       → FindsListIndex g old new ask reader other kept later (Err fault)
   finds_no_whole old new kept later fault one other finds = record {
     calls_store = finds.calls_store;
@@ -140,7 +151,7 @@ module _ {S : Type 0} (g : Ghosts S) (ask : Ask) (reader : ReaderFacts) where
   abbrev pub Knows : Archive → Archive → Type 0
   Knows a b = (b ≡ a) × (ask_reason a ask ≡ None) × DeterminesVerdicts a ask reader
 
-  module _ (part : ViewPart) (old mid new : Store S) (known : RelatesTableArchives g old mid Knows) (kept later : CacheState) (result : Result ℕ DeskError)
+  module _ (part : ViewPart) (old mid new : S) (known : RelatesTableArchives g old mid Knows) (kept later : CacheState) (result : Result ℕ DeskError)
       (finds : FindsListIndex g mid new ask reader part kept later result) where
     abbrev Refuses : Archive → Archive → RefusalReason → Type 0
     Refuses a b why = (b ≡ a) × (ask_reason a ask ≡ Some why)
@@ -171,7 +182,7 @@ module _ {S : Type 0} (g : Ghosts S) (ask : Ask) (reader : ReaderFacts) where
     abbrev Unread : Archive → Type 0
     Unread a = IsQuestionUnreadable a ask (messages_in a ask.list)
 
-    pub ends_then : memory_refusal_count old ≤ memory_refusal_count mid → (StoreHasCleanDisk g mid → IsOpen g old) → EndsDeskCall g mid new IsAskFault result Unread
+    pub ends_then : memory_refusal_count g old ≤ memory_refusal_count g mid → (StoreHasCleanDisk g mid → IsOpen g old) → EndsDeskCall g mid new IsAskFault result Unread
         → EndsDeskQuestion g old new IsAskFault result Unread
     ends_then grows up it = ask_after g old mid new (known.0, (λ returned held. let there = known.1 returned held in (there.0, there.1.0))) lasts grows IsAskFault
         result Unread Unread (λ a bad. bad) it up

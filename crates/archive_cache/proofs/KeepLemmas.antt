@@ -1,12 +1,11 @@
 -- What is kept, from call to call.
 use Rattle.std.specs.Prelude.{insert}
-use Rattle.std.proofs.Common.{◌≡◌, refl, sym, ap, ◌∙◌, subst, inl, inr, ℕ, zero, suc, ℤ, List, [], ◌∷◌, drop, filter, map, slice_get, Option, Some}
-use Rattle.sqlite.specs.Store.{Ghosts}
+use Rattle.std.proofs.Common.{◌≡◌, refl, sym, ap, ◌∙◌, subst, ℕ, zero, suc, ℤ, List, [], ◌∷◌, drop, filter, map, slice_get, Option, Some}
+use Rattle.archive_port.specs.declared.state.ArchiveState.{Ghosts}
 use Rattle.policy_core.specs.Rules.{Rule}
 use Rattle.archive_model.specs.Records.{Archive, Message}
 use Rattle.archive_model.specs.Questions.{merge_of, messages_in}
-use Rattle.archive_store.specs.Told.{StaysOpenUnlessDiskFails}
-use Rattle.archive_store.specs.declared.store.Store.{Store}
+use Rattle.archive_port.specs.Told.{StaysOpenUnlessDiskFails}
 use Rattle.archive_results.specs.Access.{Ask, ReaderFacts, is_shown, ruling_on, view_of}
 use Rattle.archive_results.specs.Shown.{shown_message}
 use Rattle.archive_desk.specs.Asking.{DeterminesVerdicts}
@@ -69,13 +68,13 @@ module _ (a : Archive) (rules : List Rule) (day : ℤ) where
 
 -- ---- from call to call
 
-module _ {S : Type 0} (g : Ghosts S) (rules : List Rule) (day : ℤ) where
+module _ {S W : Type 0} (g : Ghosts S W) (rules : List Rule) (day : ℤ) where
   -- a call that lets what is kept be
-  pub keeps_same : (old new : Store S) (kept : CacheState) → KeepsCacheCoherent g old new rules day kept kept
+  pub keeps_same : (old new : S) (kept : CacheState) → KeepsCacheCoherent g old new rules day kept kept
   keeps_same old new kept = record { keeps_coherent = λ returned held are. are; when_store_closed = λ returned shut. refl; capacity_is_same = refl; cache_stays_bounded = λ within. within }
 
   -- before another that does
-  pub keeps_later : (old mid new : Store S) (kept later : CacheState) → KeepsCacheCoherent g old mid rules day kept later → StaysOpenUnlessDiskFails g mid new
+  pub keeps_later : (old mid new : S) (kept later : CacheState) → KeepsCacheCoherent g old mid rules day kept later → StaysOpenUnlessDiskFails g mid new
       → KeepsCacheCoherent g old new rules day kept later
   keeps_later old mid new kept later keeps lasts = record {
     keeps_coherent = λ returned held are. keeps.keeps_coherent (lasts.disk_was_clean returned) held are;
@@ -85,7 +84,7 @@ module _ {S : Type 0} (g : Ghosts S) (rules : List Rule) (day : ℤ) where
   }
 
   -- after one that does, and leaves the archive
-  pub keeps_after : (old mid new : Store S) (kept later : CacheState) → RelatesTableArchives g old mid (λ a b. b ≡ a) → StaysOpenUnlessDiskFails g mid new
+  pub keeps_after : (old mid new : S) (kept later : CacheState) → RelatesTableArchives g old mid (λ a b. b ≡ a) → StaysOpenUnlessDiskFails g mid new
       → KeepsCacheCoherent g mid new rules day kept later
       → KeepsCacheCoherent g old new rules day kept later
   keeps_after old mid new kept later goes lasts keeps = record {

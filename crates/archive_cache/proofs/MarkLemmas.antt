@@ -1,21 +1,20 @@
 -- Messages that are withheld again by the marks that are kept of them.
 use Rattle.std.proofs.Common.{◌≡◌, refl, sym, ap, ◌∙◌, subst, inl, inr, ℕ, zero, suc, ◌≤◌, Bool, true, false, cond, List, [], ◌∷◌, ◌++◌, drop, Option, Some, None, Result, Ok, Err}
-use Rattle.std.specs.Prelude.{◌&&◌, ◌⊎◌, find, option_map, bytes_eq, IfErr}
+use Rattle.std.specs.Prelude.{◌⊎◌, find, option_map, bytes_eq, IfErr}
 use Rattle.std.proofs.lemmas.Bool.{and_parts}
 use Rattle.std.proofs.lemmas.Slice.Eq.{bytes_eq-Decides}
-use Rattle.sqlite.specs.Store.{Ghosts}
+use Rattle.archive_port.specs.declared.state.ArchiveState.{Ghosts}
 use Rattle.policy_core.specs.Verdict.{denied}
 use Rattle.archive_model.specs.Records.{Archive, Message}
 use Rattle.archive_model.specs.Questions.{message_of}
-use Rattle.archive_store.specs.Held.{memory_refusal_count}
-use Rattle.archive_store.specs.Told.{AnswersFromStoreUnder, StoreHasCleanDisk, HoldsTables, IsOpen, StaysOpenUnlessDiskFails, archive_in}
-use Rattle.archive_store.specs.declared.store.Store.{Store}
-use Rattle.archive_store.proofs.Joins.{goes_in_as}
-use Rattle.archive_results.specs.Access.{Ask, Asked, MessageFacts, ReaderFacts, absent, asked_under_ruling, asked_for_key, asked_of_message, denied_by, message_facts, reader_facts, ruling_on}
+use Rattle.archive_port.specs.Told.{memory_refusal_count}
+use Rattle.archive_port.specs.Told.{AnswersFromStoreUnder, StoreHasCleanDisk, HoldsTables, IsOpen, StaysOpenUnlessDiskFails, archive_in}
+use Rattle.archive_port.proofs.Joins.{goes_in_as}
+use Rattle.archive_results.specs.Access.{Ask, Asked, MessageFacts, ReaderFacts, absent, asked_under_ruling, asked_for_key, asked_of_message, denied_by, message_facts, ruling_on}
 use Rattle.archive_desk.specs.Asking.{DeterminesVerdicts}
 use Rattle.archive_desk.specs.Causes.{IsMessageUnreadable, IsReaderUnreadable}
 use Rattle.archive_desk.specs.Ending.{EndsDeskCall, EndsDeskQuestion}
-use Rattle.archive_desk.specs.Faults.{IsAskFault, RefusalReason, ask_reason, missing_list_reason, refusal_reason}
+use Rattle.archive_desk.specs.Faults.{IsAskFault, ask_reason, missing_list_reason, refusal_reason}
 use Rattle.archive_desk.specs.Holding.{AnswersFromStoreTables, RelatesTableArchives}
 use Rattle.archive_desk.specs.declared.faults.DeskError.{DeskError}
 use Rattle.archive_desk.proofs.AskLemmas.{no_such_list}
@@ -94,12 +93,12 @@ none_held ask reader (Some m) is = absurd (cc)
 
 -- ---- a message that is read
 
-module _ {S : Type 0} (g : Ghosts S) (ask : Ask) (reader : ReaderFacts) (key : List ℕ) {X : Type 0} (say : X → Asked) where
+module _ {S W : Type 0} (g : Ghosts S W) (ask : Ask) (reader : ReaderFacts) (key : List ℕ) {X : Type 0} (say : X → Asked) where
   abbrev Says : Archive → X → Type 0
   Says a answer = say answer ≡ asked_of_message ask reader (message_of a ask.list key)
 
   -- what is kept is as it was
-  pub read_kept : (old new : Store S) (kept : List WithheldMessage) (result : Result X DeskError)
+  pub read_kept : (old new : S) (kept : List WithheldMessage) (result : Result X DeskError)
       → AnswersFromStoreUnder g (HoldsTables g) old new refusal_reason result (λ a. missing_list_reason a ask) Says
       → AnswersFromStoreUnder g (HoldsTables g) old new refusal_reason result (λ a. missing_list_reason a ask) (λ a answer. Says a answer × (AreWithheldCoherent a kept → AreWithheldCoherent a kept))
   read_kept old new kept (Ok answer) it =
@@ -109,7 +108,7 @@ module _ {S : Type 0} (g : Ghosts S) (ask : Ask) (reader : ReaderFacts) (key : L
   read_kept old new kept (Err fault) it = it
 
   -- behind its marks
-  pub read_behind : (old mid new : Store S) (found : Option MessageFacts)
+  pub read_behind : (old mid new : S) (found : Option MessageFacts)
       → RelatesTableArchives g old mid (λ a b. (b ≡ a) × (missing_list_reason a ask ≡ None) × (found ≡ option_map (message_facts None) (message_of a ask.list key))) → (result : Result X DeskError)
       → AnswersFromStoreUnder g (HoldsTables g) mid new refusal_reason result (λ a. missing_list_reason a ask) Says
       → AnswersFromStoreUnder g (HoldsTables g) old new refusal_reason result (λ a. missing_list_reason a ask) Says
@@ -123,7 +122,7 @@ module _ {S : Type 0} (g : Ghosts S) (ask : Ask) (reader : ReaderFacts) (key : L
 
 -- ---- behind the reader, who was found
 
-module _ {S : Type 0} (g : Ghosts S) (ask : Ask) (reader : ReaderFacts) (key : List ℕ) (old mid new : Store S)
+module _ {S W : Type 0} (g : Ghosts S W) (ask : Ask) (reader : ReaderFacts) (key : List ℕ) (old mid new : S)
     (known : RelatesTableArchives g old mid (λ a b. (b ≡ a) × (ask_reason a ask ≡ None) × DeterminesVerdicts a ask reader)) (kept later : CacheState) {X : Type 0} (say : X → Asked) where
   abbrev Reads : Archive → X → Type 0
   Reads a answer = (say answer ≡ asked_of_message ask reader (message_of a ask.list key)) × (AreWithheldCoherent a kept.withheld → AreWithheldCoherent a later.withheld)
@@ -147,7 +146,7 @@ module _ {S : Type 0} (g : Ghosts S) (ask : Ask) (reader : ReaderFacts) (key : L
         (λ a b c why first it. (it.0 ∙ first.0, no_such_list a ask why (subst (λ x. missing_list_reason x ask ≡ Some why) first.0 it.1)))
         (λ a b c fault first it. it ∙ first.0) result known read
 
-    pub read_ends : memory_refusal_count old ≤ memory_refusal_count mid → (StoreHasCleanDisk g mid → IsOpen g old) → EndsDeskCall g mid new IsAskFault result (λ a. IsMessageUnreadable a ask key)
+    pub read_ends : memory_refusal_count g old ≤ memory_refusal_count g mid → (StoreHasCleanDisk g mid → IsOpen g old) → EndsDeskCall g mid new IsAskFault result (λ a. IsMessageUnreadable a ask key)
         → EndsDeskQuestion g old new IsAskFault result (λ a. IsMessageUnreadable a ask key ⊎ IsReaderUnreadable a ask)
     read_ends grows up it = ask_after g old mid new (known.0, (λ returned held. let there = known.1 returned held in (there.0, there.1.0))) read_lasts grows IsAskFault
         result (λ a. IsMessageUnreadable a ask key) (λ a. IsMessageUnreadable a ask key ⊎ IsReaderUnreadable a ask) (λ a bad. inl bad) it up

@@ -7,7 +7,7 @@ use Rattle.thread_core.specs.TopThread.{top_thread_of}
 use Rattle.thread_core.specs.declared.row.Row.{Row}
 use Rattle.archive_html.specs.Rows.{message_row, rows_text, tree_row}
 use Rattle.archive_html.proofs.RowLemmas.{tree_row_some}
-use Rattle.archive_results.specs.Results.{TreeLine, lines_of, place_of_key, thread_rows_of, thread_lines, tree_line, elements_in_range}
+use Rattle.archive_results.specs.Results.{lines_of, place_of_key, thread_rows_of, thread_lines, tree_line, elements_in_range}
 use Rattle.archive_results.specs.Shown.{Line, ShownMessage}
 use Rattle.archive_cache.specs.ListIndexes.{ListIndex, index_of_view, rendered_rows, thread_rows_of_key, top_row, top_rows_of}
 

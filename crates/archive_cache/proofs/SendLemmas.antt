@@ -1,7 +1,7 @@
 -- Messages that are written by the keys of lines.
-use Rattle.std.proofs.Common.{◌≡◌, refl, sym, ap, ◌∙◌, subst, inl, inr, ℕ, ◌+◌, ◌<◌, ◌≤◌, ◌^◌, min, Bool, true, false, not, ◌&&◌, cond, List, [], ◌∷◌, ◌++◌}
+use Rattle.std.proofs.Common.{◌≡◌, refl, sym, ap, ◌∙◌, subst, inl, inr, ℕ, ◌+◌, ◌<◌, ◌≤◌, ◌^◌, min, Bool, true, false, ◌&&◌, cond, List, [], ◌∷◌, ◌++◌}
 use Rattle.std.proofs.Common.{length, take, filter, map, Option, Some, None, Result, Ok, Err, arith, append_assoc, length-append, length-take}
-use Rattle.std.specs.Prelude.{◌||◌, find, option_map, bytes_eq, IfErr, IfSome, MatchOption}
+use Rattle.std.specs.Prelude.{◌||◌, find, option_map, bytes_eq, IfSome, MatchOption}
 use Rattle.std.specs.List.{All, list_any}
 use Rattle.std.specs.Option.{IsSomeAnd, option_map_or}
 use Rattle.std.proofs.lemmas.Bool.{and_parts}
@@ -9,7 +9,7 @@ use Rattle.std.proofs.lemmas.Grind.{flat_map-append}
 use Rattle.std.proofs.lemmas.List.{append-nil}
 use Rattle.std.proofs.lemmas.List.Elements.{All-head, All-tail}
 use Rattle.std.proofs.lemmas.Slice.Eq.{bytes_eq-Decides}
-use Rattle.sqlite.specs.Store.{Ghosts}
+use Rattle.archive_port.specs.declared.state.ArchiveState.{Ghosts}
 use Rattle.mbox_core.specs.Division.{Item}
 use Rattle.mbox_core.specs.Written.{AppendsPrefixOfText, written_item}
 use Rattle.archive_model.specs.Records.{Archive, Message as Remembered}
@@ -17,25 +17,22 @@ use Rattle.archive_model.specs.Commands.{Refusal}
 use Rattle.archive_model.specs.Questions.{is_message_at_key, message_of, messages_in}
 use Rattle.archive_model.specs.Messages.{archived_message}
 use Rattle.archive_model.specs.declared.messages.Message.{Message}
-use Rattle.archive_tables.specs.Tables.{HaveDistinctKeys, same_message_key}
-use Rattle.archive_tables.proofs.LastLemmas.{lasts_then, lasts_same}
-use Rattle.archive_port.specs.Messages.{IsReadable}
-use Rattle.archive_store.specs.Held.{store_connection, memory_refusal_count}
-use Rattle.archive_store.specs.Replies.{AnswersStoreQuestion}
+use Rattle.archive_port.specs.Messages.{HaveDistinctKeys, IsReadable}
+use Rattle.archive_port.proofs.LastLemmas.{lasts_then, lasts_same}
+use Rattle.archive_port.specs.Told.{memory_refusal_count, AnswersStoreQuestion}
 use Rattle.archive_port.specs.Replies.{IsOneOf, refusal_of_fault}
-use Rattle.archive_store.specs.Told.{E15MeansDiskFailedOr as StoreCausedOr, CountsRefusals, RelatesArchivesUnder, RelatesArchivesUnderIfOpen}
-use Rattle.archive_store.specs.Told.{StoreHasCleanDisk, HoldsTables, IsOpen, StaysOpenUnlessDiskFails, WritesNothing, archive_in}
+use Rattle.archive_port.specs.Told.{E15MeansDiskFailedOr as StoreCausedOr, CountsRefusals, RelatesArchivesUnder, RelatesArchivesUnderIfOpen}
+use Rattle.archive_port.specs.Told.{StoreHasCleanDisk, HoldsTables, IsOpen, StaysOpenUnlessDiskFails, archive_in}
+use Rattle.archive_port.specs.Crashes.{WritesNothing}
 use Rattle.archive_port.specs.Wanting.{IsMemoryRefusal}
-use Rattle.archive_store.specs.declared.store.Store.{Store}
 use Rattle.archive_port.specs.declared.faults.StoreFault.{StoreFault}
 use Rattle.archive_port.specs.declared.faults.StoreFault.TheVariants as faults
 use Rattle.archive_port.proofs.WantLemmas.{raises_after}
 use Rattle.archive_results.specs.Results.{export_text, lines_of}
-use Rattle.archive_results.specs.Shown.{Line, ShownMessage, line_of, shown_message}
+use Rattle.archive_results.specs.Shown.{Line, shown_message}
 use Rattle.archive_desk.specs.Causes.{HasUnreadableMessage, HasCause, IsDeskDatabaseFault, IsDeskMemoryRefusal}
-use Rattle.archive_desk.specs.Faults.{RefusalReason, desk_error_of, refusal_reason, reason_of_refusal}
+use Rattle.archive_desk.specs.Faults.{desk_error_of, reason_of_refusal}
 use Rattle.archive_desk.specs.Walking.{AddsToByteCount, IsRowsStop, IsMemoryOrDatabaseFault}
-use Rattle.archive_desk.specs.declared.exporting.ExportStop.{ExportStop}
 use Rattle.archive_desk.specs.declared.faults.DeskError.{DeskError}
 use Rattle.archive_desk.specs.declared.faults.DeskError.TheVariants as desk
 use Rattle.archive_desk.proofs.AskLemmas.{reasoned}
@@ -43,7 +40,7 @@ use Rattle.archive_desk.proofs.CallLemmas.{store_asked}
 use Rattle.archive_desk.proofs.CauseLemmas.{cause_after, each_fault, store_cause}
 use Rattle.archive_desk.proofs.WalkLemmas.{cut_behind}
 use Rattle.archive_desk.proofs.WantLemmas.{wants_of_store}
-use Rattle.archive_cache.specs.Sending.{EndsMboxOfLines, LooksUpMessage, RemembersArchive, RemembersAfterFault}
+use Rattle.archive_cache.specs.Sending.{EndsMboxOfLines, LooksUpMessage, RemembersArchive}
 use Rattle.archive_cache.specs.Sending.{WritesMboxOfLines, WritesMboxAfterHead, mbox_text_of_line, mbox_text_of_lines}
 
 -- ---- a message of a list
@@ -91,7 +88,7 @@ unrefused faults.TooLarge it = absurd it
 unrefused faults.Memory it = refl
 unrefused faults.Store it = refl
 
-module _ {S : Type 0} (g : Ghosts S) (old new : Store S) (list key : List ℕ) where
+module _ {S W : Type 0} (g : Ghosts S W) (old new : S) (list key : List ℕ) where
   abbrev Says : Archive → Option Message → Type 0
   Says a found = option_map (archived_message list) found ≡ message_of a list key
 
@@ -100,14 +97,14 @@ module _ {S : Type 0} (g : Ghosts S) (old new : Store S) (list key : List ℕ) w
 
   module _ (lasts : StaysOpenUnlessDiskFails g old new) where
     -- it was looked for
-    pub looked : (found : Option Message) → AnswersStoreQuestion g (store_connection old) (store_connection new) (Ok found) (λ _. None) Says
+    pub looked : (found : Option Message) → AnswersStoreQuestion g old new (Ok found) (λ _. None) Says
         → StoreHasCleanDisk g new → HoldsTables g old → LooksUpMessage g new (archive_in g old) list key (Ok found)
     looked found clause returned held =
         let it = (store_asked g old new (Ok found) (λ _. None) Says lasts clause).1 returned held in
         ((it.0, it.1.0), it.1.2)
 
     -- the store fails
-    pub looked_failed : (fault : StoreFault) → AnswersStoreQuestion g (store_connection old) (store_connection new) {A = Option Message} (Err fault) (λ _. None) Says
+    pub looked_failed : (fault : StoreFault) → AnswersStoreQuestion g old new {A = Option Message} (Err fault) (λ _. None) Says
         → StoreHasCleanDisk g new → HoldsTables g old → LooksUpMessage g new (archive_in g old) list key (Err (desk_error_of fault))
     looked_failed fault clause returned held =
         subst (λ r. MatchOption r (IsOpen g new → RemembersArchive g new (archive_in g old)) (λ _. RemembersArchive g new (archive_in g old))) (sym (reasoned fault))
@@ -120,7 +117,7 @@ module _ {S : Type 0} (g : Ghosts S) (old new : Store S) (list key : List ℕ) w
         by_reason None it = λ up. it.1 returned held up
         by_reason (Some why) it = let there = it.1 returned held in (there.0, there.1.0)
 
-    pub look_ends : (fault : StoreFault) → WritesNothing g old new → CountsRefusals {A = Option Message} IsMemoryRefusal old new (Err fault)
+    pub look_ends : (fault : StoreFault) → WritesNothing g old new → CountsRefusals g {A = Option Message} IsMemoryRefusal old new (Err fault)
         → StoreCausedOr g old new {A = Option Message} (Err fault) Unread → EndsMboxOfLines g old new list {A = Option Message} (λ f. f) (Err (desk_error_of fault))
     look_ends fault quiet counted caused = record {
       remains_open = lasts;
@@ -129,7 +126,7 @@ module _ {S : Type 0} (g : Ghosts S) (old new : Store S) (list key : List ℕ) w
         | inl more ↦ inl more
         | inr unread ↦ inr (unread_in (archive_in g old) list key unread)
       ];
-      refusals_counted = wants_of_store (Option Message) (Option Message) (memory_refusal_count old) (memory_refusal_count new) fault counted;
+      refusals_counted = wants_of_store (Option Message) (Option Message) (memory_refusal_count g old) (memory_refusal_count g new) fault counted;
     }
 
 -- ---- one line
@@ -154,7 +151,7 @@ none_of told text = (omega (arith), sym (append-nil told))
 pub counts_none : (told : List ℕ) (counted : ℕ) → counted < 2 ^ 64 → AddsToByteCount told told counted counted
 counts_none told counted fits = ([], sym (append-nil told), omega (arith, fits))
 
-module _ {S : Type 0} (g : Ghosts S) (new : Store S) (a : Archive) (list : List ℕ) (line : Line) (before : List ℕ) (counted : ℕ) where
+module _ {S W : Type 0} (g : Ghosts S W) (new : S) (a : Archive) (list : List ℕ) (line : Line) (before : List ℕ) (counted : ℕ) where
   -- none is written
   pub wrote_none : counted < 2 ^ 64 → LooksUpMessage g new a list line.key (Ok None) → WritesMboxOfLines g new a list (line ∷ []) before before counted counted (Ok tt)
   wrote_none fits it =
@@ -182,21 +179,21 @@ module _ {S : Type 0} (g : Ghosts S) (new : Store S) (a : Archive) (list : List 
 
 -- ---- one line after the other
 
-module _ {S : Type 0} (g : Ghosts S) (list : List ℕ) where
+module _ {S W : Type 0} (g : Ghosts S W) (list : List ℕ) where
   joined : (a : Archive) (xs ys : List Line) → mbox_text_of_lines a list (xs ++ ys) ≡ mbox_text_of_lines a list xs ++ mbox_text_of_lines a list ys
   joined a xs ys = flat_map-append (mbox_text_of_line a list) xs ys
 
   -- The text of these lines was written, and it was counted.
-  pub record LinesSoFar (old now : Store S) (lines : List Line) (before after : List ℕ) (counted counts : ℕ) : Type 0 where
+  pub record LinesSoFar (old now : S) (lines : List Line) (before after : List ℕ) (counted counts : ℕ) : Type 0 where
     pub lasts : StaysOpenUnlessDiskFails g old now
     pub writes_nothing : WritesNothing g old now
-    pub grows : memory_refusal_count old ≤ memory_refusal_count now
+    pub grows : memory_refusal_count g old ≤ memory_refusal_count g now
     pub more : AddsToByteCount before after counted counts
     pub wrote : StoreHasCleanDisk g now → HoldsTables g old → WritesMboxOfLines g now (archive_in g old) list lines before after counted counts (Ok tt)
 
-  pub lines_none : (store : Store S) (told : List ℕ) (counted : ℕ) → counted < 2 ^ 64 → LinesSoFar store store [] told told counted counted
+  pub lines_none : (store : S) (told : List ℕ) (counted : ℕ) → counted < 2 ^ 64 → LinesSoFar store store [] told told counted counted
   lines_none store told counted fits = record {
-    lasts = lasts_same _;
+    lasts = lasts_same g _;
     writes_nothing = λ db may. may;
     grows = omega arith;
     more = counts_none told counted fits;
@@ -209,7 +206,7 @@ module _ {S : Type 0} (g : Ghosts S) (list : List ℕ) where
   counts_then before middle after counted count counts one two =
       (one.0 ++ two.0, two.1 ∙ ap (λ x. x ++ two.0) one.1 ∙ append_assoc before one.0 two.0, omega (arith, one.2, two.2, length-append one.0 two.0))
 
-  module _ (old mid new : Store S) (before middle : List ℕ) (counted count : ℕ) (xs : List Line) (s : LinesSoFar old mid xs before middle counted count) where
+  module _ (old mid new : S) (before middle : List ℕ) (counted count : ℕ) (xs : List Line) (s : LinesSoFar old mid xs before middle counted count) where
     abbrev Unreadable : Archive → Type 0
     Unreadable a = HasUnreadableMessage (messages_in a list)
 
@@ -228,11 +225,11 @@ module _ {S : Type 0} (g : Ghosts S) (list : List ℕ) where
 
     pub ends_since : {A : Type 0} (result : Result A DeskError) → EndsMboxOfLines g mid new list (λ f. f) result → EndsMboxOfLines g old new list (λ f. f) result
     ends_since result it = record {
-      remains_open = lasts_then _ _ _ s.lasts it.remains_open;
+      remains_open = lasts_then g _ _ _ s.lasts it.remains_open;
       writes_nothing = λ db may. s.writes_nothing db (it.writes_nothing db may);
       fault_has_cause = each_fault (λ fault. IsDeskDatabaseFault fault → HasCause g mid new Unreadable) (λ fault. IsDeskDatabaseFault fault → HasCause g old new Unreadable)
           (λ fault why bad. cause_after g old mid new left it.remains_open Unreadable (why bad)) result it.fault_has_cause;
-      refusals_counted = raises_after IsDeskMemoryRefusal (memory_refusal_count old) (memory_refusal_count mid) (memory_refusal_count new) result s.grows it.refusals_counted;
+      refusals_counted = raises_after IsDeskMemoryRefusal (memory_refusal_count g old) (memory_refusal_count g mid) (memory_refusal_count g new) result s.grows it.refusals_counted;
     }
 
     module _ (line : Line) (lasts : StaysOpenUnlessDiskFails g mid new) (after : List ℕ) (counts : ℕ) where
@@ -244,11 +241,11 @@ module _ {S : Type 0} (g : Ghosts S) (list : List ℕ) where
           subst (λ a. WritesMboxOfLines g new a list (line ∷ []) middle after count counts result) so.0.1 (wrote returned so.0.0)
 
       -- one more
-      pub lines_more : WritesNothing g mid new → memory_refusal_count mid ≤ memory_refusal_count new → AddsToByteCount middle after count counts
+      pub lines_more : WritesNothing g mid new → memory_refusal_count g mid ≤ memory_refusal_count g new → AddsToByteCount middle after count counts
           → (StoreHasCleanDisk g new → HoldsTables g mid → WritesMboxOfLines g new (archive_in g mid) list (line ∷ []) middle after count counts (Ok tt))
           → LinesSoFar old new (xs ++ line ∷ []) before after counted counts
       lines_more quiet grows more wrote = record {
-        lasts = lasts_then _ _ _ s.lasts lasts;
+        lasts = lasts_then g _ _ _ s.lasts lasts;
         writes_nothing = λ db may. s.writes_nothing db (quiet db may);
         grows = omega (arith, s.grows, grows);
         more = counts_then before middle after counted count counts s.more more;
@@ -287,7 +284,7 @@ module _ {S : Type 0} (g : Ghosts S) (list : List ℕ) where
 
 -- ---- behind a head
 
-module _ {S : Type 0} (g : Ghosts S) (new : Store S) (a : Archive) (list : List ℕ) (lines : List Line) (head before : List ℕ) where
+module _ {S W : Type 0} (g : Ghosts S W) (new : S) (a : Archive) (list : List ℕ) (lines : List Line) (head before : List ℕ) where
   -- the writer fails in the head
   pub head_part : (after : List ℕ) (k : ℕ) → RemembersArchive g new a → AppendsPrefixOfText before after head k
       → WritesMboxAfterHead g new a list lines head before after (Err (record { written = k; fault = desk.Write }))
@@ -334,7 +331,7 @@ module _ (list : List ℕ) where
   Each among (m ∷ ms) = Is among m × Each among ms
 
   -- another message has not its key
-  apart : (x m : Remembered) → same_message_key x m ≡ false → held m ≡ true → is_message_at_key list m.key x ≡ false
+  apart : (x m : Remembered) → is_message_at_key x.list x.key m ≡ false → held m ≡ true → is_message_at_key list m.key x ≡ false
   apart x m other listed = by_test (is_message_at_key list m.key x) refl
     where
       by_test : (t : Bool) → is_message_at_key list m.key x ≡ t → t ≡ false
@@ -347,15 +344,16 @@ module _ (list : List ℕ) where
           let keys : bytes_eq m.key x.key ≡ true = (bytes_eq-Decides m.key x.key).1 (sym ((bytes_eq-Decides x.key m.key).0 both.1)) in
           absurd (let bad : true ≡ false = sym (ap (λ b. b && bytes_eq m.key x.key) same ∙ keys) ∙ other in cc)
 
-  none_same : (x m : Remembered) (ms : List Remembered) → list_any (same_message_key x) (m ∷ ms) ≡ false → (same_message_key x m ≡ false) × (list_any (same_message_key x) ms ≡ false)
-  none_same x m ms is = by_test (same_message_key x m) is
+  none_same : (x m : Remembered) (ms : List Remembered) → list_any (is_message_at_key x.list x.key) (m ∷ ms) ≡ false → (is_message_at_key x.list x.key m ≡ false) ×
+      (list_any (is_message_at_key x.list x.key) ms ≡ false)
+  none_same x m ms is = by_test (is_message_at_key x.list x.key m) is
     where
-      by_test : (s : Bool) → (s || list_any (same_message_key x) ms) ≡ false → (s ≡ false) × (list_any (same_message_key x) ms ≡ false)
+      by_test : (s : Bool) → (s || list_any (is_message_at_key x.list x.key) ms) ≡ false → (s ≡ false) × (list_any (is_message_at_key x.list x.key) ms ≡ false)
       by_test true is = absurd (cc)
       by_test false is = (refl, is)
 
   -- among one message more
-  past : (x : Remembered) (among ms : List Remembered) → list_any (same_message_key x) ms ≡ false → Each among (filter held ms) → Each (x ∷ among) (filter held ms)
+  past : (x : Remembered) (among ms : List Remembered) → list_any (is_message_at_key x.list x.key) ms ≡ false → Each among (filter held ms) → Each (x ∷ among) (filter held ms)
   past x among [] other each = tt
   past x among (m ∷ ms) other each = by_test (past x among ms (none_same x m ms other).1) (held m) refl each
     where
@@ -369,7 +367,7 @@ module _ (list : List ℕ) where
   its_own x among listed =
       ap (λ t. cond t (Some x) (find (is_message_at_key list x.key) among)) (ap (λ b. b && bytes_eq x.key x.key) listed ∙ (bytes_eq-Decides x.key x.key).1 refl)
 
-  each_found : (ms : List Remembered) → HaveDistinctKeys same_message_key ms → Each ms (filter held ms)
+  each_found : (ms : List Remembered) → HaveDistinctKeys ms → Each ms (filter held ms)
   each_found [] apart = tt
   each_found (x ∷ xs) apart = by_test (past x xs xs apart.0 (each_found xs apart.1)) (held x) refl
     where
@@ -392,6 +390,6 @@ module _ (list : List ℕ) where
       ap (λ x. x ++ mbox_text_of_lines a list (lines_of (map shown_message ms))) (ap (λ o. option_map_or (λ (m : Remembered). written_item (shown_message m).item) o []) each.0)
       ∙ ap (λ x. written_item (shown_message m).item ++ x) (text_of_each a ms each.1)
 
-  pub view_text : (a : Archive) (p : Remembered → Bool) → HaveDistinctKeys same_message_key a.messages
+  pub view_text : (a : Archive) (p : Remembered → Bool) → HaveDistinctKeys a.messages
       → mbox_text_of_lines a list (lines_of (map shown_message (filter p (messages_in a list)))) ≡ export_text (map shown_message (filter p (messages_in a list)))
   view_text a p apart = text_of_each a (filter p (messages_in a list)) (each_kept a.messages p (messages_in a list) (each_found a.messages apart))

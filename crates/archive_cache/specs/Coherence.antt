@@ -1,12 +1,10 @@
 -- What is kept is of an archive, for one policy and one day.
 use Rattle.std.specs.Prelude.{◌≡◌, ⊤, ℕ, ℤ, List, [], ◌∷◌, None, Some, Result}
-use Rattle.sqlite.specs.Store.{Ghosts}
+use Rattle.archive_port.specs.declared.state.ArchiveState.{Ghosts}
 use Rattle.policy_core.specs.Rules.{Rule}
 use Rattle.archive_model.specs.Records.{Archive, Message}
 use Rattle.archive_model.specs.Questions.{message_of}
-use Rattle.archive_store.specs.Uncounted.{without_refusal_count}
-use Rattle.archive_store.specs.Told.{StoreHasCleanDisk, HoldsTables, IsStoreClosed, archive_in}
-use Rattle.archive_store.specs.declared.store.Store.{Store}
+use Rattle.archive_port.specs.Told.{StoreHasCleanDisk, HoldsTables, IsStoreClosed, archive_in}
 use Rattle.archive_results.specs.Access.{Ask, ReaderFacts, message_facts}
 use Rattle.archive_desk.specs.Asking.{DeterminesVerdicts}
 use Rattle.archive_desk.specs.Faults.{ask_reason, refusal_reason}
@@ -44,20 +42,16 @@ IsCacheCoherent archive rules day kept = AreCoherent archive rules day kept.view
 
 -- What a call does to what is kept: it stays of the archive that a store remembers; a store that is shut adds nothing; and whatever the
 -- store is, it weighs no more than it may.
-pub record KeepsStoreCacheCoherent {S : Type 0} (g : Ghosts S) (old new : Store S) (rules : List Rule) (day : ℤ) (kept_old kept_new : CacheState) : Type 0 where
+pub record KeepsCacheCoherent {S W : Type 0} (g : Ghosts S W) (old new : S) (rules : List Rule) (day : ℤ) (kept_old kept_new : CacheState) : Type 0 where
   pub keeps_coherent : StoreHasCleanDisk g new → HoldsTables g old → IsCacheCoherent (archive_in g old) rules day kept_old → IsCacheCoherent (archive_in g old) rules day kept_new
   pub when_store_closed : StoreHasCleanDisk g new → IsStoreClosed g old → kept_new ≡ kept_old
   pub capacity_is_same : kept_new.most ≡ kept_old.most
   pub cache_stays_bounded : IsCacheBounded kept_old → IsCacheBounded kept_new
 
--- whatever is counted of the store
-abbrev pub KeepsCacheCoherent : {S : Type 0} (g : Ghosts S) (old new : Store S) (rules : List Rule) (day : ℤ) (kept_old kept_new : CacheState) → Type 0
-KeepsCacheCoherent g old new rules day kept_old kept_new = KeepsStoreCacheCoherent g (without_refusal_count old) (without_refusal_count new) rules day kept_old kept_new
-
 -- A call that is handed the marks of a reader, and answers a place. The store changes nothing, and says which list or person there is
 -- not. Where the marks are enough to know and what was kept is of the archive, the outline at the place is that of the part of the view,
 -- and what is kept then is of the archive too, whatever was answered.
-pub record FindsListIndexInStore {S : Type 0} (g : Ghosts S) (old new : Store S) (ask : Ask) (reader : ReaderFacts) (part : ViewPart) (kept_old kept_new : CacheState)
+pub record FindsListIndex {S W : Type 0} (g : Ghosts S W) (old new : S) (ask : Ask) (reader : ReaderFacts) (part : ViewPart) (kept_old kept_new : CacheState)
     (result : Result ℕ DeskError) : Type 0 where
   pub calls_store : CallsStoreWithTables g old new refusal_reason result
       (λ a b place. (b ≡ a) × (DeterminesVerdicts a ask reader → IsCacheCoherent a ask.rules ask.day kept_old → cached_index_at kept_new place ≡ Some (index_for_ask a ask part)))
@@ -66,7 +60,3 @@ pub record FindsListIndexInStore {S : Type 0} (g : Ghosts S) (old new : Store S)
       → IsCacheCoherent (archive_in g old) ask.rules ask.day kept_old → IsCacheCoherent (archive_in g old) ask.rules ask.day kept_new
   pub capacity_is_same : kept_new.most ≡ kept_old.most
   pub cache_stays_bounded : IsCacheBounded kept_old → IsCacheBounded kept_new
-
--- whatever is counted of the store
-abbrev pub FindsListIndex : {S : Type 0} (g : Ghosts S) (old new : Store S) → Ask → ReaderFacts → ViewPart → (kept_old kept_new : CacheState) → Result ℕ DeskError → Type 0
-FindsListIndex g old new ask reader part kept_old kept_new result = FindsListIndexInStore g (without_refusal_count old) (without_refusal_count new) ask reader part kept_old kept_new result

@@ -1,14 +1,14 @@
 -- The messages of a list by the keys of lines, written one after the other as an mbox (RFC 4155).
 use Rattle.std.specs.Prelude.{◌≡◌, ◌<◌, ◌+◌, ◌-◌, ◌^◌, ◌++◌, ℕ, List, [], length, flat_map, min, Option, Result, IfErr, MatchOption, MatchResult, option_map}
 use Rattle.std.specs.Option.{option_map_or}
-use Rattle.sqlite.specs.Store.{Ghosts}
+use Rattle.archive_port.specs.declared.state.ArchiveState.{Ghosts}
 use Rattle.mbox_core.specs.Written.{AppendsPrefixOfText, written_item}
 use Rattle.archive_model.specs.Records.{Archive}
 use Rattle.archive_model.specs.Questions.{message_of, messages_in}
 use Rattle.archive_model.specs.Messages.{archived_message}
 use Rattle.archive_model.specs.declared.messages.Message.{Message}
-use Rattle.archive_store.specs.Told.{CountsRefusals, StoreHasCleanDisk, HoldsTables, IsOpen, StaysOpenUnlessDiskFails, WritesNothing, archive_in}
-use Rattle.archive_store.specs.declared.store.Store.{Store}
+use Rattle.archive_port.specs.Told.{CountsRefusals, StoreHasCleanDisk, HoldsTables, IsOpen, StaysOpenUnlessDiskFails, archive_in}
+use Rattle.archive_port.specs.Crashes.{WritesNothing}
 use Rattle.archive_results.specs.Shown.{Line, shown_message}
 use Rattle.archive_desk.specs.Causes.{HasUnreadableMessage, HasCause, IsDeskDatabaseFault, IsDeskMemoryRefusal}
 use Rattle.archive_desk.specs.Faults.{refusal_reason}
@@ -22,7 +22,7 @@ mbox_text_of_line archive list line = option_map_or (λ m. written_item (shown_m
 abbrev pub mbox_text_of_lines : Archive → (list : List ℕ) → List Line → List ℕ
 mbox_text_of_lines archive list lines = flat_map (mbox_text_of_line archive list) lines
 
-module _ {S : Type 0} (g : Ghosts S) (new : Store S) (a : Archive) where
+module _ {S W : Type 0} (g : Ghosts S W) (new : S) (a : Archive) where
   -- the store holds an archive's tables, and remembers this archive
   abbrev pub RemembersArchive : Type 0
   RemembersArchive = HoldsTables g new × (archive_in g new ≡ a)
@@ -53,7 +53,7 @@ module _ {S : Type 0} (g : Ghosts S) (new : Store S) (a : Archive) where
         (λ count. RemembersArchive × (after ≡ before ++ text) × (count ≡ min (length text) (2 ^ 64 - 1)))
         (λ stop. RemembersAfterFault stop.fault × (length after < 2 ^ 64 → AppendsPrefixOfText before after text stop.written))
 
-module _ {S : Type 0} (g : Ghosts S) (old new : Store S) where
+module _ {S W : Type 0} (g : Ghosts S W) (old new : S) where
   -- where the tables were an archive's, this is so of the archive that was remembered
   abbrev pub IsTrueOfOldArchive : (Archive → Type 0) → Type 0
   IsTrueOfOldArchive Says = StoreHasCleanDisk g new → HoldsTables g old → Says (archive_in g old)
@@ -64,4 +64,4 @@ module _ {S : Type 0} (g : Ghosts S) (old new : Store S) where
     pub remains_open : StaysOpenUnlessDiskFails g old new
     pub writes_nothing : WritesNothing g old new
     pub fault_has_cause : IfErr result (λ fault. IsDeskDatabaseFault (carried fault) → HasCause g old new (λ a. HasUnreadableMessage (messages_in a list)))
-    pub refusals_counted : CountsRefusals (λ fault. IsDeskMemoryRefusal (carried fault)) old new result
+    pub refusals_counted : CountsRefusals g (λ fault. IsDeskMemoryRefusal (carried fault)) old new result

@@ -1,7 +1,7 @@
 //! The outline of a part of a view, out of what is kept or read of a store.
 ghost use Rattle.std.specs.Prelude.{◌≡◌, ◌<◌, length, Some, IfOk};
 ghost use Rattle.archive_model.specs.Questions.{messages_in};
-ghost use Rattle.archive_store.specs.Told.{WritesNothing};
+ghost use Rattle.archive_port.specs.Crashes.{WritesNothing};
 ghost use Rattle.archive_desk.specs.Causes.{IsQuestionUnreadable};
 ghost use Rattle.archive_desk.specs.Ending.{EndsDeskCall, EndsDeskQuestion};
 ghost use Rattle.archive_desk.specs.Faults.{IsAskFault, ask_reason, refusal_reason};
@@ -15,24 +15,23 @@ use crate::cache::Cache;
 use crate::list_indexes::{ListIndex, outline_of};
 use crate::parts::ViewPart;
 use archive_desk::{DeskError, read_view_summaries, resolve_reader};
+use archive_port::ArchiveStore;
 use archive_results::{Ask, ReaderFacts};
-use archive_store::Store;
-use sqlite::Alter;
 use std::alloc::Global;
 use thread_core::Threader;
 
 /// The outline of the whole view, made of what is read of the store.
-fn read_threads<T: Threader, S: Alter>(
-    store: &mut Store<S>,
+fn read_threads<T: Threader, S: ArchiveStore>(
+    store: &mut S,
     alloc: Global,
     ask: &Ask<'_>,
     threader: &T,
 ) -> Result<ListIndex, DeskError>
-    ensures made { AnswersFromStoreTables S.Store store.old store.new refusal_reason result (λ a. ask_reason a ask.now)
+    ensures made { AnswersFromStoreTables S.ArchiveState store.old store.new refusal_reason result (λ a. ask_reason a ask.now)
         (λ a outline. outline ≡ index_for_ask a ask.now whole) }
-    ensures ends { EndsDeskCall S.Store store.old store.new IsAskFault result
+    ensures ends { EndsDeskCall S.ArchiveState store.old store.new IsAskFault result
         (λ a. IsQuestionUnreadable a ask.now (messages_in a ask.now.list)) }
-    ensures writes_nothing { WritesNothing S.Store store.old store.new }
+    ensures writes_nothing { WritesNothing S.ArchiveState store.old store.new }
 {
     let index = match read_view_summaries(store, alloc, ask) {
         Ok(index) => index,
@@ -41,26 +40,26 @@ fn read_threads<T: Threader, S: Alter>(
     match outline_of(alloc, threader, ask.list, index.headers, index.merge) {
         Ok(outline) => Ok(outline),
         Err(refused) => {
-            store.wants.increment(refused.into());
+            store.count_refusal(refused.into());
             Err(DeskError::Memory)
         }
     }
 }
 
 /// The place of the outline of the whole view: one that is kept, or that is read now, and kept.
-fn find_whole<T: Threader, S: Alter>(
-    store: &mut Store<S>,
+fn find_whole<T: Threader, S: ArchiveStore>(
+    store: &mut S,
     kept: &mut Cache,
     alloc: Global,
     ask: &Ask<'_>,
     reader: &ReaderFacts,
     threader: &T,
 ) -> Result<usize, DeskError>
-    ensures finds { FindsListIndex S.Store store.old store.new ask.now reader.now whole kept.old kept.new result }
-    ensures ends { EndsDeskCall S.Store store.old store.new IsAskFault result
+    ensures finds { FindsListIndex S.ArchiveState store.old store.new ask.now reader.now whole kept.old kept.new result }
+    ensures ends { EndsDeskCall S.ArchiveState store.old store.new IsAskFault result
         (λ a. IsQuestionUnreadable a ask.now (messages_in a ask.now.list)) }
     ensures there { IfOk result (λ place. place < length kept.new.views) }
-    ensures writes_nothing { WritesNothing S.Store store.old store.new }
+    ensures writes_nothing { WritesNothing S.ArchiveState store.old store.new }
 {
     if let Some(place) = kept.find(ask.list, reader, &ViewPart::Whole) {
         return Ok(place);
@@ -72,15 +71,15 @@ fn find_whole<T: Threader, S: Alter>(
     match kept.put(alloc, ask.list, reader, &ViewPart::Whole, outline) {
         Ok(place) => Ok(place),
         Err(refused) => {
-            store.wants.increment(refused.into());
+            store.count_refusal(refused.into());
             Err(DeskError::Memory)
         }
     }
 }
 
 /// The place of the outline of a part of the view: one that is kept, that of the whole view, or one that is made of that now, and kept.
-fn find_part<T: Threader, S: Alter>(
-    store: &mut Store<S>,
+fn find_part<T: Threader, S: ArchiveStore>(
+    store: &mut S,
     kept: &mut Cache,
     alloc: Global,
     ask: &Ask<'_>,
@@ -88,12 +87,12 @@ fn find_part<T: Threader, S: Alter>(
     part: &ViewPart<'_>,
     threader: &T,
 ) -> Result<usize, DeskError>
-    ensures finds { FindsListIndex S.Store store.old store.new ask.now reader.now
+    ensures finds { FindsListIndex S.ArchiveState store.old store.new ask.now reader.now
         (model_part part.now) kept.old kept.new result }
-    ensures ends { EndsDeskCall S.Store store.old store.new IsAskFault result
+    ensures ends { EndsDeskCall S.ArchiveState store.old store.new IsAskFault result
         (λ a. IsQuestionUnreadable a ask.now (messages_in a ask.now.list)) }
     ensures there { IfOk result (λ place. place < length kept.new.views) }
-    ensures writes_nothing { WritesNothing S.Store store.old store.new }
+    ensures writes_nothing { WritesNothing S.ArchiveState store.old store.new }
 {
     if let Some(place) = kept.find(ask.list, reader, part) {
         return Ok(place);
@@ -108,7 +107,7 @@ fn find_part<T: Threader, S: Alter>(
     match kept.put_part(alloc, ask.list, reader, part, place) {
         Ok(place) => Ok(place),
         Err(refused) => {
-            store.wants.increment(refused.into());
+            store.count_refusal(refused.into());
             Err(DeskError::Memory)
         }
     }
@@ -120,22 +119,22 @@ fn find_part<T: Threader, S: Alter>(
 /// outline is that of the view, and what is kept then is of that archive too; it never weighs more than it may. The place is good until
 /// the next call. G1 where there is no such list, G2 where there is no such person; G5 where no memory is left, G4 where the store
 /// has none or fails.
-pub fn get_or_build_index<T: Threader, S: Alter>(
-    store: &mut Store<S>,
+pub fn get_or_build_index<T: Threader, S: ArchiveStore>(
+    store: &mut S,
     kept: &mut Cache,
     alloc: Global,
     ask: &Ask<'_>,
     part: &ViewPart<'_>,
     threader: &T,
 ) -> Result<usize, DeskError>
-    ensures found { AnswersFromStoreTables S.Store store.old store.new refusal_reason result (λ a. ask_reason a ask.now)
+    ensures found { AnswersFromStoreTables S.ArchiveState store.old store.new refusal_reason result (λ a. ask_reason a ask.now)
         (λ a place. IsCacheCoherent a ask.now.rules ask.now.day kept.old
         → cached_index_at kept.new place ≡ Some (index_for_ask a ask.now (model_part part.now))) }
-    ensures keeps { KeepsCacheCoherent S.Store store.old store.new ask.now.rules ask.now.day kept.old kept.new }
-    ensures ends { EndsDeskQuestion S.Store store.old store.new IsAskFault result
+    ensures keeps { KeepsCacheCoherent S.ArchiveState store.old store.new ask.now.rules ask.now.day kept.old kept.new }
+    ensures ends { EndsDeskQuestion S.ArchiveState store.old store.new IsAskFault result
         (λ a. IsQuestionUnreadable a ask.now (messages_in a ask.now.list)) }
     ensures there { IfOk result (λ place. place < length kept.new.views) }
-    ensures writes_nothing { WritesNothing S.Store store.old store.new }
+    ensures writes_nothing { WritesNothing S.ArchiveState store.old store.new }
 {
     match resolve_reader(store, ask) {
         Ok(reader) => find_part(store, kept, alloc, ask, &reader, part, threader),

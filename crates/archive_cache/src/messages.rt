@@ -3,7 +3,8 @@ ghost use Rattle.std.specs.Prelude.{◌≡◌, ◌⊎◌, IfErr, IfSome};
 ghost use Rattle.archive_model.specs.Records.{Archive};
 ghost use Rattle.archive_model.specs.Questions.{message_of};
 ghost use Rattle.archive_results.specs.Access.{asked_for_key, asked_of_message, denied_by, spec_asked};
-ghost use Rattle.archive_store.specs.Told.{AnswersFromStoreUnder, HoldsTables, WritesNothing};
+ghost use Rattle.archive_port.specs.Told.{AnswersFromStoreUnder, HoldsTables};
+ghost use Rattle.archive_port.specs.Crashes.{WritesNothing};
 ghost use Rattle.archive_desk.specs.Asking.{DeterminesVerdicts};
 ghost use Rattle.archive_desk.specs.Causes.{IsMessageUnreadable, IsReaderUnreadable};
 ghost use Rattle.archive_desk.specs.Ending.{EndsDeskCall, EndsDeskQuestion};
@@ -14,31 +15,30 @@ ghost use Rattle.archive_cache.specs.Coherence.{IsCacheCoherent, AreWithheldCohe
 use crate::cache::Cache;
 use archive_desk::{DeskError, find_message_facts, find_row, resolve_reader};
 use archive_model::Key;
+use archive_port::ArchiveStore;
 use archive_results::{Ask, Asked, ReaderFacts, asks_author, lookup_message, verdict};
-use archive_store::Store;
 use policy_core::Verdict;
-use sqlite::Alter;
 use std::alloc::Global;
 
 /// The message of a key, as far as the policy lets the reader see it on the day. A message that the policy withholds is withheld by its
 /// marks, without a look at its text, and they are kept; where who wrote it matters to the reader, it is read. The store is asked for the
 /// list and the reader each time. Where what was kept is of the archive that the store remembers, this is the answer of
 /// `archive_desk::message`, and what is kept then is of that archive too. The refusals are those of `archive_desk::message`.
-pub fn find_message<'p, S: Alter>(
-    store: &mut Store<S>,
+pub fn find_message<'p, S: ArchiveStore>(
+    store: &mut S,
     kept: &mut Cache,
     alloc: Global,
     ask: &Ask<'p>,
     key: &Key,
 ) -> Result<Asked<'p>, DeskError>
-    ensures asked { AnswersFromStoreTables S.Store store.old store.new refusal_reason result
+    ensures asked { AnswersFromStoreTables S.ArchiveState store.old store.new refusal_reason result
         (λ a. ask_reason a ask.entry.now)
         (λ a answer. IsCacheCoherent a ask.entry.now.rules ask.entry.now.day kept.old
         → spec_asked answer ≡ asked_for_key a ask.entry.now key.now) }
-    ensures keeps { KeepsCacheCoherent S.Store store.old store.new ask.entry.now.rules ask.entry.now.day kept.old kept.new }
-    ensures ends { EndsDeskQuestion S.Store store.old store.new IsAskFault result
+    ensures keeps { KeepsCacheCoherent S.ArchiveState store.old store.new ask.entry.now.rules ask.entry.now.day kept.old kept.new }
+    ensures ends { EndsDeskQuestion S.ArchiveState store.old store.new IsAskFault result
         (λ a. IsMessageUnreadable a ask.entry.now key.now ⊎ IsReaderUnreadable a ask.entry.now) }
-    ensures writes_nothing { WritesNothing S.Store store.old store.new }
+    ensures writes_nothing { WritesNothing S.ArchiveState store.old store.new }
 {
     let reader = match resolve_reader(store, ask) {
         Ok(reader) => reader,
@@ -69,24 +69,24 @@ fn denial<'p>(kept: &Cache, ask: &Ask<'p>, reader: &ReaderFacts, key: &Key) -> O
 /// What a reader of these marks gets who asks for a message that no kept marks withhold. If it is in the view of its list that is kept for
 /// such readers, or if who wrote it matters, it is read. Else the store is asked for its marks: if the policy denies it by these, they are
 /// kept and it is not read.
-fn judge_message<'p, S: Alter>(
-    store: &mut Store<S>,
+fn judge_message<'p, S: ArchiveStore>(
+    store: &mut S,
     kept: &mut Cache,
     alloc: Global,
     ask: &Ask<'p>,
     reader: &ReaderFacts,
     key: &Key,
 ) -> Result<Asked<'p>, DeskError>
-    ensures asked { AnswersFromStoreUnder S.Store (HoldsTables S.Store) store.old store.new refusal_reason result
+    ensures asked { AnswersFromStoreUnder S.ArchiveState (HoldsTables S.ArchiveState) store.old store.new refusal_reason result
         (λ a. missing_list_reason a ask.entry.now)
         (λ a answer. spec_asked answer ≡ asked_of_message ask.entry.now reader.now
         (message_of a ask.entry.now.list key.now)
         × (AreWithheldCoherent a kept.old.withheld → AreWithheldCoherent a kept.new.withheld)) }
     ensures same { IfErr result (λ _. kept.new ≡ kept.old) }
     ensures rest { ChangesOnlyWithheld kept.old kept.new }
-    ensures ends { EndsDeskCall S.Store store.old store.new IsAskFault result
+    ensures ends { EndsDeskCall S.ArchiveState store.old store.new IsAskFault result
         (λ a. IsMessageUnreadable a ask.entry.now key.now) }
-    ensures writes_nothing { WritesNothing S.Store store.old store.new }
+    ensures writes_nothing { WritesNothing S.ArchiveState store.old store.new }
 {
     if asks_author(ask, reader) || kept.find_line(ask.list, reader, key).is_some() {
         return read_message(store, alloc, ask, reader, key);
@@ -108,20 +108,20 @@ fn judge_message<'p, S: Alter>(
 }
 
 /// What a reader of these marks gets who asks for a message, which is read.
-fn read_message<'p, S: Alter>(
-    store: &mut Store<S>,
+fn read_message<'p, S: ArchiveStore>(
+    store: &mut S,
     alloc: Global,
     ask: &Ask<'p>,
     reader: &ReaderFacts,
     key: &Key,
 ) -> Result<Asked<'p>, DeskError>
-    ensures asked { AnswersFromStoreUnder S.Store (HoldsTables S.Store) store.old store.new refusal_reason result
+    ensures asked { AnswersFromStoreUnder S.ArchiveState (HoldsTables S.ArchiveState) store.old store.new refusal_reason result
         (λ a. missing_list_reason a ask.entry.now)
         (λ a answer. spec_asked answer ≡ asked_of_message ask.entry.now reader.now
         (message_of a ask.entry.now.list key.now)) }
-    ensures ends { EndsDeskCall S.Store store.old store.new IsAskFault result
+    ensures ends { EndsDeskCall S.ArchiveState store.old store.new IsAskFault result
         (λ a. IsMessageUnreadable a ask.entry.now key.now) }
-    ensures writes_nothing { WritesNothing S.Store store.old store.new }
+    ensures writes_nothing { WritesNothing S.ArchiveState store.old store.new }
 {
     let held = match find_row(store, ask, key) {
         Ok(held) => held,
@@ -130,7 +130,7 @@ fn read_message<'p, S: Alter>(
     match lookup_message(alloc, ask, reader, &held) {
         Ok(answer) => Ok(answer),
         Err(refused) => {
-            store.wants.increment(refused.into());
+            store.count_refusal(refused.into());
             Err(DeskError::Memory)
         }
     }

@@ -1,42 +1,42 @@
 -- The commands of the words, from those of the store.
-use Rattle.std.proofs.Common.{◌≡◌, refl, sym, ap, ◌∙◌, inl, inr, subst, Bool, true, false, List, [], ◌∷◌, cond, Option, Some, None, Result, Ok, Err}
-use Rattle.std.specs.Prelude.{option_map, if◌then◌else◌}
-use Rattle.sqlite.specs.Store.{Ghosts}
+use Rattle.std.proofs.Common.{◌≡◌, refl, sym, ap, ◌∙◌, subst, Bool, true, false, List, [], ◌∷◌, cond, Option, Some, None, Result, Ok, Err}
+use Rattle.std.specs.Prelude.{⊤, option_map, if◌then◌else◌}
+use Rattle.archive_port.specs.declared.state.ArchiveState.{Ghosts}
 use Rattle.archive_model.specs.Records.{Archive}
 use Rattle.archive_model.specs.Commands as machine
 use Rattle.archive_model.specs.Commands.{CommandReply, refused, no_message}
 use Rattle.archive_model.specs.Machine.{StepOutcome, GuardedReply, command_facts_of, guarded_replies_of, archive_changed_by, reply_if_carried_out, outcome_unless_guarded, step, refuse}
 use Rattle.archive_model.specs.declared.found.CommandFacts.{CommandFacts}
 use Rattle.archive_port.specs.Commands.{reply_unless_refused}
-use Rattle.archive_store.specs.Carrying.{ExecutesAndReturnsFacts as StoreCarries}
-use Rattle.archive_store.proofs.CarryLemmas.{is_carried}
+use Rattle.archive_port.specs.Commands.{ExecutesCommand}
 use Rattle.archive_model.specs.Sound.{IsIndexedCorrectly}
-use Rattle.sqlite.specs.Effect.{Database}
-use Rattle.sqlite.specs.Held.{state}
-use Rattle.archive_tables.specs.Tables.{archive_in_trees, archive_of}
-use Rattle.archive_store.specs.Crashes.{CrashSteps}
-use Rattle.archive_store.specs.Held.{store_connection}
-use Rattle.archive_store.specs.Refusals.{IsExecutedReply, IsCommandRefused}
-use Rattle.archive_store.specs.Told.{StaysOpenUnlessDiskFails}
+use Rattle.archive_port.specs.Crashes.{CrashSteps}
+use Rattle.archive_port.specs.Told.{StaysOpenUnlessDiskFails, PerformsModelStep}
 use Rattle.archive_port.specs.Replies.{refusal_of_fault}
-use Rattle.archive_store.specs.Replies.{PerformsModelStep}
-use Rattle.archive_store.specs.declared.store.Store.{Store}
 use Rattle.archive_port.specs.declared.faults.StoreFault.{StoreFault}
-use Rattle.archive_port.specs.declared.faults.StoreFault.TheVariants.{NoMessage}
-use Rattle.archive_store.proofs.Joins.{stepped as store_stepped, step_failed, stays_there, goes_as, calls_refused, calls_failed}
-use Rattle.archive_store.proofs.RightLemmas.{step_right}
+use Rattle.archive_port.proofs.Joins.{stepped as store_stepped, step_failed, goes_as, calls_refused, calls_failed}
+use Rattle.archive_port.proofs.RightLemmas.{step_right}
 use Rattle.archive_args.specs.Values.{StoreCommand}
-use Rattle.archive_commands.specs.Commands.{RowsRefuseCommand, answer_to, has_valid_key, command_outcome, model_command}
-use Rattle.archive_commands.specs.Working.{CarriesOutCommand, EndsStoreCommand}
+use Rattle.archive_commands.specs.Commands.{answer_to, has_valid_key, command_outcome, model_command}
+use Rattle.archive_commands.specs.Working.{CarriesOutCommand}
 use Rattle.archive_commands.specs.declared.commands.Answer.{Answer}
 
 -- ---- a refusal leaves the archive
 
+abbrev IsNoRefusal : CommandReply → Type 0
+IsNoRefusal (refused why) = ⊥
+IsNoRefusal _ = ⊤
+
+-- a command that no test answers is carried out
+is_carried : (command : machine.Command) (found : CommandFacts) → IsNoRefusal (reply_if_carried_out command found)
+is_carried (machine.revoke person list rank) found = tt
+is_carried command found = tt
+
 abbrev Stays : Archive → StepOutcome → Type 0
 Stays a outcome = (why : machine.Refusal) → outcome.1 ≡ refused why → outcome.0 ≡ a
 
-unless_stays : (a : Archive) (tests : List GuardedReply) (made : StepOutcome) → IsExecutedReply made.1 → Stays a (outcome_unless_guarded a tests made)
-unless_stays a [] made carried why e = absurd (subst IsExecutedReply e carried)
+unless_stays : (a : Archive) (tests : List GuardedReply) (made : StepOutcome) → IsNoRefusal made.1 → Stays a (outcome_unless_guarded a tests made)
+unless_stays a [] made carried why e = absurd (subst IsNoRefusal e carried)
 unless_stays a (test ∷ tests) made carried why e = by_test test.0 (unless_stays a tests made carried) why e
   where
     by_test : (t : Bool) → Stays a (outcome_unless_guarded a tests made) → Stays a (if t then (a, test.1) else outcome_unless_guarded a tests made)
@@ -66,24 +66,24 @@ stepped_right command a right = by_test (has_valid_key command)
 
 -- ---- a step of the store
 
-module _ {S : Type 0} (g : Ghosts S) (old new : Store S) (command : StoreCommand) (is : has_valid_key command ≡ true) (lasts : StaysOpenUnlessDiskFails g old new) where
+module _ {S W : Type 0} (g : Ghosts S W) (old new : S) (command : StoreCommand) (is : has_valid_key command ≡ true) (lasts : StaysOpenUnlessDiskFails g old new) where
   abbrev DoesReply : Option CommandReply → Type 0
-  DoesReply reply = PerformsModelStep g (store_connection old) (store_connection new) (λ a. command_outcome a command) reply
+  DoesReply reply = PerformsModelStep g old new (λ a. command_outcome a command) reply
 
   -- the store carried it out
   abbrev Done : Result CommandFacts StoreFault → Type 0
-  Done result = StoreCarries g old new (model_command command) result
+  Done result = ExecutesCommand g old new (model_command command) result
 
   -- the step is the machine's
   abbrev DoesTold : Option CommandReply → Type 0
-  DoesTold reply = PerformsModelStep g (store_connection old) (store_connection new) (λ a. step a (model_command command)) reply
+  DoesTold reply = PerformsModelStep g old new (λ a. step a (model_command command)) reply
 
   does_told : (reply : Option CommandReply) → DoesTold reply → DoesReply reply
   does_told None does = does
   does_told (Some reply) does =
       λ returned kept.
       let it = does returned kept in
-      let a = archive_of (state g (store_connection old)) in
+      let a = g.archive old in
       (it.0, it.1 ∙ ap (λ t. cond t (step a (model_command command)) (refuse a no_message)) (sym is))
 
   -- it is refused, or memory or the database was at fault
@@ -115,7 +115,7 @@ module _ {S : Type 0} (g : Ghosts S) (old new : Store S) (command : StoreCommand
       (does_told (Some (reply_unless_refused (model_command command) found)) did.performs_step)
 
   -- what a crash leaves of it
-  pub crash_carries : CrashSteps g (store_connection old) (store_connection new) (λ a. step a (model_command command))
-      → CrashSteps g (store_connection old) (store_connection new) (λ a. command_outcome a command)
+  pub crash_carries : CrashSteps g old new (λ a. step a (model_command command))
+      → CrashSteps g old new (λ a. command_outcome a command)
   crash_carries crash =
-      subst (λ t. CrashSteps g (store_connection old) (store_connection new) (λ a. cond t (step a (model_command command)) (refuse a no_message))) (sym is) crash
+      subst (λ t. CrashSteps g old new (λ a. cond t (step a (model_command command)) (refuse a no_message))) (sym is) crash

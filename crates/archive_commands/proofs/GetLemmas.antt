@@ -2,12 +2,11 @@
 use Rattle.std.proofs.Common.{◌≡◌, refl, sym, ap, ◌∙◌, ℕ, true, false, List, cond, Option, Some, None, Ok, Err}
 use Rattle.std.specs.Prelude.{option_map, Vec, MatchOption}
 use Rattle.std.specs.declared.alloc.Global.{Global}
-use Rattle.sqlite.specs.Store.{Ghosts}
+use Rattle.archive_port.specs.declared.state.ArchiveState.{Ghosts}
 use Rattle.archive_model.specs.Records.{Archive}
 use Rattle.archive_model.specs.Keys.{is_key}
-use Rattle.archive_store.specs.Told.{HoldsTables}
-use Rattle.archive_store.specs.declared.store.Store.{Store}
-use Rattle.archive_store.proofs.Joins.{stays_there_in, goes_in_as}
+use Rattle.archive_port.specs.Told.{HoldsTables}
+use Rattle.archive_port.proofs.Joins.{stays_there_in, goes_in_as}
 use Rattle.archive_results.specs.Access.{Ask, Asked, served, asked_for_key, spec_asked}
 use Rattle.archive_results.specs.declared.asking.Asked.{Asked as Answer}
 use Rattle.archive_desk.specs.Faults.{RefusalReason, refusal_reason, ask_reason}
@@ -18,7 +17,7 @@ use Rattle.archive_commands.specs.Working.{GetsMessage}
 use Rattle.archive_commands.specs.declared.getting.GetError.{GetError}
 use Rattle.archive_commands.specs.declared.getting.GetError.TheVariants.{Fault, NoMessage}
 
-module _ {S : Type 0} (g : Ghosts S) (old new : Store S) (ask : Ask) (key : List ℕ) where
+module _ {S W : Type 0} (g : Ghosts S W) (old new : S) (ask : Ask) (key : List ℕ) where
   -- what is got where the key is one and the question is not refused
   got_answered : (a : Archive) (answer : Asked) → is_key key ≡ true → ask_reason a ask ≡ None → answer ≡ asked_for_key a ask key → message_or_refusal a ask key ≡ get_result_of answer
   got_answered a answer is fine says =
@@ -73,7 +72,7 @@ module _ {S : Type 0} (g : Ghosts S) (old new : Store S) (ask : Ask) (key : List
             (λ a b h. (h.0, got_refused a why is h.1)) goes)
 
   -- nothing is asked where the key is none
-  pub gets_no_key : (store : Store S) → is_key key ≡ false → GetsMessage g store store ask key (Err NoMessage)
+  pub gets_no_key : (store : S) → is_key key ≡ false → GetsMessage g store store ask key (Err NoMessage)
   gets_no_key store is =
       goes_in_as g (HoldsTables g) store store (λ a b. b ≡ a) (λ a b. (b ≡ a) × (message_or_refusal a ask key ≡ Err no_message))
       (λ a b h. (h, ap (λ t. cond t (get_result_unless_refused (ask_reason a ask) (get_result_of (asked_for_key a ask key))) (Err no_message)) is))

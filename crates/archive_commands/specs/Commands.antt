@@ -1,12 +1,11 @@
 -- What the commands of the words do to the archive, and the word that answers each.
 use Rattle.std.specs.Prelude.{◌≡◌, ℕ, Bool, true, false, List, codes, Option, Some, None, if◌then◌else◌}
-use Rattle.sqlite.specs.Effect.{Database}
 use Rattle.archive_model.specs.Records.{Archive}
 use Rattle.archive_model.specs.Commands as machine
 use Rattle.archive_model.specs.Keys.{is_key}
 use Rattle.archive_model.specs.Machine.{StepOutcome, refuse, step}
 use Rattle.policy_core.specs.Numbers.{grant_kind_rank, withdrawn_by_number}
-use Rattle.archive_store.specs.Refusals.{IsWriteRefused, RowsRefuse}
+use Rattle.archive_port.specs.declared.state.ArchiveState.{Ghosts}
 use Rattle.archive_args.specs.Values.{StoreCommand, list_add, merge, person_add, person_address, grant, revoke, withdraw, restore, embargo, lift}
 use Rattle.archive_commands.specs.declared.commands.Answer.{Answer}
 use Rattle.archive_commands.specs.declared.commands.Answer.TheVariants.{Added, Merging, AddressSet, Granted, Revoked, NoGrant, Withdrawn, Restored, Embargoed, Lifted, NoEmbargo}
@@ -55,9 +54,9 @@ StandsForModelCommand command (Some it) = (has_valid_key command ≡ true) × (i
 abbrev pub command_outcome : Archive → StoreCommand → StepOutcome
 command_outcome archive command = if has_valid_key command then step archive (model_command command) else refuse archive machine.no_message
 
--- the machine carries it out, and the rows refuse what it writes
-abbrev pub RowsRefuseCommand : StoreCommand → Database → Type 0
-RowsRefuseCommand command = RowsRefuse (λ a. command_outcome a command) (IsWriteRefused (model_command command))
+-- what is held refuses what it writes, which the machine carries out
+abbrev pub RefusesCommand : {S W : Type 0} → Ghosts S W → StoreCommand → S → Type 0
+RefusesCommand g command store = (has_valid_key command ≡ true) × g.refuses store (model_command command)
 
 -- ---- the answer in a word
 

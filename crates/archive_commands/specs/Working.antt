@@ -1,14 +1,11 @@
 -- What becomes of an open store by each order.
 use Rattle.std.specs.Prelude.{◌≡◌, ◌⊎◌, ◌++◌, ℕ, List, Some, None, Result, Ok, Err, Vec, IfErr, length, min, ◌^◌, ◌-◌}
 use Rattle.std.specs.declared.alloc.Global.{Global}
-use Rattle.sqlite.specs.Store.{Ghosts}
-use Rattle.sqlite.specs.Held.{state}
+use Rattle.archive_port.specs.declared.state.ArchiveState.{Ghosts}
 use Rattle.archive_model.specs.Commands.{refused}
-use Rattle.archive_store.specs.Held.{store_connection}
 use Rattle.archive_port.specs.Replies.{refusal_of_fault}
-use Rattle.archive_store.specs.Told.{CallsReadyStore, CountsRefusals, DiskHasFailed, HasNoStepLimit, StoreHasCleanDisk, HoldsTables}
+use Rattle.archive_port.specs.Told.{CallsReadyStore, CountsRefusals, DiskHasFailed, HasNoStepLimit, StoreHasCleanDisk, HoldsTables}
 use Rattle.archive_port.specs.Wanting.{IsMemoryRefusal}
-use Rattle.archive_store.specs.declared.store.Store.{Store}
 use Rattle.archive_port.specs.declared.faults.StoreFault.{StoreFault}
 use Rattle.archive_port.specs.declared.faults.StoreFault.TheVariants as faults
 use Rattle.archive_results.specs.Access.{Ask}
@@ -18,12 +15,12 @@ use Rattle.archive_desk.specs.Faults.{ask_reason}
 use Rattle.archive_desk.specs.Holding.{CallsStoreWithTables}
 use Rattle.archive_desk.specs.declared.exporting.ExportStop.{ExportStop}
 use Rattle.archive_args.specs.Values.{StoreCommand}
-use Rattle.archive_commands.specs.Commands.{RowsRefuseCommand, answer_to, command_outcome}
+use Rattle.archive_commands.specs.Commands.{RefusesCommand, answer_to, command_outcome}
 use Rattle.archive_commands.specs.Getting.{IsGetDatabaseFault, IsGetMemoryRefusal, IsGetUnreadable, message_or_refusal, get_refusal_of}
 use Rattle.archive_commands.specs.declared.commands.Answer.{Answer}
 use Rattle.archive_commands.specs.declared.getting.GetError.{GetError}
 
-module _ {S : Type 0} (g : Ghosts S) (old new : Store S) where
+module _ {S W : Type 0} (g : Ghosts S W) (old new : S) where
   -- A command: the archive takes the command's step, and the answer is its word; a refusal is the step's and leaves the
   -- archive, and so does a fault of memory or of the database, if the connection is still open.
   abbrev pub CarriesOutCommand : StoreCommand → Result Answer StoreFault → Type 0
@@ -49,10 +46,10 @@ module _ {S : Type 0} (g : Ghosts S) (old new : Store S) where
   -- ---- why the database was at fault, and memory
 
   -- Why a command is E15: where the disk has returned what was written to it, the tables are an archive's and no limit is set on the
-  -- steps of a query, the disk failed in that call, or the rows which were there refuse what the machine carries out.
+  -- steps of a query, the disk failed in that call, or what was held refuses what the machine carries out.
   abbrev pub HasCommandErrorCause : StoreCommand → Type 0
   HasCommandErrorCause command = StoreHasCleanDisk g new → HoldsTables g old → HasNoStepLimit g old
-      → DiskHasFailed g old new ⊎ RowsRefuseCommand command (state g (store_connection old)).now
+      → DiskHasFailed g old new ⊎ RefusesCommand g command old
 
   -- Why a question for a message is G4 with E15: the disk failed, or what is asked for cannot be read.
   abbrev pub HasGetErrorCause : Ask → (key : List ℕ) → Type 0
@@ -60,15 +57,15 @@ module _ {S : Type 0} (g : Ghosts S) (old new : Store S) where
 
 -- How an order ends over an open store, by which faults are a want of memory and which say that the database broke: why it did, and
 -- that want of memory is counted.
-pub record EndsStoreOrder {S F : Type 0} (old new : Store S) (IsMemoryRefusal IsBroken : F → Type 0) (Cause : Type 0) {A : Type 0} (result : Result A F) : Type 0 where
+pub record EndsStoreOrder {S W F : Type 0} (g : Ghosts S W) (old new : S) (IsMemoryRefusal IsBroken : F → Type 0) (Cause : Type 0) {A : Type 0} (result : Result A F) : Type 0 where
   pub fault_has_cause : IfErr result (λ fault. IsBroken fault → Cause)
-  pub refusals_counted : CountsRefusals IsMemoryRefusal old new result
+  pub refusals_counted : CountsRefusals g IsMemoryRefusal old new result
 
-module _ {S : Type 0} (g : Ghosts S) (old new : Store S) where
+module _ {S W : Type 0} (g : Ghosts S W) (old new : S) where
   -- How a command ends: E15 has its cause, and want of memory is counted.
   abbrev pub EndsStoreCommand : StoreCommand → Result Answer StoreFault → Type 0
-  EndsStoreCommand command result = EndsStoreOrder old new IsMemoryRefusal (λ fault. fault ≡ faults.Store) (HasCommandErrorCause g old new command) result
+  EndsStoreCommand command result = EndsStoreOrder g old new IsMemoryRefusal (λ fault. fault ≡ faults.Store) (HasCommandErrorCause g old new command) result
 
   -- How a question for a message ends: G4 with E15 has its cause, and want of memory is counted.
   abbrev pub EndsGet : Ask → (key : List ℕ) → Result (Vec ℕ Global) GetError → Type 0
-  EndsGet ask key result = EndsStoreOrder old new IsGetMemoryRefusal IsGetDatabaseFault (HasGetErrorCause g old new ask key) result
+  EndsGet ask key result = EndsStoreOrder g old new IsGetMemoryRefusal IsGetDatabaseFault (HasGetErrorCause g old new ask key) result

@@ -1,15 +1,13 @@
 //! The commands over the tables.
 ghost use Rattle.std.specs.Prelude.{◌≡◌, Some, option_map};
 ghost use Rattle.archive_port.specs.Commands.{reply_unless_refused, spec_command as stored};
-ghost use Rattle.archive_store.specs.Crashes.{CrashSteps};
-ghost use Rattle.archive_store.specs.Held.{store_connection};
+ghost use Rattle.archive_port.specs.Crashes.{CrashSteps};
 ghost use Rattle.archive_args.specs.Values.{store_command_of};
 ghost use Rattle.archive_commands.specs.Commands.{StandsForModelCommand, answer_to, command_outcome, model_command, valid_key};
 ghost use Rattle.archive_commands.specs.Working.{CarriesOutCommand, EndsStoreCommand};
 
 use archive_args::StoreCommand;
-use archive_store::{Command, CommandFacts, Key, Store, StoreFault};
-use sqlite::Alter;
+use archive_port::{ArchiveStore, Command, CommandFacts, Key, StoreFault};
 use std::alloc::Global;
 
 /// The word that answers a command.
@@ -58,15 +56,15 @@ impl Answer {
 
 /// Carries out a command. It is refused as the call of `Store` of its name is, and with E8 where it has a key that is none,
 /// before anything else.
-pub fn carry_out<S: Alter>(
-    store: &mut Store<S>,
+pub fn carry_out<S: ArchiveStore>(
+    store: &mut S,
     alloc: Global,
     words: &StoreCommand<'_>,
 ) -> Result<Answer, StoreFault>
-    ensures carried { CarriesOutCommand S.Store store.old store.new (store_command_of words.now) result }
-    ensures crash { CrashSteps S.Store (store_connection store.old) (store_connection store.new)
+    ensures carried { CarriesOutCommand S.ArchiveState store.old store.new (store_command_of words.now) result }
+    ensures crash { CrashSteps S.ArchiveState store.old store.new
         (λ a. command_outcome a (store_command_of words.now)) }
-    ensures ends { EndsStoreCommand S.Store store.old store.new (store_command_of words.now) result }
+    ensures ends { EndsStoreCommand S.ArchiveState store.old store.new (store_command_of words.now) result }
 {
     let key = read_key(words);
     let Some(command) = told(alloc, words, &key) else {

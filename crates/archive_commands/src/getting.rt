@@ -1,11 +1,10 @@
 //! One message, asked for by its list and its key.
-ghost use Rattle.archive_store.specs.Told.{WritesNothing};
+ghost use Rattle.archive_port.specs.Crashes.{WritesNothing};
 ghost use Rattle.archive_commands.specs.Working.{EndsGet, GetsMessage};
 
 use archive_desk::{DeskError, message};
+use archive_port::{ArchiveStore, Key};
 use archive_results::{Ask, Asked};
-use archive_store::{Key, Store};
-use sqlite::Alter;
 use std::alloc::Global;
 
 /// Why a message is not given.
@@ -21,15 +20,15 @@ pub enum GetError<'p> {
 
 /// The whole text of a message, as far as the policy lets the reader see it on the day. E8 where the key is none, before
 /// G1 and G2; E8 also where the list does not hold it.
-pub fn get<'p, S: Alter>(
-    store: &mut Store<S>,
+pub fn get<'p, S: ArchiveStore>(
+    store: &mut S,
     alloc: Global,
     ask: &Ask<'p>,
     key: &str,
 ) -> Result<Vec<u8>, GetError<'p>>
-    ensures got { GetsMessage S.Store store.old store.new ask.entry.now key.now result }
-    ensures ends { EndsGet S.Store store.old store.new ask.entry.now key.now result }
-    ensures writes_nothing { WritesNothing S.Store store.old store.new }
+    ensures got { GetsMessage S.ArchiveState store.old store.new ask.entry.now key.now result }
+    ensures ends { EndsGet S.ArchiveState store.old store.new ask.entry.now key.now result }
+    ensures writes_nothing { WritesNothing S.ArchiveState store.old store.new }
 {
     let Some(key) = Key::read(key) else {
         return Err(GetError::NoMessage);

@@ -1,5 +1,5 @@
 -- Worked examples of replies to requests.
-use Rattle.std.proofs.Common.{◌≡◌, ℕ, pos, List, [], ◌∷◌, Some, None, false, refl, codes}
+use Rattle.std.proofs.Common.{◌≡◌, ℕ, pos, List, [], ◌∷◌, None, false, refl, codes}
 use Rattle.std.specs.Fmt.{digits}
 use Rattle.httparse.specs.Grammar.{RequestHead, Field, crlf, trim_ows}
 use Rattle.policy_core.specs.Rules.{standings, withdrawn, Rule, open_rule}

@@ -4,23 +4,16 @@ use Rattle.std.specs.Prelude.{◌≢◌, ◌||◌, option_map, slice_get, if◌t
 use Rattle.std.specs.List.{list_any}
 use Rattle.std.specs.Option.{IsSomeAnd, option_map_or}
 use Rattle.std.proofs.lemmas.Slice.Eq.{bytes_eq-Decides}
-use Rattle.sqlite.specs.Store.{Ghosts}
-use Rattle.sqlite.specs.Steps.{over_memory}
-use Rattle.sqlite.proofs.Callers.{memory_is_clean}
-use Rattle.sqlite_disk.specs.Disk.{MoreFaults}
-use Rattle.sqlite_trees.specs.declared.memory.MemStore.{MemStore}
+use Rattle.archive_port.specs.declared.state.ArchiveState.{Ghosts}
+use Rattle.archive_port.specs.Told.{memory_refusal_count}
 use Rattle.policy_core.specs.Rules.{Rule}
 use Rattle.archive_model.specs.Records.{Archive, Person}
-use Rattle.archive_model.specs.Commands.{Refusal}
 use Rattle.archive_model.specs.Questions.{has_list, has_person, person_of_token}
-use Rattle.sqlite.specs.Held.{state}
-use Rattle.archive_store.specs.Held.{store_connection, memory_refusal_count}
-use Rattle.archive_store.proofs.CauseLemmas.{more_since}
+use Rattle.archive_port.proofs.LastLemmas.{more_since, more_before}
 use Rattle.archive_port.specs.Replies.{IsRefusedOnlyFor, refusal_of_fault}
-use Rattle.archive_store.specs.Told.{E15MeansDiskFailedOr as StoreCausedOr, CountsRefusals, DiskHasFailed, HasNoStepLimit, HoldsTables, StaysOpenUnlessDiskFails, MemoryWasRefused, archive_in}
+use Rattle.archive_port.specs.Told.{E15MeansDiskFailedOr as StoreCausedOr, CountsRefusals, DiskHasFailed, StaysOpenUnlessDiskFails, MemoryWasRefused, archive_in}
 use Rattle.archive_desk.specs.Holding.{RelatesTableArchives, RelatesTableArchivesIfOpen}
 use Rattle.archive_port.specs.Wanting.{IsMemoryRefusal}
-use Rattle.archive_store.specs.declared.store.Store.{Store}
 use Rattle.archive_port.specs.declared.faults.StoreFault.{StoreFault}
 use Rattle.archive_port.specs.declared.faults.StoreFault.TheVariants as faults
 use Rattle.archive_results.specs.Access.{Ask, no_list, no_person}
@@ -138,19 +131,19 @@ other_status P before after (Err Read) other sent it = absurd it
 other_status P before after (Err (Write written)) other sent it = absurd it
 other_status P before after (Err (Broken written)) other sent it = absurd sent.2
 
-module _ {S : Type 0} (g : Ghosts S) where
+module _ {S W : Type 0} (g : Ghosts S W) where
   -- ---- a cause of which more is known
 
-  pub cause_as : (old new : Store S) (P Q : Archive → Type 0) → ((a : Archive) → P a → Q a) → Has503Cause g old new P → Has503Cause g old new Q
+  pub cause_as : (old new : S) (P Q : Archive → Type 0) → ((a : Archive) → P a → Q a) → Has503Cause g old new P → Has503Cause g old new Q
   cause_as old new P Q implies it = elim it [
     | inl more ↦ inl more
     | inr why ↦ inr (λ returned held free. elim (why returned held free) [ inl more ↦ inl more | inr bad ↦ inr (implies _ bad) ])
   ]
 
-  pub serves_or_as : (old new : Store S) (result : Result ℕ ServeFault) (P Q : Archive → Type 0) → ((a : Archive) → P a → Q a) → ServesOr503 g old new result P → ServesOr503 g old new result Q
+  pub serves_or_as : (old new : S) (result : Result ℕ ServeFault) (P Q : Archive → Type 0) → ((a : Archive) → P a → Q a) → ServesOr503 g old new result P → ServesOr503 g old new result Q
   serves_or_as old new result P Q implies it = (it.0, λ bad. cause_as old new P Q implies (it.1 bad))
 
-  module _ (old new : Store S) where
+  module _ (old new : S) where
     -- ---- of a fault of the store
 
     of_store : (fault : StoreFault) (Unread : Archive → Type 0) → fault ≡ faults.Store → StoreCausedOr g old new {A = Unit {0}} (Err fault) Unread → Has503Cause g old new Unread
@@ -158,7 +151,7 @@ module _ {S : Type 0} (g : Ghosts S) where
 
     -- none of a question that is never refused
     pub store_unfound : (fault : StoreFault) (Unread : Archive → Type 0) → IsRefusedOnlyFor {A = Unit {0}} (Err fault) []
-        → CountsRefusals {A = Unit {0}} IsMemoryRefusal old new (Err fault) → StoreCausedOr g old new {A = Unit {0}} (Err fault) Unread → Has503Cause g old new Unread
+        → CountsRefusals g {A = Unit {0}} IsMemoryRefusal old new (Err fault) → StoreCausedOr g old new {A = Unit {0}} (Err fault) Unread → Has503Cause g old new Unread
     store_unfound faults.Memory Unread kind counts why = inl (counts.1 refl)
     store_unfound faults.Store Unread kind counts why = of_store faults.Store Unread refl why
     store_unfound faults.BadName Unread kind counts why = absurd kind
@@ -185,7 +178,7 @@ module _ {S : Type 0} (g : Ghosts S) where
       unasked goes = inr (λ returned held free. inr (inr (stranger (archive_in g old) ask (goes.1 returned held).1.1)))
 
       -- of a refusal of the store, which carries no other than E14 and E15
-      by_store : (fault : StoreFault) → refusal_of_fault fault ≡ None → (IsDeskMemoryRefusal (desk.Store fault) → MemoryWasRefused old new)
+      by_store : (fault : StoreFault) → refusal_of_fault fault ≡ None → (IsDeskMemoryRefusal (desk.Store fault) → MemoryWasRefused g old new)
           → (IsDeskDatabaseFault (desk.Store fault) → HasCause g old new Unread) → Has503Cause g old new (IsUnreadableOrReaderUnknown Unread ask.reader)
       by_store faults.Memory none counts why = inl (counts (inr refl))
       by_store faults.Store none counts why = broken_desk (desk.Store faults.Store) refl why
@@ -203,7 +196,8 @@ module _ {S : Type 0} (g : Ghosts S) where
       by_store faults.ListFull none counts why = absurd (cc)
       by_store faults.TooLarge none counts why = absurd (cc)
 
-      pub desk_unfound : (fault : DeskError) → fault ≢ desk.NoList → IsAskFault fault → (IsDeskMemoryRefusal fault → MemoryWasRefused old new) → (IsDeskDatabaseFault fault → HasCause g old new Unread)
+      pub desk_unfound : (fault : DeskError) → fault ≢ desk.NoList → IsAskFault fault → (IsDeskMemoryRefusal fault → MemoryWasRefused g old new) →
+          (IsDeskDatabaseFault fault → HasCause g old new Unread)
           → MatchOption (refusal_reason fault) (RelatesTableArchivesIfOpen g old new (λ a b. b ≡ a)) (λ why. RelatesTableArchives g old new (λ a b. (b ≡ a) × (ask_reason a ask ≡ Some why)))
           → Has503Cause g old new (IsUnreadableOrReaderUnknown Unread ask.reader)
       desk_unfound desk.NoList other kind counts why asks = absurd (other refl)
@@ -215,7 +209,7 @@ module _ {S : Type 0} (g : Ghosts S) where
 
       -- an mbox that stopped for no writer
       pub mbox_unserved : (before after : List ℕ) (failed fails written : ℕ) (fault : DeskError) → fault ≢ desk.Write → IsWalkStop before after failed fails written fault
-          → (IsDeskMemoryRefusal fault → MemoryWasRefused old new) → (IsDeskDatabaseFault fault → HasCause g old new Unread) → Has503Cause g old new (IsUnreadableOrReaderUnknown Unread ask.reader)
+          → (IsDeskMemoryRefusal fault → MemoryWasRefused g old new) → (IsDeskDatabaseFault fault → HasCause g old new Unread) → Has503Cause g old new (IsUnreadableOrReaderUnknown Unread ask.reader)
       mbox_unserved before after failed fails written desk.NoList other stop counts why = absurd stop
       mbox_unserved before after failed fails written desk.NoPerson other stop counts why = absurd stop
       mbox_unserved before after failed fails written desk.NotInView other stop counts why = absurd stop
@@ -225,22 +219,25 @@ module _ {S : Type 0} (g : Ghosts S) where
 
   -- ---- a reply of what was found
 
-  module _ (old mid : Store S) (wants : ℕ) (result : Result ℕ ServeFault) (Unread : Archive → Type 0) where
+  module _ (old mid new : S) (lasts : StaysOpenUnlessDiskFails g mid new) (result : Result ℕ ServeFault) (Unread : Archive → Type 0) where
     pub found_served : {A F : Type 0} (found : Result A F) (made : A → Reply) → FindsOrHasCause g old mid found Unread → IfOk found (λ x. (made x).status ≢ 503)
-        → MatchResult found (λ x. SendsOr503 (memory_refusal_count mid) wants (made x) result) (λ _. memory_refusal_count mid ≤ wants)
-        → ServesOr503 g old (record mid { wants = wants }) result Unread
+        → MatchResult found (λ x. SendsOr503 (memory_refusal_count g mid) (memory_refusal_count g new) (made x) result) (λ _. memory_refusal_count g mid ≤ memory_refusal_count g new)
+        → ServesOr503 g old new result Unread
     found_served (Ok x) made finds other sends = (
       omega (arith, finds.0, sends.0),
       (λ bad. elim (sends.1 bad) [ inl more ↦ inl (omega (arith, finds.0, more)) | inr is ↦ absurd (other is) ]),
     )
     found_served (Err e) made finds other sends = (
       omega (arith, finds.0, sends),
-      (λ bad. elim finds.1 [ inl more ↦ inl (omega (arith, more, sends)) | inr why ↦ inr why ]),
+      (λ bad. elim finds.1 [
+        | inl more ↦ inl (omega (arith, more, sends))
+        | inr why ↦ inr (λ returned held free. elim (why (lasts.disk_was_clean returned) held free) [ inl more ↦ inl (more_before g old mid new lasts more) | inr bad ↦ inr bad ])
+      ]),
     )
 
   -- ---- behind a question
 
-  module _ (old mid new : Store S) (P : Archive → Type 0) (first : RelatesTableArchives g old mid (λ a b. (b ≡ a) × P a)) (grows : memory_refusal_count old ≤ memory_refusal_count mid)
+  module _ (old mid new : S) (P : Archive → Type 0) (first : RelatesTableArchives g old mid (λ a b. (b ≡ a) × P a)) (grows : memory_refusal_count g old ≤ memory_refusal_count g mid)
       (last : StaysOpenUnlessDiskFails g mid new) where
     pub served_after : (result : Result ℕ ServeFault) (Unread Unread' : Archive → Type 0) → ((a : Archive) → P a → Unread a → Unread' a) → ServesOr503 g mid new result Unread
         → ServesOr503 g old new result Unread'
@@ -250,7 +247,7 @@ module _ {S : Type 0} (g : Ghosts S) where
         | inl more ↦ inl (omega (arith, grows, more))
         | inr why ↦ inr (λ returned held free.
             let there = first.1 (last.disk_was_clean returned) held in
-            elim (why returned there.0 (first.0.step_limit_is_same ∙ free)) [
+            elim (why returned there.0 (first.0.sets_no_limit free)) [
               | inl more ↦ inl (failed_since more)
               | inr bad ↦ inr (implies _ there.1.1 (subst Unread there.1.0 bad))
             ])
@@ -258,16 +255,4 @@ module _ {S : Type 0} (g : Ghosts S) where
     )
       where
         failed_since : DiskHasFailed g mid new → DiskHasFailed g old new
-        failed_since more = more_since (state g (store_connection old)) (state g (store_connection mid)) (state g (store_connection new)) first.0 more
-
--- ---- in memory
-
-never_more : MoreFaults 0 0 → ⊥
-never_more more = absurd (omega (arith, more))
-
-pub memory_refused : (old new : Store MemStore) → HoldsTables over_memory old → HasNoStepLimit over_memory old → (Unread : Archive → Type 0) → ¬ Unread (archive_in over_memory old)
-    → Has503Cause over_memory old new Unread → MemoryWasRefused old new
-memory_refused old new held free Unread read it = elim it [
-  | inl more ↦ more
-  | inr why ↦ elim (why (memory_is_clean (store_connection new)) held free) [ inl more ↦ absurd (never_more more) | inr bad ↦ absurd (read bad) ]
-]
+        failed_since more = more_since g old mid new first.0 more

@@ -1,15 +1,14 @@
 -- What is answered to what was read of a request.
 use Rattle.std.proofs.Common.{◌≡◌, ◌≤◌, ◌<◌, ◌++◌, ◌⊎◌, inl, inr, ℕ, ℤ, List, [], length, Result, Ok, Err, refl, sym, subst, arith, append-nil}
 use Rattle.std.specs.Prelude.{IfErr, IfSome, OnOk}
-use Rattle.sqlite.specs.Store.{Ghosts}
+use Rattle.archive_port.specs.declared.state.ArchiveState.{Ghosts}
 use Rattle.httparse.specs.Grammar.{RequestHead}
 use Rattle.httparse.specs.Spans.{RequestExceeds}
 use Rattle.httparse.proofs.GrammarLemmas.{ReadsRequest-append}
 use Rattle.policy_core.specs.Rules.{Rule}
 use Rattle.archive_model.specs.Records.{Archive}
-use Rattle.archive_store.specs.declared.store.Store.{Store}
-use Rattle.archive_store.specs.Told.{HoldsTables}
-use Rattle.archive_store.proofs.Joins.{stays_there_in}
+use Rattle.archive_port.specs.Told.{HoldsTables}
+use Rattle.archive_port.proofs.Joins.{stays_there_in}
 use Rattle.archive_requests.specs.Asked.{model_request}
 use Rattle.archive_requests.specs.Heads.{BeginsWithHead}
 use Rattle.archive_requests.specs.Reading.{IsRequestOfGivenHead, IsRequestReadOfInput, IsRequestReadFinal}
@@ -31,8 +30,8 @@ whole_large request is = absurd (cc)
 bad_large : Malformed ≡ TooLarge → ⊥
 bad_large is = absurd (cc)
 
-module _ {S : Type 0} (g : Ghosts S) (rules : List Rule) (day : ℤ) (given all before after : List ℕ) (result : Result ℕ ServeFault) where
-  module _ (store : Store S) where
+module _ {S W : Type 0} (g : Ghosts S W) (rules : List Rule) (day : ℤ) (given all before after : List ℕ) (result : Result ℕ ServeFault) where
+  module _ (store : S) where
     pub to_bad : IsRequestReadOfInput given all Malformed → SendsReply (λ r. r ≡ bad_request) before after result → IsAnsweredFromStore g store store rules day given all before after result
     to_bad is sent = record {
       head = λ h begins. absurd (is.when_head h begins);
@@ -65,8 +64,8 @@ begins_still given more h it = record {
   at_most_64_fields = it.at_most_64_fields;
 }
 
-module _ {S : Type 0} (g : Ghosts S) (rules : List Rule) (day : ℤ) (given more before after : List ℕ) (result : Result ℕ ServeFault) where
-  pub to_whole : (old new : Store S) (request : Asked) → IsRequestReadOfInput given (given ++ more) (Whole request)
+module _ {S W : Type 0} (g : Ghosts S W) (rules : List Rule) (day : ℤ) (given more before after : List ℕ) (result : Result ℕ ServeFault) where
+  pub to_whole : (old new : S) (request : Asked) → IsRequestReadOfInput given (given ++ more) (Whole request)
       → ServesFromArchive g old new (λ a reply. reply ≡ request_reply a rules day (model_request request)) before after result
       → IfSome (pathless_reply (model_request request)) (λ wanted. SendsReply (λ reply. reply ≡ wanted) before after result)
       → IsAnsweredFromStore g old new rules day given (given ++ more) before after result

@@ -1,12 +1,15 @@
 -- What is found in a store and in what is kept of it, and then written.
-use Rattle.std.proofs.Common.{◌≡◌, inl, inr, ℕ, List, Result, Ok, Err, refl, sym, subst}
+use Rattle.std.proofs.Common.{◌≡◌, inl, inr, ℕ, ℤ, List, Result, Ok, Err, refl, sym, subst}
 use Rattle.std.specs.Prelude.{◌⊎◌, ⊤, MatchResult}
-use Rattle.sqlite.specs.Store.{Ghosts}
+use Rattle.archive_port.specs.declared.state.ArchiveState.{Ghosts}
 use Rattle.archive_model.specs.Records.{Archive}
-use Rattle.archive_store.specs.Told.{StoreHasCleanDisk, HoldsTables, StaysOpenUnlessDiskFails, archive_in}
+use Rattle.policy_core.specs.Rules.{Rule}
+use Rattle.archive_cache.specs.Coherence.{KeepsCacheCoherent}
+use Rattle.archive_cache.specs.Views.{CacheState}
+use Rattle.archive_port.specs.Told.{StoreHasCleanDisk, HoldsTables, StaysOpenUnlessDiskFails, archive_in, LeavesArchive}
+use Rattle.archive_port.proofs.LastLemmas.{left_relates, left_relates_if_open}
 use Rattle.archive_desk.specs.Holding.{RelatesTableArchives}
-use Rattle.archive_store.specs.declared.store.Store.{Store}
-use Rattle.archive_store.proofs.Joins.{goes_in_as}
+use Rattle.archive_port.proofs.Joins.{goes_in_as}
 use Rattle.archive_pages.specs.Replies.{Reply, SendsReply, BreaksOffMbox, IsReplyOr503, unavailable}
 use Rattle.archive_pages.specs.Serving.{IsTrueOfEveryArchive, SendsFromArchive, ServesFromArchive, StoreKeepsArchive}
 use Rattle.archive_pages.specs.KeptServing.{IsTrueOfRememberedArchive, FindsInArchiveIf, ServesFromArchiveIf}
@@ -16,15 +19,15 @@ use Rattle.archive_pages.specs.declared.pages.Pages.{Pages}
 use Rattle.archive_pages.proofs.ServingLemmas.{sends_as, broken_as, breaks_as, found_sent, of_shut_when, sent_after, serves_lasts, serves_none, stays_served}
 
 -- pages that nothing was done to
-pub keeps_still : {S T : Type 0} (g : Ghosts S) (old new : Store S) (pages : Pages T) → ChangesOnlyPagesCache g old new pages pages
+pub keeps_still : {S W T : Type 0} (g : Ghosts S W) (old new : S) (pages : Pages T) → ChangesOnlyPagesCache g old new pages pages
 keeps_still g old new pages = record {
   only_cache_differs = refl;
   cache_stays_coherent = record
       { keeps_coherent = λ returned held of. of; when_store_closed = λ returned shut. refl; capacity_is_same = refl; cache_stays_bounded = λ within. within };
 }
 
-module _ {S : Type 0} (g : Ghosts S) (before after : List ℕ) (result : Result ℕ ServeFault) where
-  module _ (old new : Store S) where
+module _ {S W : Type 0} (g : Ghosts S W) (before after : List ℕ) (result : Result ℕ ServeFault) where
+  module _ (old new : S) where
     -- a reply of which more is known, where its tables were an archive's
     sent_as : (Says Says' : Archive → Reply → Type 0)
         → (StoreHasCleanDisk g new → HoldsTables g old → (r : Reply) → Says (archive_in g old) r → Says' (archive_in g old) r)
@@ -89,7 +92,7 @@ module _ {S : Type 0} (g : Ghosts S) (before after : List ℕ) (result : Result 
 
   -- ---- a question before
 
-  module _ (old mid new : Store S) (P : Archive → Type 0) (If : Archive → Type 0) (Says Says' : Archive → Reply → Type 0)
+  module _ (old mid new : S) (P : Archive → Type 0) (If : Archive → Type 0) (Says Says' : Archive → Reply → Type 0)
       (first : RelatesTableArchives g old mid (λ a b. (b ≡ a) × P a)) (says : (a : Archive) (r : Reply) → P a → Says a r → Says' a r) where
     pub serves_if_after : IsTrueOfEveryArchive g old mid P → ServesFromArchiveIf g mid new If Says before after result → ServesFromArchiveIf g old new If Says' before after result
     serves_if_after every second = record {
@@ -98,3 +101,21 @@ module _ {S : Type 0} (g : Ghosts S) (before after : List ℕ) (result : Result 
           let was = (lasts_kept mid new If Says second).disk_was_clean returned in
           of_shut_when g before after result Says Says' P says (every was shut) (second.when_store_closed returned (λ up. shut (first.0.closed_stays_closed was up)));
     }
+
+-- ---- behind a call that leaves the archive
+
+module _ {S W : Type 0} (g : Ghosts S W) where
+  pub finds_left : {A F : Type 0} (old mid new : S) → LeavesArchive g mid new → (search_result : Result A F) (If : Archive → Type 0) (Holds : Archive → A → Type 0)
+      → FindsInArchiveIf g old mid If search_result Holds → FindsInArchiveIf g old new If search_result Holds
+  finds_left old mid new leaves (Ok x) If Holds finds =
+      (left_relates g old mid new leaves (λ a b. (b ≡ a) × (If a → Holds a x)) finds.0, (λ clean shut. finds.1 (leaves.remains_open.disk_was_clean clean) shut))
+  finds_left old mid new leaves (Err e) If Holds finds = left_relates_if_open g old mid new leaves (λ a b. b ≡ a) finds
+
+  pub coherent_left : (old mid new : S) {rules : List Rule} {day : ℤ} {kept later : CacheState} → StaysOpenUnlessDiskFails g mid new → KeepsCacheCoherent g old mid rules day kept later
+      → KeepsCacheCoherent g old new rules day kept later
+  coherent_left old mid new lasts it = record {
+    keeps_coherent = λ clean. it.keeps_coherent (lasts.disk_was_clean clean);
+    when_store_closed = λ clean. it.when_store_closed (lasts.disk_was_clean clean);
+    capacity_is_same = it.capacity_is_same;
+    cache_stays_bounded = it.cache_stays_bounded;
+  }

@@ -14,4 +14,3 @@ mod RouteLemmas
 mod MboxLemmas
 pub mod AnswerExamples
 pub mod RunningLemmas
-mod StopLemmas

@@ -1,21 +1,18 @@
 -- An mbox that is written by the lines of an outline.
-use Rattle.std.proofs.Common.{◌≡◌, ◌≢◌, ◌∙◌, ◌<◌, ◌++◌, inl, inr, ℕ, List, Option, Some, None, Result, Ok, Err, MatchOption, refl, sym, ap, subst}
+use Rattle.std.proofs.Common.{◌≡◌, ◌≢◌, ◌∙◌, ◌<◌, ◌++◌, inl, inr, ℕ, List, Option, Some, None, Result, Ok, Err, MatchOption, refl, sym, ap, subst, []}
 use Rattle.std.specs.Prelude.{◌⊎◌}
-use Rattle.sqlite.specs.Store.{Ghosts}
+use Rattle.archive_port.specs.declared.state.ArchiveState.{Ghosts}
 use Rattle.mbox_core.specs.Written.{AppendsPrefixOfText}
 use Rattle.archive_model.specs.Records.{Archive}
-use Rattle.archive_model.specs.Questions.{merge_of, messages_in}
-use Rattle.archive_tables.specs.Making.{empty_archive}
-use Rattle.archive_tables.specs.Tables.{HaveDistinctKeys, same_message_key}
+use Rattle.archive_port.specs.Messages.{HaveDistinctKeys}
 use Rattle.archive_requests.specs.Routes.{mbox}
 use Rattle.archive_results.specs.Access.{Ask, is_shown, no_list, reader_facts}
 use Rattle.archive_results.specs.Results.{export_text}
 use Rattle.archive_results.specs.Shown.{Line}
-use Rattle.archive_store.specs.Told.{StoreHasCleanDisk, HoldsTables, IsOpen, StaysOpenUnlessDiskFails, archive_in}
-use Rattle.archive_store.specs.declared.store.Store.{Store}
-use Rattle.archive_store.proofs.Joins.{goes_in_as}
+use Rattle.archive_port.specs.Told.{HoldsTables, IsOpen, StaysOpenUnlessDiskFails, archive_in}
+use Rattle.archive_port.proofs.Joins.{goes_in_as}
 use Rattle.archive_desk.specs.Exporting.{HasWrittenBytes}
-use Rattle.archive_desk.specs.Faults.{RefusalReason, ask_reason, refusal_reason, refused}
+use Rattle.archive_desk.specs.Faults.{RefusalReason, refusal_reason, refused}
 use Rattle.archive_desk.specs.Holding.{RelatesTableArchives, RelatesTableArchivesIfOpen}
 use Rattle.archive_desk.specs.Walking.{IsWalkStop}
 use Rattle.archive_desk.specs.declared.exporting.ExportStop.{ExportStop}
@@ -27,7 +24,7 @@ use Rattle.archive_cache.specs.Sending.{IsTrueOfOldArchive, RemembersAfterFault,
 use Rattle.archive_cache.specs.Views.{CacheState, cached_index_at}
 use Rattle.archive_cache.proofs.SendLemmas.{view_text}
 use Rattle.archive_cache.proofs.ViewLemmas.{some_is}
-use Rattle.archive_pages.specs.Answers.{list_reply, reply_if_list_exists, shown_view}
+use Rattle.archive_pages.specs.Answers.{list_reply, shown_view}
 use Rattle.archive_pages.specs.Calls.{IsCacheCoherentForAsk, IsCachedIndexPlace}
 use Rattle.archive_pages.specs.KeptServing.{ServesFromArchiveIf}
 use Rattle.archive_pages.specs.Replies.{IsReplyOr503, Reply, SendsReply, mbox_reply, not_found, unavailable}
@@ -49,7 +46,7 @@ not_the_writer before after failed fails written desk.Write other stop = absurd 
 not_the_writer before after failed fails written desk.Memory other stop = stop
 not_the_writer before after failed fails written (desk.Store fault) other stop = (stop.1, stop.2)
 
-module _ {S : Type 0} (g : Ghosts S) (old new : Store S) (list : List ℕ) (lines : List Line) (before after : List ℕ) (lasts : StaysOpenUnlessDiskFails g old new) where
+module _ {S W : Type 0} (g : Ghosts S W) (old new : S) (list : List ℕ) (lines : List Line) (before after : List ℕ) (lasts : StaysOpenUnlessDiskFails g old new) where
   abbrev pub MboxOf : Archive → Reply → Type 0
   MboxOf a reply = reply ≡ mbox_reply (mbox_text_of_lines a list lines)
 
@@ -105,7 +102,7 @@ module _ {S : Type 0} (g : Ghosts S) (old new : Store S) (list : List ℕ) (line
 
 -- ---- behind the outline, which was found
 
-module _ {S : Type 0} (g : Ghosts S) (ask : Ask) (kept later : CacheState) (old mid : Store S) where
+module _ {S W : Type 0} (g : Ghosts S W) (ask : Ask) (kept later : CacheState) (old mid : S) where
   abbrev If : Archive → Type 0
   If a = IsCacheCoherentForAsk ask kept a
 
@@ -130,12 +127,13 @@ module _ {S : Type 0} (g : Ghosts S) (ask : Ask) (kept later : CacheState) (old 
       unlisted a at = sym (on_unlisted a ask (mbox_reply (export_text (shown_view a ask))) at)
 
   module _ (place : ℕ) (outline : ListIndex) (there : Some outline ≡ cached_index_at later place)
-      (found : RelatesTableArchives g old mid (λ a b. (b ≡ a) × (If a → At (Some place) a)) × IsTrueOfEveryArchive g old mid (At (Some place))) where
+      (found : RelatesTableArchives g old mid (λ a b. (b ≡ a) × (If a → At (Some place) a)) × IsTrueOfEveryArchive g old mid (At (Some place)))
+      (distinct : HoldsTables g old → HaveDistinctKeys (archive_in g old).messages) where
     abbrev Known : Archive → Type 0
-    Known a = (If a → At (Some place) a) × HaveDistinctKeys same_message_key a.messages
+    Known a = (If a → At (Some place) a) × HaveDistinctKeys a.messages
 
     pub known : RelatesTableArchives g old mid (λ a b. (b ≡ a) × Known a)
-    known = (found.0.0, (λ returned held. let it = found.0.1 returned held in (it.0, (it.1.0, (it.1.1, held.tables.messages_distinct)))))
+    known = (found.0.0, (λ returned held. let it = found.0.1 returned held in (it.0, (it.1.0, (it.1.1, distinct held)))))
 
     says : (a : Archive) (r : Reply) → Known a → r ≡ mbox_reply (mbox_text_of_lines a ask.list outline.lines) → If a → MboxFor a r
     says a r know is of =
@@ -146,13 +144,16 @@ module _ {S : Type 0} (g : Ghosts S) (ask : Ask) (kept later : CacheState) (old 
         ∙ ap mbox_reply (view_text ask.list a (is_shown ask (reader_facts a ask)) know.1)
         ∙ sym (on_listed a ask (mbox_reply (export_text (shown_view a ask))) at.0)
 
+    abbrev no_archive : Archive
+    no_archive = record { lists = []; persons = []; grants = []; messages = []; index_columns = []; options = []; addresses = [] }
+
     -- an archive without lists has no outline
-    nowhere : At (Some place) empty_archive → ⊥
+    nowhere : At (Some place) no_archive → ⊥
     nowhere at = let no : Some (refused no_list) ≡ None = at.0 in absurd (cc)
 
-    pub mbox_served : (new : Store S) (before after : List ℕ) (result : Result ℕ ServeFault) → StaysOpenUnlessDiskFails g mid new
+    pub mbox_served : (new : S) (before after : List ℕ) (result : Result ℕ ServeFault) → StaysOpenUnlessDiskFails g mid new
         → SendsFromArchive g mid new (λ a r. r ≡ mbox_reply (mbox_text_of_lines a ask.list outline.lines)) before after result → ServesFromArchiveIf g old new If MboxFor before after result
     mbox_served new before after result lasts sent = record {
       sends_from_archive = sent_after g before after result old mid new Known (λ a r. r ≡ mbox_reply (mbox_text_of_lines a ask.list outline.lines)) (λ a r. If a → MboxFor a r) known says sent;
-      when_store_closed = λ returned shut. absurd (nowhere (found.1 (lasts.disk_was_clean returned) shut empty_archive));
+      when_store_closed = λ returned shut. absurd (nowhere (found.1 (lasts.disk_was_clean returned) shut no_archive));
     }

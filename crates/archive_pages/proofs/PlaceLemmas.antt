@@ -1,17 +1,16 @@
 -- A page out of the outline at a place of what is kept.
-use Rattle.std.proofs.Common.{◌≡◌, ◌∙◌, ◌++◌, refl, sym, ap, subst, cond, pos, ℕ, Bool, true, false, List, Option, Some, None, codes}
+use Rattle.std.proofs.Common.{◌≡◌, ◌∙◌, ◌++◌, refl, sym, ap, subst, cond, ℕ, Bool, true, false, List, Option, Some, None, codes}
 use Rattle.std.specs.Prelude.{flat_map, option_map}
 use Rattle.std.specs.Option.{option_map_or}
-use Rattle.sqlite.specs.Store.{Ghosts}
+use Rattle.archive_port.specs.declared.state.ArchiveState.{Ghosts}
 use Rattle.civil_time.specs.Calendar.{month_of_text}
 use Rattle.civil_time.specs.Texts.{month_text}
 use Rattle.archive_model.specs.Records.{Archive}
 use Rattle.archive_model.specs.Questions.{merge_of}
 use Rattle.archive_model.specs.Keys.{is_key}
 use Rattle.archive_desk.specs.Holding.{RelatesTableArchives}
-use Rattle.archive_store.specs.declared.store.Store.{Store}
-use Rattle.archive_store.specs.Told.{HoldsTables}
-use Rattle.archive_store.proofs.Joins.{goes_in_as}
+use Rattle.archive_port.specs.Told.{HoldsTables}
+use Rattle.archive_port.proofs.Joins.{goes_in_as}
 use Rattle.archive_results.specs.Access.{Ask}
 use Rattle.archive_results.specs.Results.{TreeLine, author_lines, month_lines, tree_lines, thread_lines, lines_of, thread_rows_of}
 use Rattle.archive_results.specs.Shown.{Line, ShownMessage}
@@ -31,7 +30,7 @@ use Rattle.archive_pages.proofs.DeskLemmas.{on_listed, on_unlisted}
 some_is : (x y : ListIndex) → Some x ≡ Some y → x ≡ y
 some_is x y is = cc
 
-module _ {S : Type 0} (g : Ghosts S) (old new : Store S) (If : Archive → Type 0) where
+module _ {S W : Type 0} (g : Ghosts S W) (old new : S) (If : Archive → Type 0) where
   -- what was found, of which more is known
   finds_as : (Says Says' : Archive → Type 0) → ((a : Archive) → Says a → Says' a) → RelatesTableArchives g old new (λ a b. (b ≡ a) × (If a → Says a)) × IsTrueOfEveryArchive g old new Says
       → RelatesTableArchives g old new (λ a b. (b ≡ a) × (If a → Says' a)) × IsTrueOfEveryArchive g old new Says'

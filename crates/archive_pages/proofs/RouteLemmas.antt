@@ -1,12 +1,10 @@
 -- What is found for a question is found for a route.
-use Rattle.std.proofs.Common.{◌≡◌, refl, subst, Bool, true, false, ℕ, List, Result, Ok, Err}
-use Rattle.sqlite.specs.Store.{Ghosts}
+use Rattle.std.proofs.Common.{◌≡◌, refl, subst, false, ℕ, List, Result, Ok, Err}
+use Rattle.archive_port.specs.declared.state.ArchiveState.{Ghosts}
 use Rattle.archive_model.specs.Records.{Archive}
-use Rattle.archive_store.specs.declared.store.Store.{Store}
-use Rattle.archive_store.specs.Told.{HoldsTables}
-use Rattle.archive_store.proofs.Joins.{goes_in_as}
+use Rattle.archive_port.specs.Told.{HoldsTables}
+use Rattle.archive_port.proofs.Joins.{goes_in_as}
 use Rattle.archive_results.specs.Access.{Ask}
-use Rattle.archive_requests.specs.Routes.{Route}
 use Rattle.archive_requests.specs.Routing.{model_route}
 use Rattle.archive_requests.specs.declared.routes.Route.{Route as Named}
 use Rattle.archive_requests.specs.declared.routes.Route.TheVariants.{Lists, Message, Month, Threads, Thread, Author, Mbox}
@@ -31,7 +29,7 @@ other_route (Thread list key) is a ask_of = refl
 other_route (Author list author) is a ask_of = refl
 other_route (Mbox list) is a ask_of = absurd (cc)
 
-module _ {S F : Type 0} (g : Ghosts S) (old new : Store S) where
+module _ {S W F : Type 0} (g : Ghosts S W) (old new : S) where
   -- found whatever is kept
   pub found_whatever : (result : Result Made F) (If : Archive → Type 0) (made : Archive → Reply) → FindsReply g old new result made → FindsReplyIf g old new result If made
   found_whatever (Ok x) If made found = (

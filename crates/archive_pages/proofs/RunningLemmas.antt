@@ -1,28 +1,17 @@
 -- A request after a run of commands, and after another request.
 use Rattle.std.proofs.Common.{◌≡◌, ◌++◌, ◌⊎◌, inl, inr, ℕ, ℤ, List, Result, Ok, Err, refl, sym, ◌∙◌, subst}
 use Rattle.std.proofs.lemmas.Bool.{cases_Bool}
-use Rattle.sqlite_disk.specs.declared.Disk.{Ghosts as DiskGhosts}
-use Rattle.sqlite_disk.specs.declared.Files.{Files}
-use Rattle.sqlite_wal.specs.Reads.{AreClean}
-use Rattle.sqlite_store.specs.declared.store.FileStore.{FileStore}
-use Rattle.sqlite.specs.Store.{Ghosts}
-use Rattle.sqlite.specs.Held.{Held, state}
-use Rattle.sqlite.specs.State.{IsLive}
-use Rattle.sqlite.specs.Files.{over_files, file_state, Finds, IsOpened}
-use Rattle.sqlite.specs.Closing.{IsCopied}
+use Rattle.archive_port.specs.declared.state.ArchiveState.{Ghosts}
 use Rattle.httparse.specs.Grammar.{RequestHead, HasNoRequest}
 use Rattle.policy_core.specs.Rules.{Rule}
 use Rattle.archive_model.specs.Records.{Archive}
-use Rattle.archive_store.specs.Told.{HoldsArchive, IsOpen, HoldsTables, IsStoreClosed, archive_in, StoreHasCleanDisk}
+use Rattle.archive_port.specs.Told.{IsOpen, HoldsTables, IsStoreClosed, archive_in, StoreHasCleanDisk}
 use Rattle.archive_desk.specs.Holding.{RelatesTableArchives}
-use Rattle.archive_store.specs.Held.{store_connection}
-use Rattle.archive_store.specs.declared.store.Store.{Store}
 use Rattle.archive_pages.specs.Replies.{SendsReply, BreaksOffMbox, IsReplyOr503, IsReplyBrokenOff, unavailable}
 use Rattle.archive_pages.specs.Answers.{reply_of}
 use Rattle.archive_pages.specs.Serving.{SendsFromArchive, ServesFromArchive, StoreKeepsArchive}
 use Rattle.archive_pages.specs.Answered.{IsAnsweredFromStore, ReadsRequestInput, IfAnsweredOrUnread}
 use Rattle.archive_pages.specs.Headline.{IsAnsweredFromArchive, AnswersRequestFromArchive}
-use Rattle.archive_pages.specs.Reopened.{AnswersFromReopenedFile}
 use Rattle.archive_pages.specs.declared.faults.ServeFault.{ServeFault}
 use Rattle.archive_pages.specs.declared.faults.ServeFault.TheVariants.{Read, Write, Broken}
 use Rattle.archive_pages.proofs.ServingLemmas.{sends_as, broken_as, breaks_as}
@@ -38,7 +27,7 @@ reads : (told_before told_after : List ℕ) (ends_before ends_after : ℕ) (P Q 
 reads told_before told_after ends_before ends_after P Q weaker (given, told, inl (ended, says)) = (given, told, inl (ended, weaker given given says))
 reads told_before told_after ends_before ends_after P Q weaker (given, told, inr (unended, says)) = (given, told, inr (unended, (λ more. weaker given (given ++ more) (says more))))
 
-module _ {S : Type 0} (g : Ghosts S) (mid new : Store S) (archive : Archive) (returned : StoreHasCleanDisk g new)
+module _ {S W : Type 0} (g : Ghosts S W) (mid new : S) (archive : Archive) (returned : StoreHasCleanDisk g new)
     (ran : StoreHasCleanDisk g mid → HoldsTables g mid × (archive_in g mid ≡ archive)) (rules : List Rule) (day : ℤ) where
   module _ (before after : List ℕ) (result : Result ℕ ServeFault) where
     sent_from : (h : RequestHead) → SendsFromArchive g mid new (λ a reply. reply ≡ reply_of a rules day h) before after result
@@ -80,7 +69,7 @@ module _ {S : Type 0} (g : Ghosts S) (mid new : Store S) (archive : Archive) (re
 
 -- ---- out of a store that is shut
 
-module _ {S : Type 0} (g : Ghosts S) (mid new : Store S) (archive : Archive) (returned : StoreHasCleanDisk g new) (shut : IsStoreClosed g mid) (rules : List Rule) (day : ℤ)
+module _ {S W : Type 0} (g : Ghosts S W) (mid new : S) (archive : Archive) (returned : StoreHasCleanDisk g new) (shut : IsStoreClosed g mid) (rules : List Rule) (day : ℤ)
     (before after : List ℕ) (result : Result ℕ ServeFault) where
   shut_sent : (h : RequestHead) → ServesFromArchive g mid new (λ a reply. reply ≡ reply_of a rules day h) before after result
       → SendsReply (IsReplyOr503 (reply_of archive rules day h)) before after result ⊎ IsReplyBrokenOff result (BreaksOffMbox (λ reply. reply ≡ reply_of archive rules day h) before after)
@@ -111,20 +100,20 @@ module _ {S : Type 0} (g : Ghosts S) (mid new : Store S) (archive : Archive) (re
 
 -- ---- a store that was left as it was, or is shut
 
-module _ {S : Type 0} (g : Ghosts S) (mid new : Store S) (archive : Archive) (returned : StoreHasCleanDisk g new)
+module _ {S W : Type 0} (g : Ghosts S W) (mid new : S) (archive : Archive) (returned : StoreHasCleanDisk g new)
     (left : IsOpen g mid → HoldsTables g mid × (archive_in g mid ≡ archive)) (rules : List Rule) (day : ℤ) (result : Result ℕ ServeFault)
     (told_before told_after : List ℕ) (ends_before ends_after : ℕ) (before after : List ℕ)
     (said : IfAnsweredOrUnread result (ReadsRequestInput told_before told_after ends_before ends_after (λ given all. IsAnsweredFromStore g mid new rules day given all before after result))
     ((given : List ℕ) × (told_after ≡ told_before ++ given) × HasNoRequest given × (after ≡ before) × RelatesTableArchives g mid new (λ a b. b ≡ a))) where
   pub answers_left : AnswersRequestFromArchive archive rules day told_before told_after ends_before ends_after before after result
-  answers_left = elim (cases_Bool (state g (store_connection mid)).is_open) [
+  answers_left = elim (cases_Bool (g.is_open mid)) [
     | inl up ↦ answers_from g mid new archive returned (λ was. left up) rules day result told_before told_after ends_before ends_after before after said
     | inr down ↦ answers_shut g mid new archive returned (λ up. let it = sym up ∙ down in absurd (cc)) rules day before after result told_before told_after ends_before ends_after said
   ]
 
 -- ---- two requests
 
-module _ {S : Type 0} (g : Ghosts S) (old mid new : Store S) (first : Result ℕ ServeFault) (left : StoreKeepsArchive g old mid first) (rules : List Rule) (day : ℤ)
+module _ {S W : Type 0} (g : Ghosts S W) (old mid new : S) (first : Result ℕ ServeFault) (left : StoreKeepsArchive g old mid first) (rules : List Rule) (day : ℤ)
     (result : Result ℕ ServeFault) (told_before told_after : List ℕ) (ends_before ends_after : ℕ) (before after : List ℕ) where
   -- of a store that remembers what it remembered before the first of them, or is shut
   pub answers_second : StoreHasCleanDisk g mid → StoreHasCleanDisk g new → HoldsTables g old
@@ -134,22 +123,10 @@ module _ {S : Type 0} (g : Ghosts S) (old mid new : Store S) (first : Result ℕ
   answers_second was returned held said = answers_left g mid new (archive_in g old) returned (λ up. left.archive_is_same.1 was held up) rules day result
       told_before told_after ends_before ends_after before after said
 
-pub answers_first : {S : Type 0} (g : Ghosts S) (old mid : Store S) → StoreHasCleanDisk g mid → HoldsTables g old → (rules : List Rule) (day : ℤ)
+pub answers_first : {S W : Type 0} (g : Ghosts S W) (old mid : S) → StoreHasCleanDisk g mid → HoldsTables g old → (rules : List Rule) (day : ℤ)
     (result : Result ℕ ServeFault) (told_before told_after : List ℕ) (ends_before ends_after : ℕ) (before after : List ℕ)
     → IfAnsweredOrUnread result (ReadsRequestInput told_before told_after ends_before ends_after (λ given all. IsAnsweredFromStore g old mid rules day given all before after result))
     ((given : List ℕ) × (told_after ≡ told_before ++ given) × HasNoRequest given × (after ≡ before) × RelatesTableArchives g old mid (λ a b. b ≡ a))
     → AnswersRequestFromArchive (archive_in g old) rules day told_before told_after ends_before ends_after before after result
 answers_first g old mid returned held rules day result told_before told_after ends_before ends_after before after said =
     answers_from g old mid (archive_in g old) returned (λ was. (held, refl)) rules day result told_before told_after ends_before ends_after before after said
-
--- ---- a file that was closed and opened again
-
-module _ {D : Type 0} {g : DiskGhosts D} (closed opened : Held (FileStore D g)) (files : Files D) (store new : Store (FileStore D g)) (archive : Archive)
-    (again : HoldsArchive over_files closed archive → IsLive (file_state closed) → (AreClean g files.log files.db → IsCopied closed files)
-    → Finds files opened → IsOpened opened → HoldsArchive over_files opened archive) where
-  pub answers_reopened : AnswersFromReopenedFile closed opened files store new archive
-  answers_reopened holds it returned rules day read_before read_after ends_before ends_after told_before told_after result said =
-      let found = again holds it.is_live it.is_copied it.finds_files it.is_opened in
-      answers_from over_files store new archive returned
-      (λ was. it.keeps_archive archive found was) rules day
-      result read_before read_after ends_before ends_after told_before told_after said

@@ -1,11 +1,10 @@
 -- What a call that answers a request says.
 use Rattle.std.specs.Prelude.{◌≡◌, ◌≤◌, ◌<◌, ◌+◌, ◌++◌, ◌⊎◌, ℕ, ℤ, List, length, take, IfSome, Result, Ok, Err}
-use Rattle.sqlite.specs.Store.{Ghosts}
+use Rattle.archive_port.specs.declared.state.ArchiveState.{Ghosts}
 use Rattle.httparse.specs.Grammar.{RequestHead, HasNoRequest}
 use Rattle.httparse.specs.Spans.{RequestExceeds}
 use Rattle.policy_core.specs.Rules.{Rule}
 use Rattle.archive_desk.specs.Holding.{RelatesTableArchives}
-use Rattle.archive_store.specs.declared.store.Store.{Store}
 use Rattle.archive_requests.specs.Heads.{BeginsWithHead, BeginsWithTooManyFields, CanBecomeHead}
 use Rattle.archive_pages.specs.Replies.{SendsReply, bad_request, head_too_large}
 use Rattle.archive_requests.specs.Requests.{request_of}
@@ -15,7 +14,7 @@ use Rattle.archive_pages.specs.declared.faults.ServeFault.{ServeFault}
 use Rattle.archive_pages.specs.declared.faults.ServeFault.TheVariants.{Read, Write, Broken}
 
 -- What goes out to an input whose bytes are all of these, of which the given ones came.
-pub record IsAnsweredFromStore {S : Type 0} (g : Ghosts S) (old new : Store S) (rules : List Rule) (day : ℤ) (given all : List ℕ)
+pub record IsAnsweredFromStore {S W : Type 0} (g : Ghosts S W) (old new : S) (rules : List Rule) (day : ℤ) (given all : List ℕ)
     (told_before told_after : List ℕ) (result : Result ℕ ServeFault) : Type 0 where
   -- to the head that the input begins with, the reply of the definition, or 503; or a beginning of it, where it is an mbox that
   -- broke off (S3)
@@ -55,7 +54,7 @@ IfAnsweredOrUnread (Err Read) answered unread = unread
 
 -- What a call that answers one request says of the bytes that the input told and of those that went out; or the input failed before it told a
 -- whole head, nothing went out, and the store is left as it was.
-abbrev pub AnswersRequestFromStore : {S : Type 0} (g : Ghosts S) (old new : Store S) → List Rule → (day : ℤ) → (read_before read_after : List ℕ)
+abbrev pub AnswersRequestFromStore : {S W : Type 0} (g : Ghosts S W) (old new : S) → List Rule → (day : ℤ) → (read_before read_after : List ℕ)
     → (ends_before ends_after : ℕ) → (told_before told_after : List ℕ) → Result ℕ ServeFault → Type 0
 AnswersRequestFromStore g old new rules day read_before read_after ends_before ends_after told_before told_after result = IfAnsweredOrUnread result
     (ReadsRequestInput read_before read_after ends_before ends_after

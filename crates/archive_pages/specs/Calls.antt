@@ -1,12 +1,11 @@
 -- What calls say of pages, of a store, and of what they read and write, each before and after.
 use Rattle.std.specs.Prelude.{◌≡◌, ◌≢◌, ℕ, ℤ, List, Option, None, Some, Result, OnOk, IfErr, IfOk, IfSome}
-use Rattle.sqlite.specs.Store.{Ghosts}
+use Rattle.archive_port.specs.declared.state.ArchiveState.{Ghosts}
 use Rattle.byte_device.specs.declared.devices.Sink.{Ghosts as Takes}
 use Rattle.byte_device.specs.declared.devices.Source.{Ghosts as Gives}
 use Rattle.policy_core.specs.Rules.{Rule}
 use Rattle.archive_model.specs.Records.{Archive}
-use Rattle.archive_store.specs.Told.{WritesNothing}
-use Rattle.archive_store.specs.declared.store.Store.{Store}
+use Rattle.archive_port.specs.Crashes.{WritesNothing}
 use Rattle.archive_results.specs.Access.{Ask, no_list}
 use Rattle.archive_desk.specs.Faults.{ask_reason, refused}
 use Rattle.archive_cache.specs.ListIndexes.{index_for_ask}
@@ -35,7 +34,7 @@ abbrev pub IsPagesCacheCoherent : {T : Type 0} → Pages T → Archive → Type 
 IsPagesCacheCoherent pages archive = IsCacheCoherent archive pages.policy.now pages.day pages.kept
 
 -- What a call leaves of pages: all but what is kept is as it was; and what is kept stays so, as `KeepsCacheCoherent` says.
-pub record ChangesOnlyPagesCache {S T : Type 0} (g : Ghosts S) (old new : Store S) (pages later : Pages T) : Type 0 where
+pub record ChangesOnlyPagesCache {S W T : Type 0} (g : Ghosts S W) (old new : S) (pages later : Pages T) : Type 0 where
   pub only_cache_differs : later ≡ record pages { kept = later.kept }
   pub cache_stays_coherent : KeepsCacheCoherent g old new pages.policy.now pages.day pages.kept later.kept
 
@@ -46,7 +45,7 @@ abbrev pub IsCachedIndexPlace : Archive → Ask → CacheState → ViewPart → 
 IsCachedIndexPlace archive ask kept part None = ask_reason archive ask ≡ Some (refused no_list)
 IsCachedIndexPlace archive ask kept part (Some place) = (ask_reason archive ask ≡ None) × (cached_index_at kept place ≡ Some (index_for_ask archive ask part))
 
-module _ {S F : Type 0} (g : Ghosts S) (old new : Store S) (result : Result Made F) where
+module _ {S W F : Type 0} (g : Ghosts S W) (old new : S) (result : Result Made F) where
   -- the reply that is made so of what the store remembers
   abbrev pub FindsReply : (Archive → Reply) → Type 0
   FindsReply made = FindsInArchive g old new result (λ a reply. model_reply reply ≡ made a)
@@ -80,7 +79,7 @@ module _ {W : Type 0} (takes : Takes W) (before after : W) where
     pub ends_reply : EndsReply result
     pub sends_or_503 : SendsOr503 wants_before wants_after made result
 
-module _ {S W : Type 0} (g : Ghosts S) (takes : Takes W) (old new : Store S) (before after : W) (result : Result ℕ ServeFault) where
+module _ {S K W : Type 0} (g : Ghosts S K) (takes : Takes W) (old new : S) (before after : W) (result : Result ℕ ServeFault) where
   -- the reply that is made so of what the store remembers
   abbrev pub ServesReply : (Archive → Reply) → Type 0
   ServesReply made = ServesFromArchive g old new (λ a reply. reply ≡ made a) (takes.told before) (takes.told after) result
@@ -90,7 +89,7 @@ module _ {S W : Type 0} (g : Ghosts S) (takes : Takes W) (old new : Store S) (be
   ServesReplyIf If made = ServesFromArchiveIf g old new If (λ a reply. reply ≡ made a) (takes.told before) (takes.told after) result
 
 -- How a reply out of a store ends: 503 and S3 have their cause, too.
-module _ {S W : Type 0} (g : Ghosts S) (takes : Takes W) (old new : Store S) (before after : W) (result : Result ℕ ServeFault) (Unread : Archive → Type 0) where
+module _ {S K W : Type 0} (g : Ghosts S K) (takes : Takes W) (old new : S) (before after : W) (result : Result ℕ ServeFault) (Unread : Archive → Type 0) where
   pub record EndsReplyFromStore : Type 0 where
     pub ends_reply : EndsReply takes before after result
     pub fault_has_cause : ServesOr503 g old new result Unread
@@ -105,7 +104,7 @@ module _ {S W : Type 0} (g : Ghosts S) (takes : Takes W) (old new : Store S) (be
 
 -- How an answer ends, whatever is kept and whatever the store is: what it leaves of the store, to which it writes nothing; no direction
 -- failed where a reply went out; and each fault has its cause.
-pub record EndsAnswer {S R W : Type 0} (g : Ghosts S) (gives : Gives R) (takes : Takes W) (old new : Store S) (input_old input_new : R) (output_old output_new : W)
+pub record EndsAnswer {S K R W : Type 0} (g : Ghosts S K) (gives : Gives R) (takes : Takes W) (old new : S) (input_old input_new : R) (output_old output_new : W)
     (result : Result ℕ ServeFault) : Type 0 where
   pub stays : StoreKeepsArchive g old new result
   pub writes_nothing : WritesNothing g old new

@@ -1,14 +1,12 @@
 -- Why a request gets 503, and why an mbox breaks off.
 use Rattle.std.specs.Prelude.{◌≡◌, ◌⊎◌, ◌<◌, ◌≤◌, ◌++◌, ℕ, ℤ, false, List, Option, None, Some, Result, Ok, Err, IfErr}
 use Rattle.std.specs.Option.{IsSomeAnd}
-use Rattle.sqlite.specs.Store.{Ghosts}
+use Rattle.archive_port.specs.declared.state.ArchiveState.{Ghosts}
 use Rattle.httparse.specs.Grammar.{RequestHead}
 use Rattle.policy_core.specs.Rules.{Rule}
 use Rattle.archive_model.specs.Records.{Archive}
 use Rattle.archive_model.specs.Questions.{has_person, messages_in, person_of_token}
-use Rattle.archive_store.specs.Held.{memory_refusal_count}
-use Rattle.archive_store.specs.Told.{DiskHasFailed, HasNoStepLimit, StoreHasCleanDisk, HoldsTables, MemoryWasRefused, archive_in}
-use Rattle.archive_store.specs.declared.store.Store.{Store}
+use Rattle.archive_port.specs.Told.{memory_refusal_count, DiskHasFailed, HasNoStepLimit, StoreHasCleanDisk, HoldsTables, MemoryWasRefused, archive_in}
 use Rattle.archive_results.specs.Access.{Ask}
 use Rattle.archive_desk.specs.Causes.{IsMessageUnreadable, IsReaderUnreadable, IsQuestionUnreadable}
 use Rattle.archive_desk.specs.Readable.{AreListsUnreadable, IsTokenHolderUnreadable}
@@ -89,18 +87,18 @@ pub record IsInputDataUnreadable (told_before told_after : List ℕ) (rules : Li
 abbrev pub IsUnreadableOrReaderUnknown : (Archive → Type 0) → (reader : Option (List ℕ)) → Archive → Type 0
 IsUnreadableOrReaderUnknown Unread reader archive = Unread archive ⊎ IsSomeAnd reader (λ name. has_person archive name ≡ false)
 
-module _ {S : Type 0} (g : Ghosts S) (old new : Store S) where
+module _ {S W : Type 0} (g : Ghosts S W) (old new : S) where
   -- Memory was refused once more in that call, and was counted; or, where the disk has returned what was written to it, the tables
   -- are an archive's and no limit is set on the steps of a query: the disk failed once more, or this is so of the archive. Of a store
   -- that was shut nothing is said, since of it this was not so.
   abbrev pub Has503Cause : (Archive → Type 0) → Type 0
-  Has503Cause Unread = MemoryWasRefused old new
+  Has503Cause Unread = MemoryWasRefused g old new
       ⊎ (StoreHasCleanDisk g new → HoldsTables g old → HasNoStepLimit g old → DiskHasFailed g old new ⊎ Unread (archive_in g old))
 
   -- What a call is that finds nothing: it has such a cause. The count of refused memory never falls.
   abbrev pub FindsOrHasCause : {A F : Type 0} → Result A F → (Archive → Type 0) → Type 0
-  FindsOrHasCause result Unread = (memory_refusal_count old ≤ memory_refusal_count new) × IfErr result (λ _. Has503Cause Unread)
+  FindsOrHasCause result Unread = (memory_refusal_count g old ≤ memory_refusal_count g new) × IfErr result (λ _. Has503Cause Unread)
 
   -- The same of a reply: 503 and S3 have such a cause.
   abbrev pub ServesOr503 : Result ℕ ServeFault → (Archive → Type 0) → Type 0
-  ServesOr503 result Unread = (memory_refusal_count old ≤ memory_refusal_count new) × (Sent503OrBrokeOff result → Has503Cause Unread)
+  ServesOr503 result Unread = (memory_refusal_count g old ≤ memory_refusal_count g new) × (Sent503OrBrokeOff result → Has503Cause Unread)

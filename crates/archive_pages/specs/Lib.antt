@@ -7,6 +7,4 @@ pub mod Causes
 pub mod KeptServing
 pub mod Answered
 pub mod Headline
-pub mod Reopened
-pub mod Stopped
 pub mod Calls

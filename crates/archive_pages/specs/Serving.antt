@@ -1,15 +1,13 @@
 -- Replies that are made of what a store remembers.
 use Rattle.std.specs.Prelude.{◌≡◌, ◌≢◌, ◌⊎◌, ℕ, List, Result, MatchResult, IfOk}
-use Rattle.sqlite.specs.Store.{Ghosts}
+use Rattle.archive_port.specs.declared.state.ArchiveState.{Ghosts}
 use Rattle.archive_model.specs.Records.{Archive}
-use Rattle.archive_store.specs.Uncounted.{without_refusal_count}
-use Rattle.archive_store.specs.Told.{StoreHasCleanDisk, HoldsTables, IsStoreClosed, archive_in}
+use Rattle.archive_port.specs.Told.{StoreHasCleanDisk, HoldsTables, IsStoreClosed, archive_in}
 use Rattle.archive_desk.specs.Holding.{RelatesTableArchives, RelatesTableArchivesIfOpen}
-use Rattle.archive_store.specs.declared.store.Store.{Store}
 use Rattle.archive_pages.specs.Replies.{Reply, SendsReply, BreaksOffMbox, IsReplyBrokenOff, unavailable}
 use Rattle.archive_pages.specs.declared.faults.ServeFault.{ServeFault}
 
-module _ {S : Type 0} (g : Ghosts S) (old new : Store S) where
+module _ {S W : Type 0} (g : Ghosts S W) (old new : S) where
   -- where the store was shut, this is so of every archive, and not of one
   abbrev pub IsTrueOfEveryArchive : (Archive → Type 0) → Type 0
   IsTrueOfEveryArchive Says = StoreHasCleanDisk g new → IsStoreClosed g old → (a : Archive) → Says a
@@ -31,16 +29,12 @@ module _ {S : Type 0} (g : Ghosts S) (old new : Store S) where
       ⊎ (RelatesTableArchivesIfOpen g old new (λ a b. b ≡ a)
       × IsReplyBrokenOff result (λ written. StoreHasCleanDisk g new → HoldsTables g old → BreaksOffMbox (Says (archive_in g old)) before after written)))
 
-  pub record ServesFromStore (Says : Archive → Reply → Type 0) (before after : List ℕ) (result : Result ℕ ServeFault) : Type 0 where
+  pub record ServesFromArchive (Says : Archive → Reply → Type 0) (before after : List ℕ) (result : Result ℕ ServeFault) : Type 0 where
     pub sends_from_archive : SendsFromArchive Says before after result
     -- out of a store that is shut 503, or a reply that is the same for every archive
     pub when_store_closed : StoreHasCleanDisk g new → IsStoreClosed g old → SendsReply (λ reply. (reply ≡ unavailable) ⊎ ((a : Archive) → Says a reply)) before after result
 
-module _ {S : Type 0} (g : Ghosts S) (old new : Store S) where
-  -- whatever is counted of the store
-  abbrev pub ServesFromArchive : (Says : Archive → Reply → Type 0) (before after : List ℕ) (result : Result ℕ ServeFault) → Type 0
-  ServesFromArchive Says before after result = ServesFromStore g (without_refusal_count old) (without_refusal_count new) Says before after result
-
+module _ {S W : Type 0} (g : Ghosts S W) (old new : S) where
   -- What an answer leaves of a store, whatever the request and the reply, and whatever the fault: the same archive, if the
   -- connection is still open; and where a reply other than 503 went out, it is open, and ready for the next request.
   pub record StoreKeepsArchive (result : Result ℕ ServeFault) : Type 0 where

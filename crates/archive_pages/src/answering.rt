@@ -1,7 +1,7 @@
 //! Answering a request: from the bytes of its head to the bytes of the reply.
 ghost use Rattle.std.specs.Prelude.{◌≡◌, ◌++◌, ⊤, ℕ, List, OnOk, IfErr, IfSome};
 ghost use Rattle.httparse.specs.Grammar.{HasNoRequest};
-ghost use Rattle.archive_store.specs.Told.{WritesNothing};
+ghost use Rattle.archive_port.specs.Crashes.{WritesNothing};
 ghost use Rattle.archive_desk.specs.Holding.{RelatesTableArchives};
 ghost use Rattle.archive_requests.specs.Reading.{IsRequestReadOfInput};
 ghost use Rattle.archive_pages.specs.Answered.{AnswersRequestFromStore, IfAnsweredOrUnread, IsAnsweredFromStore, Sends404IfUnrouted, ReadsRequestInput};
@@ -17,35 +17,34 @@ use crate::paths::answer_request;
 use crate::replies::Failure;
 use crate::writing::write_failure;
 use archive_cache::Cache;
+use archive_port::ArchiveStore;
 use archive_requests::{MOST_BYTES, RequestRead, read_request};
-use archive_store::Store;
 use civil_time::Day;
 use http::StatusCode;
 use mbox_core::device::{Sink, Source};
 use policy_core::Policy;
-use sqlite::Alter;
 use std::alloc::Global;
 use thread_core::Threader;
 
 /// Answers what was read of a request.
-fn answer_read<T: Threader, S: Alter, W: Sink>(
-    store: &mut Store<S>,
+fn answer_read<T: Threader, S: ArchiveStore, W: Sink>(
+    store: &mut S,
     pages: &mut Pages<'_, T>,
     read: &RequestRead<'_>,
     output: &mut W,
 ) -> Result<StatusCode, ServeFault>
-    ensures answered { IsTrueOfRememberedArchive S.Store store.old store.new (IsPagesCacheCoherent pages.old)
+    ensures answered { IsTrueOfRememberedArchive S.ArchiveState store.old store.new (IsPagesCacheCoherent pages.old)
         → (given more : List ℕ) → IsRequestReadOfInput given (given ++ more) read.now
-        → IsAnsweredFromStore S.Store store.old store.new pages.old.policy.now pages.old.day given
+        → IsAnsweredFromStore S.ArchiveState store.old store.new pages.old.policy.now pages.old.day given
         (given ++ more)
         (W.told output.old) (W.told output.new) result }
     ensures unrouted { IfSome pages.old.routes
         (λ _. (given more : List ℕ) → IsRequestReadOfInput given (given ++ more) read.now
         → Sends404IfUnrouted (given ++ more) (W.told output.old) (W.told output.new) result) }
-    ensures stays { StoreKeepsArchive S.Store store.old store.new result }
-    ensures ends { EndsReplyFromPages S.Store W.Sink store.old store.new output.old output.new result
+    ensures stays { StoreKeepsArchive S.ArchiveState store.old store.new result }
+    ensures ends { EndsReplyFromPages S.ArchiveState W.Sink store.old store.new output.old output.new result
         (IsReadRequestDataUnreadable pages.old.policy.now pages.old.day read.now) pages.old pages.new }
-    ensures writes_nothing { WritesNothing S.Store store.old store.new }
+    ensures writes_nothing { WritesNothing S.ArchiveState store.old store.new }
 {
     match read {
         RequestRead::Whole(request) => answer_request(store, pages, request, output),
@@ -59,22 +58,22 @@ fn answer_read<T: Threader, S: Alter, W: Sink>(
 /// and what is kept stays so. Nothing is kept at first (`Cache::new`), and only this call may change it. With routes a head without
 /// a token that asks for a path that no route fits gets 404 and nothing else; without them a router is made where the path is looked
 /// at, which is 503 where there is no memory for it.
-pub fn answer_cached<T: Threader, S: Alter, R: Source, W: Sink>(
-    store: &mut Store<S>,
+pub fn answer_cached<T: Threader, S: ArchiveStore, R: Source, W: Sink>(
+    store: &mut S,
     pages: &mut Pages<'_, T>,
     input: &mut R,
     output: &mut W,
 ) -> Result<StatusCode, ServeFault>
-    ensures answered { IsTrueOfRememberedArchive S.Store store.old store.new (IsPagesCacheCoherent pages.old)
-        → AnswersRequestFromStore S.Store store.old store.new pages.old.policy.now pages.old.day
+    ensures answered { IsTrueOfRememberedArchive S.ArchiveState store.old store.new (IsPagesCacheCoherent pages.old)
+        → AnswersRequestFromStore S.ArchiveState store.old store.new pages.old.policy.now pages.old.day
         (R.told input.old) (R.told input.new) (R.ends input.old) (R.ends input.new)
         (W.told output.old) (W.told output.new) result }
     ensures unrouted { IfSome pages.old.routes (λ _. IfAnsweredOrUnread result
         (ReadsRequestInput (R.told input.old) (R.told input.new) (R.ends input.old) (R.ends input.new)
         (λ given all. Sends404IfUnrouted all (W.told output.old) (W.told output.new) result)) ⊤) }
-    ensures keeps { ChangesOnlyPagesCache S.Store store.old store.new pages.old pages.new }
-    ensures ends { EndsAnswer S.Store R.Source W.Sink store.old store.new input.old input.new output.old output.new result }
-    ensures caused { ServesOr503 S.Store store.old store.new result (IsInputDataUnreadable
+    ensures keeps { ChangesOnlyPagesCache S.ArchiveState store.old store.new pages.old pages.new }
+    ensures ends { EndsAnswer S.ArchiveState R.Source W.Sink store.old store.new input.old input.new output.old output.new result }
+    ensures caused { ServesOr503 S.ArchiveState store.old store.new result (IsInputDataUnreadable
         (R.told input.old) (R.told input.new) pages.old.policy.now pages.old.day) }
 {
     let mut buffer = [0; MOST_BYTES];
@@ -90,8 +89,8 @@ pub fn answer_cached<T: Threader, S: Alter, R: Source, W: Sink>(
 /// output failed. Where memory or the database refuses before the first byte of the reply, the
 /// reply is 503; S3 where it refuses later, as it can in an mbox, which is written message by
 /// message. After S2 and S3 exactly the first bytes of the reply went out, as many as they count.
-pub fn answer<T: Threader, S: Alter, R: Source, W: Sink>(
-    store: &mut Store<S>,
+pub fn answer<T: Threader, S: ArchiveStore, R: Source, W: Sink>(
+    store: &mut S,
     alloc: Global,
     policy: &Policy,
     threader: &T,
@@ -101,13 +100,13 @@ pub fn answer<T: Threader, S: Alter, R: Source, W: Sink>(
 ) -> Result<StatusCode, ServeFault>
     ensures answered { IfAnsweredOrUnread result
         (ReadsRequestInput (R.told input.old) (R.told input.new) (R.ends input.old) (R.ends input.new)
-        (λ given all. IsAnsweredFromStore S.Store store.old store.new policy.now day given all
+        (λ given all. IsAnsweredFromStore S.ArchiveState store.old store.new policy.now day given all
         (W.told output.old) (W.told output.new) result))
         ((given : List ℕ) × (R.told input.new ≡ R.told input.old ++ given) × HasNoRequest given
         × (W.told output.new ≡ W.told output.old)
-        × RelatesTableArchives S.Store store.old store.new (λ a b. b ≡ a)) }
-    ensures ends { EndsAnswer S.Store R.Source W.Sink store.old store.new input.old input.new output.old output.new result }
-    ensures caused { ServesOr503 S.Store store.old store.new result (IsInputDataUnreadable
+        × RelatesTableArchives S.ArchiveState store.old store.new (λ a b. b ≡ a)) }
+    ensures ends { EndsAnswer S.ArchiveState R.Source W.Sink store.old store.new input.old input.new output.old output.new result }
+    ensures caused { ServesOr503 S.ArchiveState store.old store.new result (IsInputDataUnreadable
         (R.told input.old) (R.told input.new) policy.now day) }
 {
     let mut pages = Pages {

@@ -10,10 +10,8 @@ mod pages;
 mod paths;
 mod replies;
 mod routing;
-mod running;
 mod writing;
 
 pub use answering::{answer, answer_cached};
 pub use faults::ServeFault;
 pub use pages::{Client, Pages};
-pub use running::{run_and_answer, run_and_answer_in_memory};

@@ -4,7 +4,7 @@ ghost use Rattle.std.specs.Option.{option_map_or};
 ghost use Rattle.archive_requests.specs.Asked.{model_request};
 ghost use Rattle.archive_requests.specs.Routes.{route_of};
 ghost use Rattle.archive_requests.specs.Routing.{model_route};
-ghost use Rattle.archive_store.specs.Told.{WritesNothing};
+ghost use Rattle.archive_port.specs.Crashes.{WritesNothing};
 ghost use Rattle.archive_results.specs.Access.{reader_name};
 ghost use Rattle.archive_pages.specs.Answers.{pathless_reply, path_reply, reader_of, request_reply, unrouted_reply};
 ghost use Rattle.archive_pages.specs.Calls.{IsPagesCacheCoherent, EndsReplyFromPages, ServesReplyIf, WritesReply, WritesReplyIfWanted};
@@ -17,13 +17,12 @@ use crate::pages::Pages;
 use crate::replies::Failure;
 use crate::routing::answer_route;
 use crate::writing::write_failure;
+use archive_port::ArchiveStore;
 use archive_requests::{Request, Route, Routes, route_of};
 use archive_results::Reader;
-use archive_store::Store;
 use http::StatusCode;
 use mail_core::Memory;
 use mbox_core::device::Sink;
-use sqlite::Alter;
 use std::alloc::Global;
 use thread_core::Threader;
 
@@ -44,50 +43,50 @@ fn find_route<'p>(
 }
 
 /// Answers a path: 404 where no route leads there.
-fn answer_path<T: Threader, S: Alter, W: Sink>(
-    store: &mut Store<S>,
+fn answer_path<T: Threader, S: ArchiveStore, W: Sink>(
+    store: &mut S,
     pages: &mut Pages<'_, T>,
     reader: Reader<'_>,
     path: &str,
     output: &mut W,
 ) -> Result<StatusCode, ServeFault>
-    ensures sent { ServesReplyIf S.Store W.Sink store.old store.new output.old output.new result
+    ensures sent { ServesReplyIf S.ArchiveState W.Sink store.old store.new output.old output.new result
         (IsPagesCacheCoherent pages.old)
         (λ a. path_reply a pages.old.policy.now pages.old.day path.now (reader_name reader.entry)) }
     ensures unrouted { IfSome pages.old.routes (λ _. route_of path.now ≡ None
         → WritesReply W.Sink output.old output.new (λ reply. reply ≡ not_found) result) }
-    ensures ends { EndsReplyFromPages S.Store W.Sink store.old store.new output.old output.new result
+    ensures ends { EndsReplyFromPages S.ArchiveState W.Sink store.old store.new output.old output.new result
         (IsUnreadableOrReaderUnknown (IsPathDataUnreadable pages.old.policy.now pages.old.day path.now
         (reader_name reader.entry)) (reader_name reader.entry))
         pages.old pages.new }
-    ensures writes_nothing { WritesNothing S.Store store.old store.new }
+    ensures writes_nothing { WritesNothing S.ArchiveState store.old store.new }
 {
     match find_route(pages.alloc, &pages.routes, path) {
         Ok(Some(route)) => answer_route(store, pages, reader, &route, output),
         Ok(None) => write_failure(output, Failure::NotFound),
         Err(refused) => {
-            store.wants.increment(refused.into());
+            store.count_refusal(refused.into());
             write_failure(output, Failure::Unavailable)
         }
     }
 }
 
 /// Answers a path to whoever has a token: 401 where nobody has it.
-fn answer_holder<T: Threader, S: Alter, W: Sink>(
-    store: &mut Store<S>,
+fn answer_holder<T: Threader, S: ArchiveStore, W: Sink>(
+    store: &mut S,
     pages: &mut Pages<'_, T>,
     token: &str,
     path: &str,
     output: &mut W,
 ) -> Result<StatusCode, ServeFault>
-    ensures sent { ServesReplyIf S.Store W.Sink store.old store.new output.old output.new result
+    ensures sent { ServesReplyIf S.ArchiveState W.Sink store.old store.new output.old output.new result
         (IsPagesCacheCoherent pages.old)
         (λ a. option_map_or (path_reply a pages.old.policy.now pages.old.day path.now)
         (reader_of a (Some token.now)) unauthorized) }
-    ensures ends { EndsReplyFromPages S.Store W.Sink store.old store.new output.old output.new result
+    ensures ends { EndsReplyFromPages S.ArchiveState W.Sink store.old store.new output.old output.new result
         (IsTokenDataUnreadable pages.old.policy.now pages.old.day token.now path.now)
         pages.old pages.new }
-    ensures writes_nothing { WritesNothing S.Store store.old store.new }
+    ensures writes_nothing { WritesNothing S.ArchiveState store.old store.new }
 {
     match find_person(store, token) {
         Ok(Some(name)) => answer_path(store, pages, Reader::Person(name.as_str()), path, output),
@@ -97,13 +96,13 @@ fn answer_holder<T: Threader, S: Alter, W: Sink>(
 }
 
 /// Answers what a request asks for.
-pub(crate) fn answer_request<T: Threader, S: Alter, W: Sink>(
-    store: &mut Store<S>,
+pub(crate) fn answer_request<T: Threader, S: ArchiveStore, W: Sink>(
+    store: &mut S,
     pages: &mut Pages<'_, T>,
     request: &Request<'_>,
     output: &mut W,
 ) -> Result<StatusCode, ServeFault>
-    ensures sent { ServesReplyIf S.Store W.Sink store.old store.new output.old output.new result
+    ensures sent { ServesReplyIf S.ArchiveState W.Sink store.old store.new output.old output.new result
         (IsPagesCacheCoherent pages.old)
         (λ a. request_reply a pages.old.policy.now pages.old.day (model_request request.now)) }
     ensures direct { WritesReplyIfWanted W.Sink output.old output.new
@@ -111,10 +110,10 @@ pub(crate) fn answer_request<T: Threader, S: Alter, W: Sink>(
     ensures unrouted { IfSome pages.old.routes
         (λ _. WritesReplyIfWanted W.Sink output.old output.new
         (unrouted_reply (model_request request.now)) result) }
-    ensures ends { EndsReplyFromPages S.Store W.Sink store.old store.new output.old output.new result
+    ensures ends { EndsReplyFromPages S.ArchiveState W.Sink store.old store.new output.old output.new result
         (IsRequestDataUnreadable pages.old.policy.now pages.old.day (model_request request.now))
         pages.old pages.new }
-    ensures writes_nothing { WritesNothing S.Store store.old store.new }
+    ensures writes_nothing { WritesNothing S.ArchiveState store.old store.new }
 {
     match request {
         Request::Bad => write_failure(output, Failure::BadRequest),

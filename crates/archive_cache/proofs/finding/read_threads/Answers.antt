@@ -10,6 +10,6 @@ returns-in-Ok-outline_of-clause-made g c =
     let ask = c.args.ask.now in
     let outline = c.in-Ok-outline_of.outline in
     let list : c.ask.inside.list.now ≡ ask.list = search rules in
-    listed_from g.S.Store c.args.store.now c.read_view_summaries.new.store ask c.in-Ok.index.headers.items c.in-Ok.index.merge c.in-Ok.ensures.held
+    listed_from g.S.ArchiveState c.args.store.now c.read_view_summaries.new.store ask c.in-Ok.index.headers.items c.in-Ok.index.merge c.in-Ok.ensures.held
     (λ merge view. outline ≡ index_of_view ask.list merge (map shown_message view))
     (subst (λ l. HoldsForEachView c.in-Ok.index.headers.items (λ view. outline ≡ index_of_view l c.in-Ok.index.merge (map shown_message view))) list c.in-Ok-outline_of.ensures)

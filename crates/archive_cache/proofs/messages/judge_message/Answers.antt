@@ -1,8 +1,8 @@
 use Rattle.std.proofs.Common.{◌≡◌, ◌∙◌, Option, None, option_map, rules, sym, subst}
 use Rattle.archive_model.specs.Records.{Archive, Message}
 use Rattle.archive_model.specs.Questions.{message_of}
-use Rattle.archive_store.proofs.Joins.{goes_in_as}
-use Rattle.archive_store.specs.Told.{HoldsTables}
+use Rattle.archive_port.proofs.Joins.{goes_in_as}
+use Rattle.archive_port.specs.Told.{HoldsTables}
 use Rattle.archive_results.specs.Access.{absent, asked_of_message, denied_by, message_facts, spec_asked}
 use Rattle.archive_desk.specs.Causes.{IsMessageUnreadable}
 use Rattle.archive_desk.specs.Faults.{IsAskFault, missing_list_reason, refusal_reason}
@@ -15,7 +15,7 @@ use Rattle.archive_cache.proofs.messages.judge_message.Goals as goal
 
 pub returns-then-asks_author-clause-asked : goal.returns-then-asks_author-clause-asked
 returns-then-asks_author-clause-asked g c =
-    read_kept g.S.Store c.args.ask.now c.args.reader.now c.args.key.now spec_asked c.args.store.now c.read_message.new.store c.args.kept.now.withheld c.read_message.result
+    read_kept g.S.ArchiveState c.args.ask.now c.args.reader.now c.args.key.now spec_asked c.args.store.now c.read_message.new.store c.args.kept.now.withheld c.read_message.result
     c.read_message.ensures.asked
 
 pub returns-in_default-clause-asked : goal.returns-in_default-clause-asked
@@ -24,7 +24,7 @@ returns-in_default-clause-asked g c =
     let reader = c.args.reader.now in
     let held : Archive → Option Message = λ a. message_of a ask.list c.args.key.now in
     let kept = c.args.kept.now.withheld in
-    goes_in_as g.S.Store (HoldsTables g.S.Store) c.args.store.now c.find_message_facts.new.store
+    goes_in_as g.S.ArchiveState (HoldsTables g.S.ArchiveState) c.args.store.now c.find_message_facts.new.store
     (λ a b. (b ≡ a) × (missing_list_reason a ask ≡ None) × (c.in-Ok.found ≡ option_map (message_facts None) (held a)))
     (λ a b. (b ≡ a) × (missing_list_reason a ask ≡ None) × ((absent ≡ asked_of_message ask reader (held a)) × (AreWithheldCoherent a kept → AreWithheldCoherent a kept)))
     (λ a b h. (h.0, h.1, (none_held ask reader (held a) (sym c.in_default.is ∙ h.2), (λ are. are)))) c.in-Ok.ensures.held
@@ -37,8 +37,8 @@ returns-in-Allowed-clause-asked g c =
     let old = c.args.store.now in
     let new = c.read_message-in-Allowed.new.store in
     let result = c.read_message-in-Allowed.result in
-    read_kept g.S.Store ask reader key spec_asked old new c.args.kept.now.withheld result
-    (read_behind g.S.Store ask reader key spec_asked old c.find_message_facts.new.store new c.in-Ok.found c.in-Ok.ensures.held result c.read_message-in-Allowed.ensures.asked)
+    read_kept g.S.ArchiveState ask reader key spec_asked old new c.args.kept.now.withheld result
+    (read_behind g.S.ArchiveState ask reader key spec_asked old c.find_message_facts.new.store new c.in-Ok.found c.in-Ok.ensures.held result c.read_message-in-Allowed.ensures.asked)
 
 pub returns-in-Denied-clause-asked : goal.returns-in-Denied-clause-asked
 returns-in-Denied-clause-asked g c =
@@ -51,7 +51,7 @@ returns-in-Denied-clause-asked g c =
     let kept = c.args.kept.now.withheld in
     let later = c.put_marks.new.self.withheld in
     let list : c.ask.inside.list.now ≡ ask.list = search rules in
-    goes_in_as g.S.Store (HoldsTables g.S.Store) c.args.store.now c.find_message_facts.new.store
+    goes_in_as g.S.ArchiveState (HoldsTables g.S.ArchiveState) c.args.store.now c.find_message_facts.new.store
     (λ a b. (b ≡ a) × (missing_list_reason a ask ≡ None) × (c.in-Ok.found ≡ option_map (message_facts None) (held a)))
     (λ a b. (b ≡ a) × (missing_list_reason a ask ≡ None) × ((denied_by rule ≡ asked_of_message ask reader (held a)) × (AreWithheldCoherent a kept → AreWithheldCoherent a later)))
     (λ a b h.
@@ -74,7 +74,7 @@ returns-in-Allowed-clause-ends g c =
     let new = c.read_message-in-Allowed.new.store in
     let result = c.read_message-in-Allowed.result in
     let held = c.in-Ok.ensures.held in
-    let last = asks_last g.S.Store (HoldsTables g.S.Store) mid new refusal_reason (λ a. missing_list_reason a ask)
+    let last = asks_last g.S.ArchiveState (HoldsTables g.S.ArchiveState) mid new refusal_reason (λ a. missing_list_reason a ask)
     (λ a answer. spec_asked answer ≡ asked_of_message ask c.args.reader.now (message_of a ask.list key)) result c.read_message-in-Allowed.ensures.asked in
-    ends_after g.S.Store old mid new (held.0, λ returned tables. let there = held.1 returned tables in (there.0, there.1.0)) last c.in-Ok.ensures.ends.refusals_counted.0 IsAskFault result
+    ends_after g.S.ArchiveState old mid new (held.0, λ returned tables. let there = held.1 returned tables in (there.0, there.1.0)) last c.in-Ok.ensures.ends.refusals_counted.0 IsAskFault result
     (λ a. IsMessageUnreadable a ask key) (λ a. IsMessageUnreadable a ask key) (λ a bad. bad) c.read_message-in-Allowed.ensures.ends

@@ -13,7 +13,7 @@ returns-clause-answered g c = λ of.
       told.0,
       told.1,
       said_either told.0 c.in-Ok.read _ _ _
-          (λ all. IsAnsweredFromStore g.S.Store c.args.store.now c.answer_read.new.store c.args.pages.now.policy.now c.args.pages.now.day told.0 all (g.W.Sink.told c.args.output.now)
+          (λ all. IsAnsweredFromStore g.S.ArchiveState c.args.store.now c.answer_read.new.store c.args.pages.now.policy.now c.args.pages.now.day told.0 all (g.W.Sink.told c.args.output.now)
           (g.W.Sink.told c.answer_read.new.output) c.answer_read.result)
           (λ more is. c.answer_read.ensures.answered of told.0 more is) told.2,
     )
@@ -47,5 +47,5 @@ returns-clause-caused g c =
     let before = g.R.Source.told c.args.input.now in
     let after = g.R.Source.told c.read_request.new.input in
     let told = c.in-Ok.ensures.read in
-    serves_or_as g.S.Store c.args.store.now c.answer_read.new.store c.answer_read.result (IsReadRequestDataUnreadable rules day c.in-Ok.read) (IsInputDataUnreadable before after rules day)
+    serves_or_as g.S.ArchiveState c.args.store.now c.answer_read.new.store c.answer_read.result (IsReadRequestDataUnreadable rules day c.in-Ok.read) (IsInputDataUnreadable before after rules day)
     (λ a bad. unread_in before after told.0 rules day a c.in-Ok.read told.1 (begun_by told.0 c.in-Ok.read _ _ _ told.2) bad) c.answer_read.ensures.ends.fault_has_cause

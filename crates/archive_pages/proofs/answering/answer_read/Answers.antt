@@ -11,35 +11,35 @@ use Rattle.archive_pages.proofs.answering.answer_read.Goals as goal
 
 pub returns-in-Whole-clause-answered : goal.returns-in-Whole-clause-answered
 returns-in-Whole-clause-answered g c = λ of given more is.
-    to_whole g.S.Store c.args.pages.now.policy.now c.args.pages.now.day given more (g.W.Sink.told c.args.output.now) (g.W.Sink.told c.answer_request.new.output)
+    to_whole g.S.ArchiveState c.args.pages.now.policy.now c.args.pages.now.day given more (g.W.Sink.told c.args.output.now) (g.W.Sink.told c.answer_request.new.output)
     c.answer_request.result c.args.store.now c.answer_request.new.store c.in-Whole.request (subst (IsRequestReadOfInput given (given ++ more)) c.in-Whole.is is)
-    (serves_of_remembered g.S.Store (g.W.Sink.told c.args.output.now) (g.W.Sink.told c.answer_request.new.output) c.answer_request.result c.args.store.now
+    (serves_of_remembered g.S.ArchiveState (g.W.Sink.told c.args.output.now) (g.W.Sink.told c.answer_request.new.output) c.answer_request.result c.args.store.now
     c.answer_request.new.store (λ a. IsCacheCoherent a c.args.pages.now.policy.now c.args.pages.now.day c.args.pages.now.kept)
     (λ a reply. reply ≡ request_reply a c.args.pages.now.policy.now c.args.pages.now.day (model_request c.in-Whole.request)) of c.answer_request.ensures.sent)
     c.answer_request.ensures.direct
 
 pub returns-in-Malformed-clause-answered : goal.returns-in-Malformed-clause-answered
 returns-in-Malformed-clause-answered g c = λ of given more is.
-    to_bad g.S.Store c.args.pages.now.policy.now c.args.pages.now.day given (given ++ more) (g.W.Sink.told c.args.output.now) (g.W.Sink.told c.write_failure.new.output)
+    to_bad g.S.ArchiveState c.args.pages.now.policy.now c.args.pages.now.day given (given ++ more) (g.W.Sink.told c.args.output.now) (g.W.Sink.told c.write_failure.new.output)
     c.write_failure.result c.args.store.now (subst (IsRequestReadOfInput given (given ++ more)) c.in-Malformed.is is) c.write_failure.ensures.sent
 
 pub returns-in-TooLarge-clause-answered : goal.returns-in-TooLarge-clause-answered
 returns-in-TooLarge-clause-answered g c = λ of given more is.
-    to_large g.S.Store c.args.pages.now.policy.now c.args.pages.now.day given (given ++ more) (g.W.Sink.told c.args.output.now)
+    to_large g.S.ArchiveState c.args.pages.now.policy.now c.args.pages.now.day given (given ++ more) (g.W.Sink.told c.args.output.now)
     (g.W.Sink.told c.write_failure-in-TooLarge.new.output) c.write_failure-in-TooLarge.result c.args.store.now (subst (IsRequestReadOfInput given (given ++ more)) c.in-TooLarge.is is)
     c.write_failure-in-TooLarge.ensures.sent
 
 pub returns-in-Whole-clause-stays : goal.returns-in-Whole-clause-stays
 returns-in-Whole-clause-stays g c =
-    stays_kept g.S.Store (g.W.Sink.told c.args.output.now) (g.W.Sink.told c.answer_request.new.output) c.answer_request.result c.args.store.now
+    stays_kept g.S.ArchiveState (g.W.Sink.told c.args.output.now) (g.W.Sink.told c.answer_request.new.output) c.answer_request.result c.args.store.now
     c.answer_request.new.store (λ a. IsCacheCoherent a c.args.pages.now.policy.now c.args.pages.now.day c.args.pages.now.kept)
     (λ a reply. reply ≡ request_reply a c.args.pages.now.policy.now c.args.pages.now.day (model_request c.in-Whole.request)) c.answer_request.ensures.sent
 
 pub returns-in-Malformed-clause-stays : goal.returns-in-Malformed-clause-stays
-returns-in-Malformed-clause-stays g c = stays_unasked g.S.Store c.args.store.now c.write_failure.result
+returns-in-Malformed-clause-stays g c = stays_unasked g.S.ArchiveState c.args.store.now c.write_failure.result
 
 pub returns-in-TooLarge-clause-stays : goal.returns-in-TooLarge-clause-stays
-returns-in-TooLarge-clause-stays g c = stays_unasked g.S.Store c.args.store.now c.write_failure-in-TooLarge.result
+returns-in-TooLarge-clause-stays g c = stays_unasked g.S.ArchiveState c.args.store.now c.write_failure-in-TooLarge.result
 
 pub returns-in-Whole-clause-unrouted : goal.returns-in-Whole-clause-unrouted
 returns-in-Whole-clause-unrouted g c = with_same c.args.pages.now.routes

@@ -10,8 +10,8 @@ returns-in_default-fault-clause-why g c =
     let new = c.find_message.new.store in record {
       fault_has_cause = (
         c.in-Err.ensures.ends.refusals_counted.0,
-        subst (λ (key : List ℕ). Has503Cause g.S.Store old new (IsUnreadableOrReaderUnknown (IsMessageDataUnreadable ask key) ask.reader)) c.in-Some.ensures.some
-            (desk_unfound g.S.Store old new ask (IsMessageDataUnreadable ask c.in-Some.key) c.in-Err.fault c.in_default-fault.not-NoList c.in-Err.ensures.ends.fault_is_expected
+        subst (λ (key : List ℕ). Has503Cause g.S.ArchiveState old new (IsUnreadableOrReaderUnknown (IsMessageDataUnreadable ask key) ask.reader)) c.in-Some.ensures.some
+            (desk_unfound g.S.ArchiveState old new ask (IsMessageDataUnreadable ask c.in-Some.key) c.in-Err.fault c.in_default-fault.not-NoList c.in-Err.ensures.ends.fault_is_expected
             c.in-Err.ensures.ends.refusals_counted.1 c.in-Err.ensures.ends.fault_has_cause c.in-Err.ensures.asked),
       );
       status_is_not_503 = tt;

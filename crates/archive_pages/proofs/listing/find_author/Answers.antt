@@ -17,7 +17,7 @@ pub returns-in_default-clause-found : goal.returns-in_default-clause-found
 returns-in_default-clause-found g c =
     let ask = c.args.ask.now in
     let key = percent_decode c.args.text.now in
-    found_none g.S.Store c.args.store.now c.find_place.new.store (IsCacheCoherentForAsk ask c.args.kept.now) ask c.find_place.new.kept (author c.deref.result.now) c.in_ok-place.field-0
+    found_none g.S.ArchiveState c.args.store.now c.find_place.new.store (IsCacheCoherentForAsk ask c.args.kept.now) ask c.find_place.new.kept (author c.deref.result.now) c.in_ok-place.field-0
     (λ a. page_reply (author_page ask.list key (author_lines key (shown_view a ask)))) c.in_ok-place.ensures.found c.in_default.is
 
 pub returns-in_default-outline-clause-why : goal.returns-in_default-outline-clause-why
@@ -33,7 +33,7 @@ returns-in-Ok-author_page-clause-found g c =
     let shown : c.deref-2.result.now ≡ key = c.deref-2.ensures.value ∙ c.in-Ok.ensures in
     let outline = c.in-Some-outline.outline.now in
     let made = c.in-Ok-author_page.page.items in
-    found_at g.S.Store c.args.store.now c.find_place.new.store (IsCacheCoherentForAsk ask c.args.kept.now) ask c.find_place.new.kept (author c.deref.result.now) c.in_ok-place.field-0
+    found_at g.S.ArchiveState c.args.store.now c.find_place.new.store (IsCacheCoherentForAsk ask c.args.kept.now) ask c.find_place.new.kept (author c.deref.result.now) c.in_ok-place.field-0
     (λ a. page_reply (author_page ask.list key (author_lines key (shown_view a ask)))) c.in_ok-place.ensures.found
     c.in-Some.place outline (page_reply made) c.in-Some.is c.in-Some-outline.ensures.outline
     (λ a of. author_placed a ask outline c.ask.inside.list.now c.text.result.now (ap (λ (q : Ask). q.list) c.ask.view_is) c.text.ensures key made

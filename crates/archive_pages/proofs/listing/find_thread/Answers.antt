@@ -16,7 +16,7 @@ use Rattle.archive_pages.proofs.listing.find_thread.Goals as goal
 pub returns-in_default-2-clause-found : goal.returns-in_default-2-clause-found
 returns-in_default-2-clause-found g c =
     let ask = c.args.ask.now in
-    found_none g.S.Store c.args.store.now c.find_place.new.store (IsCacheCoherentForAsk ask c.args.kept.now) ask c.find_place.new.kept whole c.in_ok-place.field-0
+    found_none g.S.ArchiveState c.args.store.now c.find_place.new.store (IsCacheCoherentForAsk ask c.args.kept.now) ask c.find_place.new.kept whole c.in_ok-place.field-0
     (λ a. thread_reply (merge_of a ask.list) ask.list c.args.key.now (shown_view a ask)) c.in_ok-place.ensures.found c.in_default-2.is
 
 pub returns-in_default-outline-clause-why : goal.returns-in_default-outline-clause-why
@@ -28,7 +28,7 @@ pub returns-in_default-thread-clause-found : goal.returns-in_default-thread-clau
 returns-in_default-thread-clause-found g c =
     let ask = c.args.ask.now in
     let outline = c.in-Some-outline.outline.now in
-    found_at g.S.Store c.args.store.now c.find_place.new.store (IsCacheCoherentForAsk ask c.args.kept.now) ask c.find_place.new.kept whole c.in_ok-place.field-0
+    found_at g.S.ArchiveState c.args.store.now c.find_place.new.store (IsCacheCoherentForAsk ask c.args.kept.now) ask c.find_place.new.kept whole c.in_ok-place.field-0
     (λ a. thread_reply (merge_of a ask.list) ask.list c.args.key.now (shown_view a ask)) c.in_ok-place.ensures.found
     c.in-Some-2.place outline not_found c.in-Some-2.is c.in-Some-outline.ensures.outline
     (λ a of. thread_none ask a c.args.key.now
@@ -40,7 +40,7 @@ returns-in-Ok-clause-found g c =
     let ask = c.args.ask.now in
     let outline = c.in-Some-outline.outline.now in
     let keyed : is_key c.args.key.now ≡ true = search rules in
-    found_at g.S.Store c.args.store.now c.find_place.new.store (IsCacheCoherentForAsk ask c.args.kept.now) ask c.find_place.new.kept whole c.in_ok-place.field-0
+    found_at g.S.ArchiveState c.args.store.now c.find_place.new.store (IsCacheCoherentForAsk ask c.args.kept.now) ask c.find_place.new.kept whole c.in_ok-place.field-0
     (λ a. thread_reply (merge_of a ask.list) ask.list c.args.key.now (shown_view a ask)) c.in_ok-place.ensures.found
     c.in-Some-2.place outline (page_reply c.in-Ok.page.items) c.in-Some-2.is c.in-Some-outline.ensures.outline
     (λ a of. thread_placed a ask outline c.ask.inside.list.now (ap (λ (q : Ask). q.list) c.ask.view_is) c.args.key.now c.in-Some-thread.text.now c.in-Ok.page.items keyed c.in-Ok.ensures

@@ -14,7 +14,7 @@ use Rattle.archive_pages.proofs.listing.find_threads.Goals as goal
 pub returns-in_default-clause-found : goal.returns-in_default-clause-found
 returns-in_default-clause-found g c =
     let ask = c.args.ask.now in
-    found_none g.S.Store c.args.store.now c.find_place.new.store (IsCacheCoherentForAsk ask c.args.kept.now) ask c.find_place.new.kept whole c.in_ok-place.field-0
+    found_none g.S.ArchiveState c.args.store.now c.find_place.new.store (IsCacheCoherentForAsk ask c.args.kept.now) ask c.find_place.new.kept whole c.in_ok-place.field-0
     (λ a. page_reply (threads_page ask.list (tree_lines (merge_of a ask.list) (shown_view a ask)))) c.in_ok-place.ensures.found c.in_default.is
 
 pub returns-in_default-outline-clause-why : goal.returns-in_default-outline-clause-why
@@ -26,7 +26,7 @@ pub returns-in-Ok-clause-found : goal.returns-in-Ok-clause-found
 returns-in-Ok-clause-found g c =
     let ask = c.args.ask.now in
     let outline = c.in-Some-outline.outline.now in
-    found_at g.S.Store c.args.store.now c.find_place.new.store (IsCacheCoherentForAsk ask c.args.kept.now) ask c.find_place.new.kept whole c.in_ok-place.field-0
+    found_at g.S.ArchiveState c.args.store.now c.find_place.new.store (IsCacheCoherentForAsk ask c.args.kept.now) ask c.find_place.new.kept whole c.in_ok-place.field-0
     (λ a. page_reply (threads_page ask.list (tree_lines (merge_of a ask.list) (shown_view a ask)))) c.in_ok-place.ensures.found
     c.in-Some.place outline (page_reply c.in-Ok.page.items) c.in-Some.is c.in-Some-outline.ensures.outline
     (λ a of. threads_placed a ask outline c.ask.inside.list.now (ap (λ (q : Ask). q.list) c.ask.view_is) c.text.result.now c.in-Ok.page.items of c.in-Ok.ensures c.text.ensures)

@@ -12,7 +12,7 @@ use Rattle.archive_pages.proofs.paths.answer_path.Goals as goal
 
 pub returns-in-Ok-Some-clause-sent : goal.returns-in-Ok-Some-clause-sent
 returns-in-Ok-Some-clause-sent g c = subst
-    (λ route. ServesFromArchiveIf g.S.Store c.args.store.now c.answer_route.new.store (λ a. IsCacheCoherent a c.args.pages.now.policy.now c.args.pages.now.day c.args.pages.now.kept)
+    (λ route. ServesFromArchiveIf g.S.ArchiveState c.args.store.now c.answer_route.new.store (λ a. IsCacheCoherent a c.args.pages.now.policy.now c.args.pages.now.day c.args.pages.now.kept)
     (λ a reply. reply ≡ option_map_or (route_reply a (ask_of_reader c.args.pages.now.policy.now c.args.pages.now.day (reader_name c.args.reader))) route not_found)
     (g.W.Sink.told c.args.output.now) (g.W.Sink.told c.answer_route.new.output) c.answer_route.result)
     (rw c.in-Ok-Some.field-0-is at c.in-Ok-Some.ensures.route) c.answer_route.ensures.sent
@@ -28,7 +28,7 @@ returns-in-Err-clause-unrouted g c = with_none c.args.pages.now.routes _ c.in-Er
 
 pub returns-in-Ok-Some-clause-ends : goal.returns-in-Ok-Some-clause-ends
 returns-in-Ok-Some-clause-ends g c = subst
-    (λ fits. EndsReplyFromPages g.S.Store g.W.Sink c.args.store.now c.answer_route.new.store c.args.output.now c.answer_route.new.output c.answer_route.result
+    (λ fits. EndsReplyFromPages g.S.ArchiveState g.W.Sink c.args.store.now c.answer_route.new.store c.args.output.now c.answer_route.new.output c.answer_route.result
     (IsUnreadableOrReaderUnknown (λ a. IsSomeAnd fits (λ route. IsRouteDataUnreadable (ask_of_reader c.args.pages.now.policy.now c.args.pages.now.day (reader_name c.args.reader)) route a))
     (reader_name c.args.reader))
     c.args.pages.now c.answer_route.new.pages)

@@ -15,7 +15,8 @@ use Rattle.archive_pages.proofs.paths.answer_request.Goals as goal
 pub returns-in-Asks-None-default-clause-sent : goal.returns-in-Asks-None-default-clause-sent
 returns-in-Asks-None-default-clause-sent g c =
     let none : c.in-Asks-None-default.token ≡ None = search rules in
-    subst (λ (r : Request). ServesFromArchiveIf g.S.Store c.args.store.now c.answer_path.new.store (λ a. IsCacheCoherent a c.args.pages.now.policy.now c.args.pages.now.day c.args.pages.now.kept)
+    subst (λ (r : Request). ServesFromArchiveIf g.S.ArchiveState c.args.store.now c.answer_path.new.store
+    (λ a. IsCacheCoherent a c.args.pages.now.policy.now c.args.pages.now.day c.args.pages.now.kept)
     (λ a reply. reply ≡ request_reply a c.args.pages.now.policy.now c.args.pages.now.day (model_request r))
     (g.W.Sink.told c.args.output.now) (g.W.Sink.told c.answer_path.new.output) c.answer_path.result)
     (sym (c.in-Asks-None-default.is ∙ ap (λ t. Asks t c.in-Asks-None-default.path) none)) c.answer_path.ensures.sent
@@ -23,7 +24,8 @@ returns-in-Asks-None-default-clause-sent g c =
 pub returns-in-Asks-Some-default-clause-sent : goal.returns-in-Asks-Some-default-clause-sent
 returns-in-Asks-Some-default-clause-sent g c =
     let held : c.in-Asks-Some-default.token' ≡ Some c.in-Asks-Some-default.token = search rules in
-    subst (λ (r : Request). ServesFromArchiveIf g.S.Store c.args.store.now c.answer_holder.new.store (λ a. IsCacheCoherent a c.args.pages.now.policy.now c.args.pages.now.day c.args.pages.now.kept)
+    subst (λ (r : Request). ServesFromArchiveIf g.S.ArchiveState c.args.store.now c.answer_holder.new.store
+    (λ a. IsCacheCoherent a c.args.pages.now.policy.now c.args.pages.now.day c.args.pages.now.kept)
     (λ a reply. reply ≡ request_reply a c.args.pages.now.policy.now c.args.pages.now.day (model_request r))
     (g.W.Sink.told c.args.output.now) (g.W.Sink.told c.answer_holder.new.output) c.answer_holder.result)
     (sym (c.in-Asks-Some-default.is ∙ ap (λ t. Asks t c.in-Asks-Some-default.path) held)) c.answer_holder.ensures.sent
@@ -62,9 +64,9 @@ returns-in-Asks-None-default-clause-ends g c =
     let none : c.in-Asks-None-default.token ≡ None = search rules in
     record {
       ends_reply = c.answer_path.ensures.ends.ends_reply;
-      fault_has_cause = subst (λ (r : Request). ServesOr503 g.S.Store c.args.store.now c.answer_path.new.store c.answer_path.result (IsRequestDataUnreadable policy day (model_request r)))
+      fault_has_cause = subst (λ (r : Request). ServesOr503 g.S.ArchiveState c.args.store.now c.answer_path.new.store c.answer_path.result (IsRequestDataUnreadable policy day (model_request r)))
           (sym (c.in-Asks-None-default.is ∙ ap (λ t. Asks t c.in-Asks-None-default.path) none))
-          (serves_or_as g.S.Store c.args.store.now c.answer_path.new.store c.answer_path.result (IsUnreadableOrReaderUnknown (IsPathDataUnreadable policy day path None) None)
+          (serves_or_as g.S.ArchiveState c.args.store.now c.answer_path.new.store c.answer_path.result (IsUnreadableOrReaderUnknown (IsPathDataUnreadable policy day path None) None)
           (IsPathDataUnreadable policy day path None) (λ a bad. elim bad [ inl unread ↦ unread | inr none ↦ absurd none ]) c.answer_path.ensures.ends.fault_has_cause);
       changes_only_cache = c.answer_path.ensures.ends.changes_only_cache;
     }
@@ -74,7 +76,7 @@ returns-in-Asks-Some-default-clause-ends g c =
     let held : c.in-Asks-Some-default.token' ≡ Some c.in-Asks-Some-default.token = search rules in
     record {
       ends_reply = c.answer_holder.ensures.ends.ends_reply;
-      fault_has_cause = subst (λ (r : Request). ServesOr503 g.S.Store c.args.store.now c.answer_holder.new.store c.answer_holder.result
+      fault_has_cause = subst (λ (r : Request). ServesOr503 g.S.ArchiveState c.args.store.now c.answer_holder.new.store c.answer_holder.result
           (IsRequestDataUnreadable c.args.pages.now.policy.now c.args.pages.now.day (model_request r)))
           (sym (c.in-Asks-Some-default.is ∙ ap (λ t. Asks t c.in-Asks-Some-default.path) held)) c.answer_holder.ensures.ends.fault_has_cause;
       changes_only_cache = c.answer_holder.ensures.ends.changes_only_cache;

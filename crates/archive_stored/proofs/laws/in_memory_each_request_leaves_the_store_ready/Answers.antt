@@ -1,5 +1,5 @@
-use Rattle.archive_store.proofs.FollowLemmas.{memory_stays_open}
-use Rattle.archive_pages.proofs.laws.in_memory_each_request_leaves_the_store_ready.Goals as goal
+use Rattle.archive_stored.proofs.MemoryLemmas.{memory_stays_open}
+use Rattle.archive_stored.proofs.laws.in_memory_each_request_leaves_the_store_ready.Goals as goal
 
 pub returns : goal.returns
 returns c = λ old new result stays. (

@@ -8,9 +8,7 @@ ghost use Rattle.archive_port.specs.Commands.{spec_command};
 ghost use Rattle.archive_store.specs.Told.{HoldsTables, archive_in, StoreHasCleanDisk};
 ghost use Rattle.archive_pages.specs.Calls.{AnswersClient, ClientMeetsNoFailure, HasClientFaultCause};
 
-use crate::answering::answer;
-use crate::faults::ServeFault;
-use crate::pages::Client;
+use archive_pages::{Client, ServeFault, answer};
 use archive_store::{Command, CommandRunError, Store, StoreFault};
 use civil_time::Day;
 use http::StatusCode;

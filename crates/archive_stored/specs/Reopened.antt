@@ -10,6 +10,7 @@ use Rattle.sqlite.specs.Files.{over_files, file_state, Finds, IsOpened}
 use Rattle.sqlite.specs.Closing.{IsCopied}
 use Rattle.policy_core.specs.Rules.{Rule}
 use Rattle.archive_model.specs.Records.{Archive}
+use Rattle.archive_store.specs.State.{state_of}
 use Rattle.archive_store.specs.Told.{HoldsArchive, StoreHasCleanDisk, HoldsTables, archive_in}
 use Rattle.archive_store.specs.declared.store.Store.{Store}
 use Rattle.archive_pages.specs.Answered.{AnswersRequestFromStore}
@@ -32,7 +33,7 @@ module _ {D : Type 0} {g : Ghosts D} where
   -- the clause of `answer`
   abbrev pub AnswersRequestFromFile : (old new : Store (FileStore D g)) → List Rule → (day : ℤ) → (read_before read_after : List ℕ) → (ends_before ends_after : ℕ)
       → (told_before told_after : List ℕ) → Result ℕ ServeFault → Type 0
-  AnswersRequestFromFile = AnswersRequestFromStore over_files
+  AnswersRequestFromFile = AnswersRequestFromStore (state_of over_files)
 
   -- what it comes to: each request to this store, which leaves that one, is answered out of this archive
   abbrev pub AnswersEachRequestFromArchive : Archive → (store new : Store (FileStore D g)) → Type 0

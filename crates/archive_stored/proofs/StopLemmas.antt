@@ -18,9 +18,10 @@ use Rattle.archive_model.specs.Machine.{StepOutcome}
 use Rattle.archive_tables.specs.Crashes.{CrashLeavesArchiveWhere, IsCrashSafe, IsArchiveStored}
 use Rattle.archive_tables.specs.Tables.{IsArchiveAtRest, AreArchiveTables, archive_in_trees, archive_of}
 use Rattle.archive_store.specs.Crashes.{CrashSteps, CrashAfterCommand}
+use Rattle.archive_store.specs.State.{state_of}
 use Rattle.archive_store.specs.Replies.{PerformsModelStep}
 use Rattle.archive_store.specs.declared.store.Store.{Store}
-use Rattle.archive_pages.specs.Stopped.{AnswersAfterCrash}
+use Rattle.archive_stored.specs.Stopped.{AnswersAfterCrash}
 use Rattle.archive_pages.proofs.RunningLemmas.{answers_from}
 
 -- the archive that is in a database which a stop leaves
@@ -55,7 +56,7 @@ module _ {D : Type 0} {g : Ghosts D} where
         there.0,
         there.1,
         λ new returned rules day read_before read_after ends_before ends_after told_before told_after result said.
-            answers_from over_files store new there.0 returned
+            answers_from (state_of over_files) store new there.0 returned
             (λ was. let found = it.is_adopted.archive_at_rest_is_same was held in (found.0, found.1 ∙ ap archive_in_trees is ∙ there.2.archive_is)) rules day
             result read_before read_after ends_before ends_after told_before told_after said,
       )

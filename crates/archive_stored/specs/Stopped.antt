@@ -17,7 +17,7 @@ use Rattle.archive_store.specs.Crashes.{CrashSteps}
 use Rattle.archive_store.specs.Replies.{PerformsModelStep}
 use Rattle.archive_store.specs.Told.{StoreHasCleanDisk}
 use Rattle.archive_store.specs.declared.store.Store.{Store}
-use Rattle.archive_pages.specs.Reopened.{AnswersEachRequestFromArchive}
+use Rattle.archive_stored.specs.Reopened.{AnswersEachRequestFromArchive}
 
 module _ {D : Type 0} {g : Ghosts D} where
   -- A store that was opened behind a stop: the files hold a database that the stop may leave of the connection that it cut off. What

@@ -4,7 +4,7 @@ use Rattle.archive_model.specs.Runs.{run}
 use Rattle.archive_store.specs.Held.{store_connection}
 use Rattle.archive_port.specs.Commands.{spec_command}
 use Rattle.archive_pages.specs.Headline.{AnswersRequestFromArchive}
-use Rattle.archive_pages.proofs.running.run_and_answer_in_memory.Goals as goal
+use Rattle.archive_stored.proofs.running.run_and_answer_in_memory.Goals as goal
 
 pub returns-in-Ok-clause-answered : goal.returns-in-Ok-clause-answered
 returns-in-Ok-clause-answered g c =

@@ -1,0 +1,3 @@
+mod MemoryLemmas
+mod ReopenLemmas
+mod StopLemmas
