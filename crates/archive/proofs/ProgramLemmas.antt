@@ -7,7 +7,7 @@ use Rattle.archive_run.specs.declared.world.Environment.{Environment}
 use Rattle.archive.specs.Program.{EndsRun, FlushesRunOutput}
 
 -- the words are the same
-pub of_lent : {Y S F D C P T R O E I L K A B M : Type 0} {dev : DeviceContracts S F I D C P L T R O E} {old new : Environment Y S F D C P T R O E I L K A B M}
+pub of_lent : {Y S F D C P T R O E W I L K A B M : Type 0} {dev : DeviceContracts S W F I D C P L T R O E} {old new : Environment Y S F D C P T R O E W I L K A B M}
     {lent words : List (List ℕ)} {status : ℕ} → lent ≡ words → EndsRun dev old lent new status → EndsRun dev old words new status
 of_lent {dev = dev} {old = old} {new = new} {status = status} same it = subst (λ all. EndsRun dev old all new status) same it
 

@@ -8,6 +8,7 @@ use Rattle.sqlite_store.specs.declared.store.FileStore.{FileStore}
 use Rattle.sqlite.specs.Files.{over_files}
 use Rattle.archive_model.specs.Records.{Archive}
 use Rattle.archive_store.specs.Told.{HasNoStepLimit, HoldsTables, archive_in}
+use Rattle.archive_store.specs.State.{state_of}
 use Rattle.archive_store.specs.declared.store.Store.{Store}
 use Rattle.archive_port.specs.declared.faults.StoreFault.{StoreFault}
 use Rattle.archive_run.specs.Remembering.{StoreHoldsArchive}
@@ -21,7 +22,7 @@ use Rattle.archive.specs.declared.databases.FilesLeft.TheVariants.{NotOpened, Un
 module _ {A D : Type 0} {g : Ghosts D} (first : Image) where
   -- a store that was opened
   pub opened_store_holds : (start : Option A) (left : Option (FilesLeft D g)) (archive : Archive) (store : Store (FileStore D g)) → DatabaseHoldsArchive first start left archive
-      → (start ≡ None → ⊥) → IsOpenedFromImage first store → StoreHoldsArchive over_files store archive × HasNoStepLimit over_files store
+      → (start ≡ None → ⊥) → IsOpenedFromImage first store → StoreHoldsArchive (state_of over_files) store archive × HasNoStepLimit over_files store
   opened_store_holds None left archive store held some was = absurd (some refl)
   opened_store_holds (Some s) left archive store held some was = (opened_store_holds_archive first store archive was held, was.is_adopted.has_no_step_limit)
 

@@ -20,6 +20,7 @@ use Rattle.archive_tables.specs.Schema.{empty_schema, schema_of_version}
 use Rattle.archive_tables.specs.Tables.{IsOpenArchiveInFormat, IsKnownVersion, AreTablesOfVersion, archive_of_version, format_of_version}
 use Rattle.archive_tables.specs.Making.{empty_archive}
 use Rattle.archive_store.specs.Adopting.{IsAdopted}
+use Rattle.archive_store.specs.State.{state_of}
 use Rattle.archive_store.specs.declared.store.Store.{Store}
 use Rattle.archive_run.specs.Remembering.{StoreHoldsArchive}
 use Rattle.archive.specs.Unmade.{finds_no_row}
@@ -84,7 +85,8 @@ module _ {D : Type 0} {g : Ghosts D} (image : Image) (connection : Held (FileSto
 
 module _ {D : Type 0} {g : Ghosts D} (image : Image) where
   -- the store remembers what the files held: of new files, the empty archive
-  pub opened_store_holds_archive : (store : Store (FileStore D g)) (archive : Archive) → IsOpenedFromImage image store → FileHoldsArchive image archive → StoreHoldsArchive over_files store archive
+  pub opened_store_holds_archive : (store : Store (FileStore D g)) (archive : Archive) → IsOpenedFromImage image store → FileHoldsArchive image archive → StoreHoldsArchive (state_of over_files)
+      store archive
   opened_store_holds_archive store archive was (inl held) returned =
       let clean = was.is_adopted.disk_was_clean returned in
       let found = finds_tables image was.connection (was.is_opened clean) (was.finds_image clean) archive held in

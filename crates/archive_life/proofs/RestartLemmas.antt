@@ -2,7 +2,6 @@
 use Rattle.std.proofs.Common.{◌≡◌, ◌≢◌, ◌⊎◌, ◌∙◌, inl, inr, ap, refl, subst, sym, append_assoc, append-nil, ℕ, Bool, true, false, List, [], ◌∷◌, ◌++◌, map, take, drop, Ok, Err, IfSome, if◌then◌else◌}
 use Rattle.std.specs.Prelude.{option_map, MatchOption}
 use Rattle.std.proofs.lemmas.List.{map-append, take-append-drop}
-use Rattle.sqlite.specs.Held.{Held}
 use Rattle.mbox_items.specs.Division.{Item}
 use Rattle.mbox_stream.specs.Stream.{IsBeginning, file_items, settled_items}
 use Rattle.mbox_stream.proofs.StreamLaws.{file_items_divide, settled_begin}
@@ -11,11 +10,8 @@ use Rattle.archive_model.specs.Commands.{Command, add, no_message}
 use Rattle.archive_model.specs.Machine.{refuse, step}
 use Rattle.archive_model.specs.Runs.{run, taken, tally_replies}
 use Rattle.archive_model.specs.Sound.{IsIndexedCorrectly}
-use Rattle.archive_store.specs.Crashes.{CrashLeavesRelatedArchive}
-use Rattle.archive_store.specs.Held.{store_connection}
-use Rattle.archive_store.specs.Told.{WritesNothing, archive_in}
-use Rattle.archive_store.specs.declared.store.Store.{Store as Open}
-use Rattle.archive_store.proofs.CrashLemmas.{KeepsCommit, live_is_safe}
+use Rattle.archive_port.specs.Crashes.{CrashLeavesRelatedArchive, WritesNothing}
+use Rattle.archive_port.specs.Told.{archive_in}
 use Rattle.archive_import.specs.Streaming.{AreItemsOfReadText, HasAddedReadAtLeast}
 use Rattle.archive_args.specs.Values.{CheckValues, AskValues, GetValues, ImportValues, ServeValues, SiftValues, StoreCommand, StoreCommandValues}
 use Rattle.archive_args.specs.declared.orders.Order.{Order}
@@ -100,22 +96,20 @@ module _ (Holds : Archive → Type 0) where
 
 -- ---- a crash
 
-module _ {S F D C P T R O E I L : Type 0} (dev : DeviceContracts S F I D C P L T R O E) (opens : OpenedStoreHoldsArchive dev.pages dev.databases)
-    (settles : (c : Held S) → KeepsCommit dev.pages c) where
+module _ {S F D C P T R O E W I L : Type 0} (dev : DeviceContracts S W F I D C P L T R O E) (opens : OpenedStoreHoldsArchive dev.archive dev.databases) where
   -- what is found in trees that a crash left is as the clause of the crash says
-  found_crashed : (file : List ℕ) (Holds : Archive → Type 0) (old device : D) (o c : Open S) (archive : Archive) (Is : Archive → Archive → Type 0)
+  found_crashed : (file : List ℕ) (Holds : Archive → Type 0) (old device : D) (o c : S) (archive : Archive) (Is : Archive → Archive → Type 0)
       → dev.databases.holds old file archive → dev.databases.opens old device file (Ok o) → IsSoundStore dev (record { opened = o; last = c })
-      → CrashLeavesRelatedArchive dev.pages (store_connection o) (store_connection c) Is → FindsCrashed dev file Holds c
+      → CrashLeavesRelatedArchive dev.archive o c Is → FindsCrashed dev file Holds c
       → (b : Archive) × Is archive b × Holds b
   found_crashed file Holds old device o c archive Is held opened sound leaves crashed =
       let was = (opens old device file o archive held opened).0 sound.was_clean in
-      let safe = live_is_safe dev.pages (store_connection o) (settles (store_connection o)) was.0 sound.was_live in
-      let left = leaves sound.is_clean was.0 safe crashed.trees crashed.may_be_left in
+      let left = leaves sound.is_clean was.0 sound.was_safe crashed.left crashed.may_be_left in
       (left.0, subst (λ a. Is a left.0) was.1 left.1, crashed.holds_stored left.0 left.2)
 
-  module _ (file list mbox name : List ℕ) (Holds : Archive → Type 0) (files : F) (old device : D) (o c : Open S) (archive : Archive) (held : dev.databases.holds old file archive)
+  module _ (file list mbox name : List ℕ) (Holds : Archive → Type 0) (files : F) (old device : D) (o c : S) (archive : Archive) (held : dev.databases.holds old file archive)
       (opened : dev.databases.opens old device file (Ok o)) (sound : IsSoundStore dev (record { opened = o; last = c })) (crashed : FindsCrashed dev file Holds c) where
-    crashed_import : (changes : CrashImportsFile dev.pages o c dev.opens dev.input_of files list name) → IsReadOfIfOpened mbox changes
+    crashed_import : (changes : CrashImportsFile dev.archive o c dev.opens dev.input_of files list name) → IsReadOfIfOpened mbox changes
         → LeavesCarriedOut Holds cut_off (map (add list) (file_items mbox)) archive
     crashed_import (inl (fault, unopened, leaves)) read =
         let it = found_crashed file Holds old device o c archive (λ a b. b ≡ a) held opened sound leaves crashed in
@@ -126,9 +120,9 @@ module _ {S F D C P T R O E I L : Type 0} (dev : DeviceContracts S F I D C P L T
 
 -- ---- each order
 
-module _ {Y S F D C P T R O E I L K A B M : Type 0} (dev : DeviceContracts S F I D C P L T R O E) (opens : OpenedStoreHoldsArchive dev.pages dev.databases)
-    (closes : ClosedDatabaseHoldsArchive dev.pages dev.databases) (unopened : UnopenedDatabaseHoldsArchive dev.databases) (settles : (c : Held S) → KeepsCommit dev.pages c) where
-  module _ (old new : Environment Y S F D C P T R O E I L K A B M) (archive : Archive) (Holds : Archive → Type 0) where
+module _ {Y S F D C P T R O E W I L K A B M : Type 0} (dev : DeviceContracts S W F I D C P L T R O E) (opens : OpenedStoreHoldsArchive dev.archive dev.databases)
+    (closes : ClosedDatabaseHoldsArchive dev.archive dev.databases) (unopened : UnopenedDatabaseHoldsArchive dev.databases) where
+  module _ (old new : Environment Y S F D C P T R O E W I L K A B M) (archive : Archive) (Holds : Archive → Type 0) where
     -- what a run leaves for the next one, under what is trusted of it
     abbrev pub LeavesArchive : (file : List ℕ) (ending : Ending) (order : Order) (mbox : List ℕ) → RunEnds dev old new ending order → Type 0
     LeavesArchive file ending order mbox ends = dev.databases.holds old.databases file archive → IsIndexedCorrectly archive
@@ -155,9 +149,9 @@ module _ {Y S F D C P T R O E I L K A B M : Type 0} (dev : DeviceContracts S F I
         let items = there.1.1.items in
         let whole : mbox ≡ input.text = is ∙ ap (λ more. input.text ++ more) (ended input.input_becomes.0) ∙ append-nil input.text in
         let all : file_items mbox ≡ items = ap (λ bytes. file_items bytes) whole ∙ file_items_divide input.text items there.1.1.divides_into_items in
-        let made : archive_in dev.pages uses.store_after ≡ (run archive (map (add order.list) (file_items mbox))).archive =
+        let made : archive_in dev.archive uses.store_after ≡ (run archive (map (add order.list) (file_items mbox))).archive =
         there.1.1.adds_all.archive_is ∙ ap (λ a. (taken a order.list items).archive) was.1 ∙ ap (λ is. (taken archive order.list is).archive) (sym all) in
-        all_of Holds (commands_of_order mbox (Import order)) archive (archive_in dev.pages uses.store_after) made (finds (archive_in dev.pages uses.store_after) closed)
+        all_of Holds (commands_of_order mbox (Import order)) archive (archive_in dev.archive uses.store_after) made (finds (archive_in dev.archive uses.store_after) closed)
 
     get_printed : (order : GetValues) (mbox : List ℕ) (ends : RunEnds dev old new printed (Get order)) → LeavesArchive order.ask.file printed (Get order) mbox ends
     get_printed order mbox ends held right sound up read finds =
@@ -177,7 +171,7 @@ module _ {Y S F D C P T R O E I L K A B M : Type 0} (dev : DeviceContracts S F I
 
     sift_printed : (file : List ℕ) (order : SiftValues) (mbox : List ℕ) (ends : RunEnds dev old new printed (Sift order)) → LeavesArchive file printed (Sift order) mbox ends
     sift_printed file order mbox ends held right sound up read finds =
-        let same : new.databases ≡ old.databases = ap (λ (w : Environment Y S F D C P T R O E I L K A B M). w.databases) ends.runs_order.1 in
+        let same : new.databases ≡ old.databases = ap (λ (w : Environment Y S F D C P T R O E W I L K A B M). w.databases) ends.runs_order.1 in
         same_of Holds archive (finds archive (held_as_before file held same))
 
     command_cut_off : (order : StoreCommandValues) (mbox : List ℕ) (ends : RunEnds dev old new cut_off (Table order)) → LeavesArchive order.file cut_off (Table order) mbox ends
@@ -186,7 +180,7 @@ module _ {Y S F D C P T R O E I L K A B M : Type 0} (dev : DeviceContracts S F I
     command_cut_off order mbox (inr (inl (fault, never))) held right sound up read finds =
         none_of Holds (commands_of_order mbox (Table order)) archive (finds archive (unopened old.databases new.databases order.file fault archive held never))
     command_cut_off order mbox (inr (inr uses)) held right sound up read finds =
-        let it = found_crashed dev opens settles order.file Holds old.databases uses.device uses.store_before uses.store_after archive (λ a b. (b ≡ a) ⊎ (b ≡ (command_outcome a order.command).0))
+        let it = found_crashed dev opens order.file Holds old.databases uses.device uses.store_before uses.store_after archive (λ a b. (b ≡ a) ⊎ (b ≡ (command_outcome a order.command).0))
         held uses.opens_database sound uses.store_changes finds in
         crashed_command Holds archive it.0 order.command it.1 it.2
 
@@ -196,18 +190,18 @@ module _ {Y S F D C P T R O E I L K A B M : Type 0} (dev : DeviceContracts S F I
     import_cut_off order mbox (inr (inl (fault, never))) held right sound up read finds =
         none_of Holds (commands_of_order mbox (Import order)) archive (finds archive (unopened old.databases new.databases order.file fault archive held never))
     import_cut_off order mbox (inr (inr uses)) held right sound up read finds =
-        crashed_import dev opens settles order.file order.list mbox order.mbox Holds old.files old.databases uses.device uses.store_before uses.store_after archive held uses.opens_database sound finds
+        crashed_import dev opens order.file order.list mbox order.mbox Holds old.files old.databases uses.device uses.store_before uses.store_after archive held uses.opens_database sound finds
         uses.store_changes read
 
     -- a question or a server, which means no command
     question_cut_off : (file : List ℕ) → dev.databases.holds old.databases file archive
-        → (crash : LeavesOrUsesDatabase dev.databases old.databases new.databases file (WritesNothing dev.pages)) → IfSome (store_if_used crash) (IsSoundStore dev)
+        → (crash : LeavesOrUsesDatabase dev.databases old.databases new.databases file (WritesNothing dev.archive)) → IfSome (store_if_used crash) (IsSoundStore dev)
         → MatchOption (store_if_used crash) (FindsHeld dev file Holds new.databases) (λ s. FindsCrashed dev file Holds s.last) → LeavesCarriedOut Holds cut_off [] archive
     question_cut_off file held (inl same) sound finds = none_of Holds [] archive (finds archive (held_as_before file held same))
     question_cut_off file held (inr (inl (fault, never))) sound finds = none_of Holds [] archive (finds archive (unopened old.databases new.databases file fault archive held never))
     question_cut_off file held (inr (inr uses)) sound finds =
-        let it = found_crashed dev opens settles file Holds old.databases uses.device uses.store_before uses.store_after archive (λ a b. b ≡ a)
-        held uses.opens_database sound (crash_of_question dev.pages uses.store_before uses.store_after uses.store_changes) finds in
+        let it = found_crashed dev opens file Holds old.databases uses.device uses.store_before uses.store_after archive (λ a b. b ≡ a)
+        held uses.opens_database sound (crash_of_question dev.archive uses.store_before uses.store_after uses.store_changes) finds in
         none_of Holds [] archive (subst Holds it.1 it.2)
 
     -- of the database of an order, whatever it is
@@ -235,13 +229,13 @@ module _ {Y S F D C P T R O E I L K A B M : Type 0} (dev : DeviceContracts S F I
   -- ---- what was printed, or sent
 
   module _ (listens_none : (before after : P) (port : ℕ) (listening : BoundListener L) → dev.listens before after port (Ok listening)
-      → (dev.went after ≡ dev.went before) × (dev.over listening.listener ≡ [])) (old new : Environment Y S F D C P T R O E I L K A B M) (archive : Archive) where
+      → (dev.went after ≡ dev.went before) × (dev.over listening.listener ≡ [])) (old new : Environment Y S F D C P T R O E W I L K A B M) (archive : Archive) where
     abbrev pub AnswersFound : (file : List ℕ) (ending : Ending) (order : Order) → RunEnds dev old new ending order → Type 0
     AnswersFound file ending order ends = dev.databases.holds old.databases file archive → IsIndexedCorrectly archive
         → IfSome (store_of_run dev old new ending order ends) (IsSoundStore dev) → IfSome (store_until_end dev old new ending order ends) (IsSoundStore dev)
         → AnswersFrom dev old new ending order ends archive
 
-    served_until : (order : ServeValues) (stopped : Environment Y S F D C P T R O E I L K A B M) (refusal : RunError)
+    served_until : (order : ServeValues) (stopped : Environment Y S F D C P T R O E W I L K A B M) (refusal : RunError)
         → ((refusal ≡ Run Memory) × (stopped ≡ old)) ⊎ RunsOrder dev old stopped (Serve order) (Err refusal) → (it : HasServedUntilF4 dev old stopped (Serve order) refusal)
         → dev.databases.holds old.databases order.file archive
         → IfSome (option_map (λ served. store_of_server dev old stopped served) (served_until_end dev old stopped order refusal it)) (IsSoundStore dev)

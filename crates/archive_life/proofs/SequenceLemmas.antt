@@ -1,7 +1,6 @@
 -- From runs of the program, each of which finds what the one before it left, to their history; and a withdrawal that was printed.
 use Rattle.std.proofs.Common.{◌≡◌, ◌≢◌, ◌∙◌, ap, refl, subst, sym, ℕ, Bool, true, false, List, [], ◌∷◌, ◌++◌, Some, Ok, if◌then◌else◌}
 use Rattle.std.specs.List.{AllByRecursion, AllZip}
-use Rattle.sqlite.specs.Held.{Held}
 use Rattle.policy_core.specs.Numbers.{withdrawn_by_number}
 use Rattle.policy_core.specs.declared.access.Withdrawn.TheVariants.{No}
 use Rattle.policy_core.specs.declared.access.WithdrawnBy.{WithdrawnBy}
@@ -17,7 +16,6 @@ use Rattle.archive_model.specs.Runs.{run}
 use Rattle.archive_model.specs.Sound.{IsIndexedCorrectly}
 use Rattle.archive_results.specs.Promise.{DeniesWithdrawnBy}
 use Rattle.archive_pages.specs.Laws.{IsHiddenInReplies, StaysAsIfItNeverCame}
-use Rattle.archive_store.proofs.CrashLemmas.{KeepsCommit}
 use Rattle.archive_args.specs.Values.{StoreCommandValues, withdraw}
 use Rattle.archive_args.specs.declared.orders.Order.{Order}
 use Rattle.archive_args.specs.declared.orders.Order.TheVariants.{Sift, Table, Import, Get, Export, Check, Serve}
@@ -80,9 +78,9 @@ some_carried_out cut_off ordered = ([], (ordered, refl))
 table_is : (a b : StoreCommandValues) → Table a ≡ Table b → a ≡ b
 table_is a b same = cc
 
-module _ {Y S F D C P T R O E I L K A B M : Type 0} (dev : DeviceContracts S F I D C P L T R O E) where
+module _ {Y S F D C P T R O E W I L K A B M : Type 0} (dev : DeviceContracts S W F I D C P L T R O E) where
   -- the word of a command that printed
-  word_of : (old new : Environment Y S F D C P T R O E I L K A B M) (ending : Ending) (order : Order) (ends : RunEnds dev old new ending order) (archive : Archive)
+  word_of : (old new : Environment Y S F D C P T R O E W I L K A B M) (ending : Ending) (order : Order) (ends : RunEnds dev old new ending order) (archive : Archive)
       → AnswersFrom dev old new ending order ends archive → (values : StoreCommandValues) → ending ≡ printed → order ≡ Table values
       → (answer : Answer) × (answer_to values.command (command_outcome archive values.command).1 ≡ Some answer)
   word_of old new printed (Table order) ends archive it values is same =
@@ -126,8 +124,8 @@ module _ {Y S F D C P T R O E I L K A B M : Type 0} (dev : DeviceContracts S F I
         at.second_goes.answers_from_found,
       )
 
-  module _ (opens : OpenedStoreHoldsArchive dev.pages dev.databases) (closes : ClosedDatabaseHoldsArchive dev.pages dev.databases)
-      (unopened : UnopenedDatabaseHoldsArchive dev.databases) (settles : (c : Held S) → KeepsCommit dev.pages c)
+  module _ (opens : OpenedStoreHoldsArchive dev.archive dev.databases) (closes : ClosedDatabaseHoldsArchive dev.archive dev.databases)
+      (unopened : UnopenedDatabaseHoldsArchive dev.databases)
       (listens_none : (before after : P) (port : ℕ) (listening : BoundListener L) → dev.listens before after port (Ok listening)
       → (dev.went after ≡ dev.went before) × (dev.over listening.listener ≡ []))
       (keeps_index : (a : Archive) (commands : List Command) → IsIndexedCorrectly a → IsIndexedCorrectly (run a commands).archive) (file : List ℕ) where
@@ -140,7 +138,7 @@ module _ {Y S F D C P T R O E I L K A B M : Type 0} (dev : DeviceContracts S F I
       ending_is = refl;
       ordered_is = refl;
       holds_found = held;
-      answers_from_found = answers_found dev opens closes unopened settles listens_none r.old r.new archive file r.ending r.order r.ends trusted.is_over_database held right trusted.store_is_sound
+      answers_from_found = answers_found dev opens closes unopened listens_none r.old r.new archive file r.ending r.order r.ends trusted.is_over_database held right trusted.store_is_sound
           trusted.store_was_sound;
     }
 
@@ -152,21 +150,21 @@ module _ {Y S F D C P T R O E I L K A B M : Type 0} (dev : DeviceContracts S F I
         let some = some_carried_out r.ending (commands_of_order r.mbox r.order) in
         (seen_as r archive some.0 ∷ [], (refl, some.1, tt), (recorded r archive some.0 held right trusted, tt))
     from_run archive r (next ∷ runs) held right trusted (finds, next_trusted, later) =
-        let left = leaves_archive dev opens closes unopened settles r.old r.new archive (dev.databases.holds next.old.databases file) file r.ending r.order r.mbox r.ends trusted.is_over_database
+        let left = leaves_archive dev opens closes unopened r.old r.new archive (dev.databases.holds next.old.databases file) file r.ending r.order r.mbox r.ends trusted.is_over_database
         held right trusted.store_is_sound trusted.server_stays_open trusted.mbox_is_read finds in
         let rest = from_run (run archive left.0).archive next runs left.2 (keeps_index archive left.0 right) next_trusted later in
         (seen_as r archive left.0 ∷ rest.0, (refl, left.1, rest.1), (recorded r archive left.0 held right trusted, rest.2))
 
-  module _ (opens : OpenedStoreHoldsArchive dev.pages dev.databases) (closes : ClosedDatabaseHoldsArchive dev.pages dev.databases)
-      (unopened : UnopenedDatabaseHoldsArchive dev.databases) (settles : (c : Held S) → KeepsCommit dev.pages c)
+  module _ (opens : OpenedStoreHoldsArchive dev.archive dev.databases) (closes : ClosedDatabaseHoldsArchive dev.archive dev.databases)
+      (unopened : UnopenedDatabaseHoldsArchive dev.databases)
       (listens_none : (before after : P) (port : ℕ) (listening : BoundListener L) → dev.listens before after port (Ok listening)
       → (dev.went after ≡ dev.went before) × (dev.over listening.listener ≡ []))
       (keeps_index : (a : Archive) (commands : List Command) → IsIndexedCorrectly a → IsIndexedCorrectly (run a commands).archive)
-      (first_environment : Environment Y S F D C P T R O E I L K A B M) where
+      (first_environment : Environment Y S F D C P T R O E W I L K A B M) where
     pub has_history : ProgramRunsHaveHistory dev first_environment
     has_history file first [] all = ([], is_history first [] tt, tt)
     has_history file first (r ∷ runs) all =
-        let it = from_run opens closes unopened settles listens_none keeps_index file first r runs (all.runs_in_turn.0 first all.holds_first) all.is_indexed_correctly
+        let it = from_run opens closes unopened listens_none keeps_index file first r runs (all.runs_in_turn.0 first all.holds_first) all.is_indexed_correctly
         all.runs_in_turn.1 all.runs_in_turn.2 in
         (it.0, is_history first it.0 it.1, it.2)
 

@@ -83,7 +83,7 @@ forgets it = zero_is_one (ap (λ (a : Archive). map (λ (m : Message). m.withdra
 -- ---- over any devices: a command that was carried out, a run that could not open the database that the first had left, and one that was
 -- killed before it opened it
 
-module _ {Y S F D C P T R O E I L K A B M : Type 0} (dev : DeviceContracts S F I D C P L T R O E) (old new last : Environment Y S F D C P T R O E I L K A B M) (archive : Archive)
+module _ {Y S F D C P T R O E W I L K A B M : Type 0} (dev : DeviceContracts S W F I D C P L T R O E) (old new last : Environment Y S F D C P T R O E W I L K A B M) (archive : Archive)
     (values : StoreCommandValues) (held : dev.databases.holds old.databases values.file archive) (right : IsIndexedCorrectly archive)
     (ends : OrderIsCarriedOut dev old new (Table values)) (sound : IsSoundStore dev (store_of_use ends.runs_on_archive.2)) (fault : StoreFault)
     (never : dev.databases.opens new.databases last.databases values.file (Err fault)) where

@@ -27,14 +27,14 @@ abbrev pub state_withdrawn_by : WithdrawnBy → Withdrawn
 state_withdrawn_by Author = state.Author
 state_withdrawn_by Board = state.Board
 
-module _ {Y S F D C P T R O E I L K A B M : Type 0} (dev : DeviceContracts S F I D C P L T R O E) where
+module _ {Y S F D C P T R O E W I L K A B M : Type 0} (dev : DeviceContracts S W F I D C P L T R O E) where
   -- what the next run finds after it
   abbrev pub FindsAfterRun : (file : List ℕ) → ProgramRun Y K A B M dev → (NextHolds : Archive → Type 0) → Type 0
   FindsAfterRun file r NextHolds = FindsAfter dev file NextHolds r.new.databases r.ending (store_of_run dev r.old r.new r.ending r.order r.ends)
 
   -- ---- one run, and the next, which may be over devices of other kinds
 
-  module _ (old new : Environment Y S F D C P T R O E I L K A B M) where
+  module _ (old new : Environment Y S F D C P T R O E W I L K A B M) where
     abbrev pub run_between : (order : Order) (mbox : List ℕ) (ending : Ending) → RunEnds dev old new ending order → ProgramRun Y K A B M dev
     run_between order mbox ending ends = record { old = old; new = new; order = order; mbox = mbox; ending = ending; ends = ends }
 
@@ -68,7 +68,7 @@ module _ {Y S F D C P T R O E I L K A B M : Type 0} (dev : DeviceContracts S F I
 
   -- At first the databases of this environment held an archive under the name, whose index columns say what the texts say, as in the empty
   -- archive and in each that commands make of it. Then the runs came.
-  pub record IsRunSequence (first_environment : Environment Y S F D C P T R O E I L K A B M) (file : List ℕ) (first : Archive) (runs : List (ProgramRun Y K A B M dev)) : Type 0 where
+  pub record IsRunSequence (first_environment : Environment Y S F D C P T R O E W I L K A B M) (file : List ℕ) (first : Archive) (runs : List (ProgramRun Y K A B M dev)) : Type 0 where
     pub holds_first : dev.databases.holds first_environment.databases file first
     pub is_indexed_correctly : IsIndexedCorrectly first
     pub runs_in_turn : RunInTurn file (λ NextHolds. FindsHeld dev file NextHolds first_environment.databases) runs
@@ -84,7 +84,7 @@ module _ {Y S F D C P T R O E I L K A B M : Type 0} (dev : DeviceContracts S F I
   -- Whatever the orders were, and wherever each was cut off, the runs have a history. Each found the archive that the machine makes, in
   -- their order, by all commands of the runs before it that printed their word, and by some first commands of those that did not. What it
   -- printed, or sent to each peer, is of that archive.
-  abbrev pub ProgramRunsHaveHistory : Environment Y S F D C P T R O E I L K A B M → Type 0
+  abbrev pub ProgramRunsHaveHistory : Environment Y S F D C P T R O E W I L K A B M → Type 0
   ProgramRunsHaveHistory first_environment = (file : List ℕ) (first : Archive) (runs : List (ProgramRun Y K A B M dev)) → IsRunSequence first_environment file first runs
       → (history : List DatabaseRun) × IsHistory first history × AllZip (IsRecordedAs file) runs history
 
@@ -95,7 +95,7 @@ module _ {Y S F D C P T R O E I L K A B M : Type 0} (dev : DeviceContracts S F I
   -- Once a run has printed `withdrawn`, each later run finds an archive whose replies, to readers who did not write the message and to whom
   -- the policy denies what this party withdrew, are as if the message had never come. What it prints, or sends to each peer, is of that
   -- archive. This lasts over every crash and restart, until an order restores the message.
-  abbrev pub WithdrawalStaysAfterRestarts : Environment Y S F D C P T R O E I L K A B M → Type 0
+  abbrev pub WithdrawalStaysAfterRestarts : Environment Y S F D C P T R O E W I L K A B M → Type 0
   WithdrawalStaysAfterRestarts first_environment = (file : List ℕ) (first : Archive) (before between after : List (ProgramRun Y K A B M dev))
       (withdrawal later : ProgramRun Y K A B M dev) (list key : List ℕ) (by : WithdrawnBy)
       → IsRunSequence first_environment file first (before ++ withdrawal ∷ (between ++ later ∷ after))

@@ -19,13 +19,13 @@ pub fn a_run_leaves_what_it_carried_out<Y: Platform, Z: Platform>(
     after: &Environment<Y>,
     next: &Environment<Z>,
 )
-    ensures leaves { RunLeavesCarriedOut (devices Y.Storage.Store Y.Files.ReadFiles Y.Files.StreamedFiles Y.Files.Input.Source Y.Databases.Databases Y.Clock.DayClock
+    ensures leaves { RunLeavesCarriedOut (devices Y.Archive.ArchiveState Y.Files.ReadFiles Y.Files.StreamedFiles Y.Files.Input.Source Y.Databases.Databases Y.Clock.DayClock
         Y.Ports.listens Y.Ports.Listener.accepts Y.Ports.Listener.closes Y.Ports.Listener.over Y.Ports.went Y.Threaders.makes Y.Input.Source Y.Output.Sink Y.Output.BufferedSink.own Y.Faults.Sink)
         before.now after.now (Z.Databases.Databases.holds next.now.databases) }
-    ensures answers { RunAnswersFromFound (devices Y.Storage.Store Y.Files.ReadFiles Y.Files.StreamedFiles Y.Files.Input.Source Y.Databases.Databases Y.Clock.DayClock
+    ensures answers { RunAnswersFromFound (devices Y.Archive.ArchiveState Y.Files.ReadFiles Y.Files.StreamedFiles Y.Files.Input.Source Y.Databases.Databases Y.Clock.DayClock
         Y.Ports.listens Y.Ports.Listener.accepts Y.Ports.Listener.closes Y.Ports.Listener.over Y.Ports.went Y.Threaders.makes Y.Input.Source Y.Output.Sink Y.Output.BufferedSink.own Y.Faults.Sink)
         before.now after.now }
-    ensures withdrawn { PrintedWithdrawalIsDone (devices Y.Storage.Store Y.Files.ReadFiles Y.Files.StreamedFiles Y.Files.Input.Source Y.Databases.Databases Y.Clock.DayClock
+    ensures withdrawn { PrintedWithdrawalIsDone (devices Y.Archive.ArchiveState Y.Files.ReadFiles Y.Files.StreamedFiles Y.Files.Input.Source Y.Databases.Databases Y.Clock.DayClock
         Y.Ports.listens Y.Ports.Listener.accepts Y.Ports.Listener.closes Y.Ports.Listener.over Y.Ports.went Y.Threaders.makes Y.Input.Source Y.Output.Sink Y.Output.BufferedSink.own Y.Faults.Sink)
         before.now after.now }
 {}
@@ -43,10 +43,10 @@ pub fn runs_in_turn_have_a_history()
 /// Both laws together, over devices whose databases can be opened again: whatever orders are given over one database, one after the
 /// other, and wherever each is cut off.
 pub fn program_runs_have_a_history<Y: Platform>(first_environment: &Environment<Y>)
-    ensures history { ProgramRunsHaveHistory (devices Y.Storage.Store Y.Files.ReadFiles Y.Files.StreamedFiles Y.Files.Input.Source Y.Databases.Databases Y.Clock.DayClock
+    ensures history { ProgramRunsHaveHistory (devices Y.Archive.ArchiveState Y.Files.ReadFiles Y.Files.StreamedFiles Y.Files.Input.Source Y.Databases.Databases Y.Clock.DayClock
         Y.Ports.listens Y.Ports.Listener.accepts Y.Ports.Listener.closes Y.Ports.Listener.over Y.Ports.went Y.Threaders.makes Y.Input.Source Y.Output.Sink Y.Output.BufferedSink.own Y.Faults.Sink)
         first_environment.now }
-    ensures withdrawn { WithdrawalStaysAfterRestarts (devices Y.Storage.Store Y.Files.ReadFiles Y.Files.StreamedFiles Y.Files.Input.Source Y.Databases.Databases Y.Clock.DayClock
+    ensures withdrawn { WithdrawalStaysAfterRestarts (devices Y.Archive.ArchiveState Y.Files.ReadFiles Y.Files.StreamedFiles Y.Files.Input.Source Y.Databases.Databases Y.Clock.DayClock
         Y.Ports.listens Y.Ports.Listener.accepts Y.Ports.Listener.closes Y.Ports.Listener.over Y.Ports.went Y.Threaders.makes Y.Input.Source Y.Output.Sink Y.Output.BufferedSink.own Y.Faults.Sink)
         first_environment.now }
 {

@@ -1,11 +1,9 @@
 -- What a crash leaves of an order: of its store while that is open, and of its run.
 use Rattle.std.proofs.Common.{◌≡◌, ◌++◌, ◌+◌, inl, inr, refl, ℕ, List, Result, Ok}
-use Rattle.sqlite.specs.Store.{Ghosts}
+use Rattle.archive_port.specs.declared.state.ArchiveState.{Ghosts}
 use Rattle.byte_device.specs.declared.devices.Source.{Ghosts as Reads}
-use Rattle.archive_store.specs.Crashes.{CrashSteps}
-use Rattle.archive_store.specs.Held.{store_connection}
-use Rattle.archive_store.specs.Told.{WritesNothing, archive_in}
-use Rattle.archive_store.specs.declared.store.Store.{Store as Open}
+use Rattle.archive_port.specs.Crashes.{CrashSteps, WritesNothing}
+use Rattle.archive_port.specs.Told.{archive_in}
 use Rattle.archive_desk.specs.declared.importing.Report.{Report}
 use Rattle.archive_desk.specs.declared.importing.ImportStop.{ImportStop}
 use Rattle.archive_import.specs.Streaming.{CrashImportsInput, ImportsInput, ResultHasReadFailures}
@@ -18,15 +16,15 @@ use Rattle.archive_run.specs.Crashing.{CrashCarriesOutCommand, CrashImportsFile,
 use Rattle.archive_run.specs.Environments.{DeviceContracts}
 use Rattle.archive_run.specs.declared.world.Environment.{Environment}
 
-module _ {S : Type 0} (g : Ghosts S) where
-  pub crash_leaves_same : (store : Open S) → CrashLeavesSameArchive g store store
+module _ {S W : Type 0} (g : Ghosts S W) where
+  pub crash_leaves_same : (store : S) → CrashLeavesSameArchive g store store
   crash_leaves_same store = λ clean rests safe db may. (archive_in g store, refl, safe db may)
 
   -- a question
-  pub crash_of_question : (old new : Open S) → WritesNothing g old new → CrashLeavesSameArchive g old new
+  pub crash_of_question : (old new : S) → WritesNothing g old new → CrashLeavesSameArchive g old new
   crash_of_question old new quiet = λ clean rests safe db may. (archive_in g old, refl, safe db (quiet db (clean, may)).1)
 
-  pub crash_of_command : (old new : Open S) (command : StoreCommand) → CrashSteps g (store_connection old) (store_connection new) (λ a. command_outcome a command)
+  pub crash_of_command : (old new : S) (command : StoreCommand) → CrashSteps g old new (λ a. command_outcome a command)
       → CrashCarriesOutCommand g old new command
   crash_of_command old new command crash = λ clean rests safe db may. elim (crash rests clean db may) [
     | inl before ↦ (archive_in g old, inl refl, safe db before)
@@ -34,7 +32,7 @@ module _ {S : Type 0} (g : Ghosts S) where
   ]
 
   -- what an import says of its input is said of the file that gave it
-  pub crash_of_import : {F I : Type 0} (opens : Opens F I) (reads : Reads I) (files : F) (list mbox : List ℕ) (old new : Open S) (before after : I) (result : Result Report ImportStop)
+  pub crash_of_import : {F I : Type 0} (opens : Opens F I) (reads : Reads I) (files : F) (list mbox : List ℕ) (old new : S) (before after : I) (result : Result Report ImportStop)
       → opens.inputs files mbox (Ok before)
       → ((text : List ℕ) × (ends : ℕ) × (reads.told after ≡ reads.told before ++ text) × (reads.ends after ≡ reads.ends before + ends) × ImportsInput g old new list text ends result)
       → ((failed : ℕ) × (reads.failures after ≡ reads.failures before + failed) × ResultHasReadFailures result failed)
@@ -53,9 +51,9 @@ module _ {S : Type 0} (g : Ghosts S) where
     input_becomes = (crash read.0 read.1 read.2 read.3).when_crashed;
   })
 
-module _ {Y S F D C P T R O E I L K A B M : Type 0} (dev : DeviceContracts S F I D C P L T R O E) (old : Environment Y S F D C P T R O E I L K A B M) where
+module _ {Y S F D C P T R O E W I L K A B M : Type 0} (dev : DeviceContracts S W F I D C P L T R O E) (old : Environment Y S F D C P T R O E W I L K A B M) where
   -- where there was no memory to read the words
-  pub crash_of_unread : (new : Environment Y S F D C P T R O E I L K A B M) → new.databases ≡ old.databases → (order : Order) → CrashRunsOrder dev old new order
+  pub crash_of_unread : (new : Environment Y S F D C P T R O E W I L K A B M) → new.databases ≡ old.databases → (order : Order) → CrashRunsOrder dev old new order
   crash_of_unread new same (Sift order) = same
   crash_of_unread new same (Table order) = inl same
   crash_of_unread new same (Import order) = inl same
@@ -65,7 +63,7 @@ module _ {Y S F D C P T R O E I L K A B M : Type 0} (dev : DeviceContracts S F I
   crash_of_unread new same (Serve order) = inl same
 
   -- where a refusal was told, or not, behind the order
-  pub crash_of_finished : (new : Environment Y S F D C P T R O E I L K A B M) (faults : E) (order : Order) → CrashRunsOrder dev old new order
+  pub crash_of_finished : (new : Environment Y S F D C P T R O E W I L K A B M) (faults : E) (order : Order) → CrashRunsOrder dev old new order
       → CrashRunsOrder dev old (record new { faults = faults }) order
   crash_of_finished new faults (Sift order) it = it
   crash_of_finished new faults (Table order) it = it

@@ -1,12 +1,11 @@
 -- From what became of a store to what becomes of the archive that its database holds.
 use Rattle.std.proofs.Common.{◌≡◌, ◌∙◌, inl, inr, ap, subst, sym, refl, ℕ, ℤ, Bool, List, [], ◌∷◌, ◌++◌, Option, Ok}
-use Rattle.sqlite.specs.Store.{Ghosts}
+use Rattle.archive_port.specs.declared.state.ArchiveState.{Ghosts}
 use Rattle.policy_core.specs.Rules.{Rule}
 use Rattle.archive_model.specs.Records.{Archive}
-use Rattle.archive_store.specs.Told.{RelatesReadyArchives, StoreHasCleanDisk, HoldsTables, IsOpen, archive_in}
+use Rattle.archive_port.specs.Told.{RelatesReadyArchives, StoreHasCleanDisk, HoldsTables, IsOpen, archive_in}
 use Rattle.archive_desk.specs.Holding.{RelatesTableArchives}
-use Rattle.archive_store.specs.declared.store.Store.{Store as Open}
-use Rattle.archive_store.proofs.Joins.{ready_with}
+use Rattle.archive_port.proofs.Joins.{ready_with}
 use Rattle.archive_listen.specs.Connections.{Exchange, ConnectionResult}
 use Rattle.archive_listen.specs.Serving.{ServerState, ServesEachConnection, ServesOneConnection}
 use Rattle.archive_listen.specs.declared.faults.AcceptError.{AcceptError}
@@ -19,10 +18,10 @@ use Rattle.archive_run.specs.declared.databases.Databases.{Ghosts as Keeps}
 
 -- ---- one call, or none
 
-module _ {S D : Type 0} (g : Ghosts S) (keeps : Keeps D (Open S)) (opens : OpenedStoreHoldsArchive g keeps) (closes : ClosedDatabaseHoldsArchive g keeps)
+module _ {S W D : Type 0} (g : Ghosts S W) (keeps : Keeps D S) (opens : OpenedStoreHoldsArchive g keeps) (closes : ClosedDatabaseHoldsArchive g keeps)
     (old new : D) (file : List ℕ) where
   -- a call that is promised of a store which is ready
-  pub leads_by : (Becomes : Open S → Open S → Type 0) (R : Archive → Archive → Type 0) → ((o c : Open S) → Becomes o c → RelatesReadyArchives g o c R)
+  pub leads_by : (Becomes : S → S → Type 0) (R : Archive → Archive → Type 0) → ((o c : S) → Becomes o c → RelatesReadyArchives g o c R)
       → UsesDatabase keeps old new file Becomes → RelatesHeldArchives g keeps old new file R
   leads_by Becomes R goes works =
       let it = goes works.store_before works.store_after works.store_changes in
@@ -43,8 +42,8 @@ module _ {S D : Type 0} (g : Ghosts S) (keeps : Keeps D (Open S)) (opens : Opene
       }
 
   -- a call that is promised of tables, whatever is filed of a message, and leaves the archive
-  pub leads_held : (Becomes : Open S → Open S → Type 0) (Says : Archive → Type 0)
-      → ((o c : Open S) → Becomes o c → RelatesTableArchives g o c (λ a b. (b ≡ a) × Says a)) → UsesDatabase keeps old new file Becomes → KeepsHeldArchive g keeps old new file Says
+  pub leads_held : (Becomes : S → S → Type 0) (Says : Archive → Type 0)
+      → ((o c : S) → Becomes o c → RelatesTableArchives g o c (λ a b. (b ≡ a) × Says a)) → UsesDatabase keeps old new file Becomes → KeepsHeldArchive g keeps old new file Says
   leads_held Becomes Says goes works =
       let it = goes works.store_before works.store_after works.store_changes in
       record {
@@ -64,29 +63,29 @@ module _ {S D : Type 0} (g : Ghosts S) (keeps : Keeps D (Open S)) (opens : Opene
 
 -- ---- a run of connections
 
-module _ {S L : Type 0} (g : Ghosts S) (accepts : L → L → Option AcceptError → Type 0) (closes : L → L → Exchange → Bool → Type 0)
+module _ {S W L : Type 0} (g : Ghosts S W) (accepts : L → L → Option AcceptError → Type 0) (closes : L → L → Exchange → Bool → Type 0)
     (If : Type 0) (archive : Archive) (rules : List Rule) (day : ℤ) where
   -- where its premise holds, the store remembers this archive behind the last connection, if it is still open
-  remembers_one : If → (outcome : ConnectionResult) (before after : ServerState L (Open S)) → ServesOneConnection (AnswersFromArchiveInRun g If archive rules day) accepts closes outcome before after
+  remembers_one : If → (outcome : ConnectionResult) (before after : ServerState L S) → ServesOneConnection (AnswersFromArchiveInRun g If archive rules day) accepts closes outcome before after
       → (IsOpen g before.state → HoldsTables g before.state × (archive_in g before.state ≡ archive))
       → IsOpen g after.state → HoldsTables g after.state × (archive_in g after.state ≡ archive)
   remembers_one so outcome before after (inl takes) holds = takes.is_answered.is_answered.left so
   remembers_one so outcome before after (inr misses) holds =
-      subst (λ (s : Open S). IsOpen g s → HoldsTables g s × (archive_in g s ≡ archive)) (sym misses.state_is_same) holds
+      subst (λ (s : S). IsOpen g s → HoldsTables g s × (archive_in g s ≡ archive)) (sym misses.state_is_same) holds
 
-  pub remembers_each : If → (outcomes : List ConnectionResult) (before after : ServerState L (Open S))
+  pub remembers_each : If → (outcomes : List ConnectionResult) (before after : ServerState L S)
       → ServesEachConnection (AnswersFromArchiveInRun g If archive rules day) accepts closes outcomes before after
       → (IsOpen g before.state → HoldsTables g before.state × (archive_in g before.state ≡ archive))
       → IsOpen g after.state → HoldsTables g after.state × (archive_in g after.state ≡ archive)
   remembers_each so [] before after same holds =
-      subst (λ (s : ServerState L (Open S)). IsOpen g s.state → HoldsTables g s.state × (archive_in g s.state ≡ archive)) (sym same) holds
+      subst (λ (s : ServerState L S). IsOpen g s.state → HoldsTables g s.state × (archive_in g s.state ≡ archive)) (sym same) holds
   remembers_each so (outcome ∷ outcomes) before after (between, first, rest) holds =
       remembers_each so outcomes between after rest (remembers_one so outcome before between first holds)
 
 -- what was served, of the archive that its database held, over a listener that had taken no connection back
-module _ {S L D : Type 0} (g : Ghosts S) (over : L → List Exchange) (accepts : L → L → Option AcceptError → Type 0) (closes : L → L → Exchange → Bool → Type 0)
-    (causes : Each503HasItsCause g over accepts closes) (keeps : Keeps D (Open S)) (opened : OpenedStoreHoldsArchive g keeps) (closed : ClosedDatabaseHoldsArchive g keeps) where
-  pub serves_held : (old device new : D) (file : List ℕ) (rules : List Rule) (day : ℤ) (outcomes : List ConnectionResult) (first last : ServerState L (Open S)) (archive : Archive)
+module _ {S W L D : Type 0} (g : Ghosts S W) (over : L → List Exchange) (accepts : L → L → Option AcceptError → Type 0) (closes : L → L → Exchange → Bool → Type 0)
+    (causes : Each503HasItsCause g over accepts closes) (keeps : Keeps D S) (opened : OpenedStoreHoldsArchive g keeps) (closed : ClosedDatabaseHoldsArchive g keeps) where
+  pub serves_held : (old device new : D) (file : List ℕ) (rules : List Rule) (day : ℤ) (outcomes : List ConnectionResult) (first last : ServerState L S) (archive : Archive)
       → over first.listener ≡ [] → keeps.opens old device file (Ok first.state) → keeps.closes device new last.state
       → ServesEachConnection (ServingAnswerLaw g rules day first.state last.state) accepts closes outcomes first last
       → StoreHasCleanDisk g last.state → keeps.holds old file archive

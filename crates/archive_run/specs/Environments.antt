@@ -1,9 +1,8 @@
 -- What the traits of all devices of a run say.
 use Rattle.std.specs.Prelude.{ℕ, Bool, List, Option, Result}
-use Rattle.sqlite.specs.Store.{Ghosts as Pages}
+use Rattle.archive_port.specs.declared.state.ArchiveState.{Ghosts as StateOf}
 use Rattle.byte_device.specs.declared.devices.Source.{Ghosts as Reads}
 use Rattle.byte_device.specs.declared.devices.Sink.{Ghosts as Takes}
-use Rattle.archive_store.specs.declared.store.Store.{Store}
 use Rattle.archive_listen.specs.Connections.{Exchange}
 use Rattle.archive_listen.specs.declared.connections.BoundListener.{BoundListener}
 use Rattle.archive_listen.specs.declared.connections.BufferedSink.{Ghosts as Passes}
@@ -14,12 +13,12 @@ use Rattle.archive_run.specs.declared.databases.Databases.{Ghosts as Keeps}
 use Rattle.sift_run.specs.declared.files.ReadFiles.{Ghosts as Gives}
 use Rattle.sift_run.specs.declared.files.StreamedFiles.{Ghosts as Opens}
 
-pub record DeviceContracts (S F I D C P L T R O E : Type 0) : Type 1 where
-  pub pages : Pages S
+pub record DeviceContracts (S W F I D C P L T R O E : Type 0) : Type 1 where
+  pub archive : StateOf S W
   pub gives : Gives F
   pub opens : Opens F I
   pub input_of : Reads I
-  pub databases : Keeps D (Store S)
+  pub databases : Keeps D S
   pub clock : Tells C
   -- of ports, of a listener that is asked for a connection, and of one that takes it back
   pub listens : P → P → ℕ → Result (BoundListener L) ListenError → Type 0
@@ -35,13 +34,13 @@ pub record DeviceContracts (S F I D C P L T R O E : Type 0) : Type 1 where
   pub passes : Passes O
   pub notes : Takes E
 
-module _ {S F I D C P L T R O E : Type 0} where
-  -- what each device of a run may do, as one value: database pages, files, clock, ports, threaders and the three streams
-  abbrev pub devices : Pages S → Gives F → Opens F I → Reads I → Keeps D (Store S) → Tells C → (P → P → ℕ → Result (BoundListener L) ListenError → Type 0)
+module _ {S W F I D C P L T R O E : Type 0} where
+  -- what each device of a run may do, as one value: archives, files, clock, ports, threaders and the three streams
+  abbrev pub devices : StateOf S W → Gives F → Opens F I → Reads I → Keeps D S → Tells C → (P → P → ℕ → Result (BoundListener L) ListenError → Type 0)
       → (L → L → Option AcceptError → Type 0) → (L → L → Exchange → Bool → Type 0) → (L → List Exchange) → (P → List Exchange) → (T → Bool → Type 0)
-      → Reads R → Takes O → Passes O → Takes E → DeviceContracts S F I D C P L T R O E
-  devices pages gives opens input_of databases clock listens accepts shuts over went makes reads takes passes notes = record {
-    pages = pages;
+      → Reads R → Takes O → Passes O → Takes E → DeviceContracts S W F I D C P L T R O E
+  devices archive gives opens input_of databases clock listens accepts shuts over went makes reads takes passes notes = record {
+    archive = archive;
     gives = gives;
     opens = opens;
     input_of = input_of;

@@ -1,13 +1,12 @@
 -- What the database of an order holds when it is opened, and what it holds when it is closed.
 use Rattle.std.specs.Prelude.{◌≡◌, ◌⊎◌, ◌<◌, ◌++◌, ℕ, ℤ, true, List, length, Some, Ok, Err, Vec, ⊤}
 use Rattle.std.specs.declared.alloc.Global.{Global}
-use Rattle.sqlite.specs.Store.{Ghosts}
+use Rattle.archive_port.specs.declared.state.ArchiveState.{Ghosts}
 use Rattle.policy_core.specs.Rules.{Rule}
 use Rattle.archive_model.specs.Records.{Archive}
 use Rattle.archive_model.specs.Sound.{IsIndexedCorrectly}
 use Rattle.archive_port.specs.Checking.{PassesCheck}
-use Rattle.archive_store.specs.Told.{StoreHasCleanDisk, IsOpen}
-use Rattle.archive_store.specs.declared.store.Store.{Store as Open}
+use Rattle.archive_port.specs.Told.{StoreHasCleanDisk, IsOpen}
 use Rattle.archive_desk.specs.Exporting.{exported_text}
 use Rattle.archive_desk.specs.Importing.{IsImported}
 use Rattle.archive_desk.specs.declared.importing.Report.{Report}
@@ -37,16 +36,16 @@ use Rattle.archive_run.specs.declared.world.Environment.{Environment}
 -- The database of this name was opened once and closed. Where it held an archive before, in which what is filed of each message is
 -- what its text says, and the disk of its store has returned what was written to it, this is so of that archive and of the one
 -- that it holds now, in which it is so, too.
-abbrev pub RelatesHeldArchives : {S D : Type 0} → Ghosts S → Keeps D (Open S) → (old new : D) → (file : List ℕ) → (Archive → Archive → Type 0) → Type 0
+abbrev pub RelatesHeldArchives : {S W D : Type 0} → Ghosts S W → Keeps D S → (old new : D) → (file : List ℕ) → (Archive → Archive → Type 0) → Type 0
 RelatesHeldArchives g keeps old new file R = UsesDatabase keeps old new file (λ before after. StoreHasCleanDisk g after → (first : Archive) → keeps.holds old file first → IsIndexedCorrectly first
     → (last : Archive) × R first last × IsIndexedCorrectly last × keeps.holds new file last)
 
 -- The same of one that leaves the archive, whatever is filed of a message: this is so of the archive that it held, and holds still.
-abbrev pub KeepsHeldArchive : {S D : Type 0} → Ghosts S → Keeps D (Open S) → (old new : D) → (file : List ℕ) → (Archive → Type 0) → Type 0
+abbrev pub KeepsHeldArchive : {S W D : Type 0} → Ghosts S W → Keeps D S → (old new : D) → (file : List ℕ) → (Archive → Type 0) → Type 0
 KeepsHeldArchive g keeps old new file Says = UsesDatabase keeps old new file (λ before after. StoreHasCleanDisk g after → (archive : Archive) → keeps.holds old file archive
     → Says archive × keeps.holds new file archive)
 
-module _ {Y S F D C P T R O E I L K A B M : Type 0} (dev : DeviceContracts S F I D C P L T R O E) (old new : Environment Y S F D C P T R O E I L K A B M) where
+module _ {Y S F D C P T R O E W I L K A B M : Type 0} (dev : DeviceContracts S W F I D C P L T R O E) (old new : Environment Y S F D C P T R O E W I L K A B M) where
   -- what the output told before and after
   abbrev pub before : OutputStreamState
   before = output_stream_state dev.takes dev.passes old.output
@@ -55,10 +54,10 @@ module _ {Y S F D C P T R O E I L K A B M : Type 0} (dev : DeviceContracts S F I
   after = output_stream_state dev.takes dev.passes new.output
 
   abbrev pub RunRelatesArchives : (file : List ℕ) → (Archive → Archive → Type 0) → Type 0
-  RunRelatesArchives = RelatesHeldArchives dev.pages dev.databases old.databases new.databases
+  RunRelatesArchives = RelatesHeldArchives dev.archive dev.databases old.databases new.databases
 
   abbrev pub RunKeepsArchive : (file : List ℕ) → (Archive → Type 0) → Type 0
-  RunKeepsArchive = KeepsHeldArchive dev.pages dev.databases old.databases new.databases
+  RunKeepsArchive = KeepsHeldArchive dev.archive dev.databases old.databases new.databases
 
   -- The archive took the command's step, and its word went out.
   abbrev pub HasRunStoreCommand : StoreCommandValues → Type 0
@@ -106,15 +105,15 @@ module _ {Y S F D C P T R O E I L K A B M : Type 0} (dev : DeviceContracts S F I
     pub count_is : Count (length outcomes)
     pub reports_outcomes : WritesOutcomeLines outcomes (error_stream_state dev.notes old.faults) (error_stream_state dev.notes new.faults)
     pub device : D
-    pub store : Open S
-    pub later : Open S
+    pub store : S
+    pub later : S
     pub opens_database : dev.databases.opens old.databases device order.file (Ok store)
     pub closes_database : dev.databases.closes device new.databases later
     pub exchanges : List Exchange
     pub went : dev.went new.ports ≡ dev.went old.ports ++ exchanges
-    pub serves_held_archive : StoreHasCleanDisk dev.pages later → (archive : Archive) → dev.databases.holds old.databases order.file archive
-        → ExchangesAreAnsweredWithCause dev.pages archive rules day store store later outcomes exchanges
-        × (IsOpen dev.pages later → dev.databases.holds new.databases order.file archive)
+    pub serves_held_archive : StoreHasCleanDisk dev.archive later → (archive : Archive) → dev.databases.holds old.databases order.file archive
+        → ExchangesAreAnsweredWithCause dev.archive archive rules day store store later outcomes exchanges
+        × (IsOpen dev.archive later → dev.databases.holds new.databases order.file archive)
 
   -- as many connections as were ordered
   abbrev pub HasServedAll : ServeValues → Type 0

@@ -2,12 +2,11 @@
 -- traits of its devices say, of the order and of the result; and it says of all devices which were touched.
 use Rattle.std.specs.Prelude.{◌≡◌, ◌⊎◌, ℕ, ℤ, true, List, codes, Option, Some, None, Result, Ok, Err, Vec, ⊤, MatchResult}
 use Rattle.std.specs.declared.alloc.Global.{Global}
-use Rattle.sqlite.specs.Store.{Ghosts as Pages}
+use Rattle.archive_port.specs.declared.state.ArchiveState.{Ghosts as StateOf}
 use Rattle.byte_device.specs.declared.devices.Sink.{Ghosts as Takes}
 use Rattle.byte_device.specs.declared.devices.Source.{Ghosts as Reads}
 use Rattle.policy_core.specs.Rules.{Rule}
-use Rattle.archive_store.specs.declared.store.Store.{Store as Open}
-use Rattle.archive_store.specs.Checking.{ChecksArchive}
+use Rattle.archive_port.specs.Checking.{ChecksArchive}
 use Rattle.archive_results.specs.Access.{Ask}
 use Rattle.archive_desk.specs.declared.importing.Report.{Report}
 use Rattle.archive_listen.specs.declared.connections.BufferedSink.{Ghosts as Passes}
@@ -34,7 +33,7 @@ use Rattle.archive_run.specs.declared.world.Environment.{Environment}
 abbrev pub ask_of_values : AskValues → List Rule → ℤ → Ask
 ask_of_values order rules day = record { rules = rules; reader = order.person; list = order.list; day = day }
 
-module _ {Y S F D C P T R O E I L K A B M : Type 0} (old new : Environment Y S F D C P T R O E I L K A B M) where
+module _ {Y S F D C P T R O E W I L K A B M : Type 0} (old new : Environment Y S F D C P T R O E W I L K A B M) where
   -- ---- the policy and the day
 
   -- By the rules that the named policy writes this came of it. Or there are no rules, and nothing was touched.
@@ -45,7 +44,7 @@ module _ {Y S F D C P T R O E I L K A B M : Type 0} (old new : Environment Y S F
 
   -- On the day that was given, or that the clock told, this came of it from there on. Or there is no day (F3), and but for the clock
   -- nothing was touched.
-  abbrev pub RunsOnDay : Tells C → Option ℤ → (Environment Y S F D C P T R O E I L K A B M → ℤ → Result ⊤ RunError → Type 0) → Result ⊤ RunError → Type 0
+  abbrev pub RunsOnDay : Tells C → Option ℤ → (Environment Y S F D C P T R O E W I L K A B M → ℤ → Result ⊤ RunError → Type 0) → Result ⊤ RunError → Type 0
   RunsOnDay tells given Runs (Ok done) = (clock : C) × (day : ℤ) × IsReadingDay tells given true old.clock clock (Some day)
       × Runs (record old { clock = clock }) day (Ok done)
   RunsOnDay tells given Runs (Err refusal) =
@@ -74,13 +73,13 @@ module _ {Y S F D C P T R O E I L K A B M : Type 0} (old new : Environment Y S F
 
     -- ---- orders over the database of a name
 
-    module _ (pages : Pages S) (keeps : Keeps D (Open S)) where
+    module _ (pages : StateOf S W) (keeps : Keeps D S) where
       -- the database of the name was opened, this became of its store, and it was closed
-      abbrev pub RunUsesDatabase : (file : List ℕ) → (Open S → Open S → Type 0) → Type 0
+      abbrev pub RunUsesDatabase : (file : List ℕ) → (S → S → Type 0) → Type 0
       RunUsesDatabase file Becomes = UsesDatabase keeps old.databases new.databases file Becomes
 
       -- it was not opened, or this became of its store; and nothing else was touched
-      abbrev pub RunFailsOnDatabase : (file : List ℕ) → (Open S → Open S → RunError → Type 0) → RunError → Type 0
+      abbrev pub RunFailsOnDatabase : (file : List ℕ) → (S → S → RunError → Type 0) → RunError → Type 0
       RunFailsOnDatabase file Becomes refusal =
           FailsOnDatabase keeps old.databases new.databases file Becomes refusal × (new ≡ record old { databases = new.databases })
 
@@ -139,8 +138,8 @@ module _ {Y S F D C P T R O E I L K A B M : Type 0} (old new : Environment Y S F
           ⊎ (RunUsesDatabase file (λ o c. RefusesExport pages o c ask before after refusal)
           × (new ≡ record old { databases = new.databases; output = new.output }))
 
-module _ {Y S F D C P T R O E I L K A B M : Type 0} (old new : Environment Y S F D C P T R O E I L K A B M) (takes : Takes O) (passes : Passes O)
-    (pages : Pages S) (keeps : Keeps D (Open S)) (tells : Tells C) where
+module _ {Y S F D C P T R O E W I L K A B M : Type 0} (old new : Environment Y S F D C P T R O E W I L K A B M) (takes : Takes O) (passes : Passes O)
+    (pages : StateOf S W) (keeps : Keeps D S) (tells : Tells C) where
   -- by the rules of a policy, on the day of the order
   abbrev pub RunGetsMessageOnDay : GetValues → List Rule → Result ⊤ RunError → Type 0
   RunGetsMessageOnDay order rules = RunsOnDay old new tells order.ask.day

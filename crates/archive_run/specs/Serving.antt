@@ -1,9 +1,8 @@
 -- What a run of an order to serve does, and why it is refused.
 use Rattle.std.specs.Prelude.{◌≡◌, ◌⊎◌, ◌<◌, ◌≤◌, ◌++◌, ℕ, ℤ, Bool, true, false, List, Option, Some, Result, Ok, Err, ⊤, MatchResult}
-use Rattle.sqlite.specs.Store.{Ghosts}
+use Rattle.archive_port.specs.declared.state.ArchiveState.{Ghosts}
 use Rattle.byte_device.specs.declared.devices.Sink.{Ghosts as Takes}
 use Rattle.policy_core.specs.Rules.{Rule}
-use Rattle.archive_store.specs.declared.store.Store.{Store as Open}
 use Rattle.archive_listen.specs.Connections.{Exchange, ErrorStreamState, ConnectionResult, ConnectionTranscript, error_stream_state}
 use Rattle.archive_listen.specs.Serving.{ServerState, ServesAllConnections, ServesFewerConnections, server_state}
 use Rattle.archive_listen.specs.declared.connections.BoundListener.{BoundListener}
@@ -42,11 +41,11 @@ max_cache_bytes = 268_435_456
 
 -- `accepts` and `shuts` are what a listener says of a connection that it gives, or does not, and of one that it takes back; `over` is what
 -- went over those that it took back, and `went` over those of all listeners that were ended on a device of ports.
-module _ {S L P : Type 0} (g : Ghosts S) (accepts : L → L → Option AcceptError → Type 0) (shuts : L → L → Exchange → Bool → Type 0)
+module _ {S W L P : Type 0} (g : Ghosts S W) (accepts : L → L → Option AcceptError → Type 0) (shuts : L → L → Exchange → Bool → Type 0)
     (over : L → List Exchange) (went : P → List Exchange) (ports_old ports_new : P)
-    (rules : List Rule) (day : ℤ) (listening : BoundListener L) (old new : Open S) (before after : ServerOutput) where
+    (rules : List Rule) (day : ℤ) (listening : BoundListener L) (old new : S) (before after : ServerOutput) where
   -- how each connection is answered, where the tables were an archive's and the disk has returned what was written
-  abbrev pub AnswersEachConnection : (first last : Open S) → (before after : ConnectionTranscript) → ConnectionResult → Type 0
+  abbrev pub AnswersEachConnection : (first last : S) → (before after : ConnectionTranscript) → ConnectionResult → Type 0
   AnswersEachConnection = ServingAnswerLaw g rules day old new
 
   -- The listener was ended so.
@@ -55,7 +54,7 @@ module _ {S L P : Type 0} (g : Ghosts S) (accepts : L → L → Option AcceptErr
 
   -- The line that says where the archive listens went out, and then this is so of a run of connections, by how each is answered, where
   -- it begins, and what was told of faults; and of what listens and the store at its end.
-  abbrev pub AnnouncesThenServes : (ServerState L (Open S) → Type 0) → Type 0
+  abbrev pub AnnouncesThenServes : (ServerState L S → Type 0) → Type 0
   AnnouncesThenServes Serves = WritesListeningLine listening.port before.output.written after.output.written after.output.passed
       × (end : L) × ListenerIsEnded end × Serves (server_state end new)
 
@@ -76,16 +75,16 @@ module _ {S L P : Type 0} (g : Ghosts S) (accepts : L → L → Option AcceptErr
   abbrev pub RefusesServing : (count : ℕ) → RunError → Type 0
   RefusesServing count Net = AnnouncesThenServesFewer count
   RefusesServing count (Run Write) = ServesNoConnection × (new ≡ old) × (before.output.failures < after.output.failures)
-  RefusesServing count (Run Memory) = ServesNoConnection × OnlyCountsRefusal old new × (after.output ≡ before.output)
+  RefusesServing count (Run Memory) = ServesNoConnection × OnlyCountsRefusal g old new × (after.output ≡ before.output)
   RefusesServing count _ = ⊥
 
 -- ---- an open store, and a device of ports before and after
 
 -- `listens` holds of a device before it is asked for a port and after, of its number, and of what is given.
-module _ {S L P : Type 0} (g : Ghosts S) (accepts : L → L → Option AcceptError → Type 0) (shuts : L → L → Exchange → Bool → Type 0)
+module _ {S W L P : Type 0} (g : Ghosts S W) (accepts : L → L → Option AcceptError → Type 0) (shuts : L → L → Exchange → Bool → Type 0)
     (over : L → List Exchange) (went : P → List Exchange)
     (listens : P → P → ℕ → Result (BoundListener L) ListenError → Type 0) (ports_old ports_new : P) (port count : ℕ)
-    (rules : List Rule) (day : ℤ) (old new : Open S) (before after : ServerOutput) where
+    (rules : List Rule) (day : ℤ) (old new : S) (before after : ServerOutput) where
   -- The port of the order was had, so many connections were served, and the listener was ended.
   abbrev pub ListensAndServes : Type 0
   ListensAndServes = (listening : BoundListener L) × (ports : P) × listens ports_old ports port (Ok listening)
@@ -101,8 +100,8 @@ module _ {S L P : Type 0} (g : Ghosts S) (accepts : L → L → Option AcceptErr
 -- ---- an order
 
 -- What a run is over before and after, and what the traits of its devices say.
-module _ {Y S F D C P T R O E I L K A B M : Type 0} (old new : Environment Y S F D C P T R O E I L K A B M) (takes : Takes O) (passes : Passes O) (notes : Takes E)
-    (pages : Ghosts S) (listens : P → P → ℕ → Result (BoundListener L) ListenError → Type 0)
+module _ {Y S F D C P T R O E W I L K A B M : Type 0} (old new : Environment Y S F D C P T R O E W I L K A B M) (takes : Takes O) (passes : Passes O) (notes : Takes E)
+    (pages : Ghosts S W) (listens : P → P → ℕ → Result (BoundListener L) ListenError → Type 0)
     (accepts : L → L → Option AcceptError → Type 0) (shuts : L → L → Exchange → Bool → Type 0) (over : L → List Exchange) (went : P → List Exchange) where
   -- what was said before and after
   abbrev pub before : ServerOutput
@@ -113,13 +112,13 @@ module _ {Y S F D C P T R O E I L K A B M : Type 0} (old new : Environment Y S F
 
   -- The same of the port and the count of an order, out of an open store; nothing was touched but for the ports, the output and the
   -- stream of faults.
-  abbrev pub ServesOpenStore : (store_old store_new : Open S) → ServeValues → List Rule → ℤ → Result ⊤ RunError → Type 0
+  abbrev pub ServesOpenStore : (store_old store_new : S) → ServeValues → List Rule → ℤ → Result ⊤ RunError → Type 0
   ServesOpenStore store_old store_new order rules day result = MatchResult result
       (λ _. ListensAndServes pages accepts shuts over went listens old.ports new.ports order.port order.count rules day store_old store_new before after)
       (RefusesListeningOrServing pages accepts shuts over went listens old.ports new.ports order.port order.count rules day store_old store_new before after)
       × (new ≡ record old { ports = new.ports; output = new.output; faults = new.faults })
 
-  module _ (keeps : Keeps D (Open S)) where
+  module _ (keeps : Keeps D S) where
     -- By these rules and on this day the database of the order was served, and nothing else was touched but for the databases. Or
     -- it was not opened (E14, E15); or it was, and this came of it.
     abbrev pub RunServesDatabase : ServeValues → List Rule → ℤ → Result ⊤ RunError → Type 0
@@ -132,10 +131,10 @@ module _ {Y S F D C P T R O E I L K A B M : Type 0} (old new : Environment Y S F
         (λ o c. RefusesListeningOrServing pages accepts shuts over went listens old.ports new.ports order.port order.count rules day o c before after refusal)
         × (new ≡ record old { databases = new.databases; ports = new.ports; output = new.output; faults = new.faults }))
 
-module _ {Y S F D C P T R O E I L K A B M : Type 0} (old new : Environment Y S F D C P T R O E I L K A B M) (takes : Takes O) (passes : Passes O) (notes : Takes E)
-    (pages : Ghosts S) (listens : P → P → ℕ → Result (BoundListener L) ListenError → Type 0)
+module _ {Y S F D C P T R O E W I L K A B M : Type 0} (old new : Environment Y S F D C P T R O E W I L K A B M) (takes : Takes O) (passes : Passes O) (notes : Takes E)
+    (pages : Ghosts S W) (listens : P → P → ℕ → Result (BoundListener L) ListenError → Type 0)
     (accepts : L → L → Option AcceptError → Type 0) (shuts : L → L → Exchange → Bool → Type 0) (over : L → List Exchange) (went : P → List Exchange)
-    (keeps : Keeps D (Open S)) (tells : Tells C) where
+    (keeps : Keeps D S) (tells : Tells C) where
   -- on the day of the order
   abbrev pub RunServesDatabaseOnDay : ServeValues → List Rule → Result ⊤ RunError → Type 0
   RunServesDatabaseOnDay order rules = RunsOnDay old new tells order.day

@@ -1,13 +1,12 @@
 -- What becomes of an open store by an order, and what goes out.
 use Rattle.std.specs.Prelude.{◌≡◌, ◌⊎◌, ◌++◌, ℕ, List, codes, decimal, string_bytes, Result, Ok, Err, ⊤, MatchResult}
-use Rattle.sqlite.specs.Store.{Ghosts}
+use Rattle.archive_port.specs.declared.state.ArchiveState.{Ghosts}
 use Rattle.byte_device.specs.declared.devices.Source.{Ghosts as Reads}
 use Rattle.archive_model.specs.Questions.{messages_in}
-use Rattle.archive_store.specs.declared.store.Store.{Store as Open}
 use Rattle.archive_port.specs.declared.faults.StoreFault.{StoreFault}
 use Rattle.archive_port.specs.declared.faults.StoreFault.TheVariants as store
-use Rattle.archive_store.specs.Checking.{ChecksArchive}
-use Rattle.archive_store.specs.Told.{HoldsTables, MemoryWasRefused}
+use Rattle.archive_port.specs.Checking.{ChecksArchive}
+use Rattle.archive_port.specs.Told.{HoldsTables, MemoryWasRefused}
 use Rattle.archive_port.specs.Wanting.{IsMemoryRefusal}
 use Rattle.archive_port.specs.declared.checking.CheckError.TheVariants as check
 use Rattle.archive_results.specs.Access.{Ask}
@@ -43,10 +42,10 @@ WritesTextOrFails before after text result = MatchResult result (λ _. (after.wr
 
 -- ---- what becomes of an open store where an order is refused
 
-module _ {S : Type 0} (old new : Open S) where
+module _ {S W : Type 0} (g : Ghosts S W) (old new : S) where
   -- what a fault of a call means: where it is a want of memory, that memory was refused in that call; and where it is E15, this
   abbrev pub ErrorHasCause : {F : Type 0} → (IsMemoryRefusal IsDeskDatabaseFault : F → Type 0) → F → (Cause : Type 0) → Type 0
-  ErrorHasCause IsMemoryRefusal IsDeskDatabaseFault fault Cause = (IsMemoryRefusal fault → MemoryWasRefused old new) × (IsDeskDatabaseFault fault → Cause)
+  ErrorHasCause IsMemoryRefusal IsDeskDatabaseFault fault Cause = (IsMemoryRefusal fault → MemoryWasRefused g old new) × (IsDeskDatabaseFault fault → Cause)
 
   -- E14 and E15
   abbrev pub StoreFaultHasCause : StoreFault → (Cause : Type 0) → Type 0
@@ -60,10 +59,10 @@ module _ {S : Type 0} (old new : Open S) where
   abbrev pub ImportErrorHasCause : ImportError → (Cause : Type 0) → Type 0
   ImportErrorHasCause = ErrorHasCause IsReadWanting IsImportDatabaseFault
 
-module _ {S : Type 0} (g : Ghosts S) (old new : Open S) where
+module _ {S W : Type 0} (g : Ghosts S W) (old new : S) where
   -- a command: E1 to E15; E15 only where the disk failed, or the rows refuse what the machine carries out
   abbrev pub RefusesCommand : StoreCommand → RunError → Type 0
-  RefusesCommand command (Store fault) = CarriesOutCommand g old new command (Err fault) × StoreFaultHasCause old new fault (HasCommandErrorCause g old new command)
+  RefusesCommand command (Store fault) = CarriesOutCommand g old new command (Err fault) × StoreFaultHasCause g old new fault (HasCommandErrorCause g old new command)
   RefusesCommand command _ = ⊥
 
   -- An import of the file of this name, of which an input tells these bytes, meets its end and fails so often.
@@ -83,21 +82,21 @@ module _ {S : Type 0} (g : Ghosts S) (old new : Open S) where
     RefusesImport (Run Memory) = GivesNoInput opens reads files mbox file.Memory × (new ≡ old)
     RefusesImport (Import stop) = ReadsOpenedFile opens reads files mbox
         (λ text ended failed. FaultHasReadFailures stop.fault failed × ImportsInput g old new list text ended (Err stop)
-        × ImportErrorHasCause old new stop.fault (HasPartialCallCause g old new (HoldsTables g) (λ _ db. RowsRefuseReadItem list text ended stop.done db)))
+        × ImportErrorHasCause g old new stop.fault (HasPartialCallCause g old new (HoldsTables g) (λ _ db. RowsRefuseReadItem g list text ended stop.done db)))
     RefusesImport _ = ⊥
 
   -- A message that is asked for: E8, G1, G2, G4, G5, or the rule that denies it; or there was no memory for its name (F5), which was
   -- refused in that call. Where G4 carries E15, the disk failed, or the message or what is asked of the reader cannot be read.
   abbrev pub RefusesGet : Ask → (key : List ℕ) → RunError → Type 0
   RefusesGet ask key (Store fault) = (fault ≡ store.NoMessage) × GetsMessage g old new ask key (Err got.NoMessage)
-  RefusesGet ask key (Desk fault) = GetsMessage g old new ask key (Err (got.Fault fault)) × DeskErrorHasCause old new fault (HasGetErrorCause g old new ask key)
+  RefusesGet ask key (Desk fault) = GetsMessage g old new ask key (Err (got.Fault fault)) × DeskErrorHasCause g old new fault (HasGetErrorCause g old new ask key)
   RefusesGet ask key (Denied rule) = (name : _) × (name.now ≡ string_bytes rule) × GetsMessage g old new ask key (Err (got.Denied name))
-  RefusesGet ask key (Run Memory) = MemoryWasRefused old new × (name : _) × GetsMessage g old new ask key (Err (got.Denied name))
+  RefusesGet ask key (Run Memory) = MemoryWasRefused g old new × (name : _) × GetsMessage g old new ask key (Err (got.Denied name))
   RefusesGet ask key _ = ⊥
 
   -- A check: E14, E15, which is the disk; or E16 of the message that it names.
   abbrev pub RefusesCheck : RunError → Type 0
-  RefusesCheck (Store fault) = ChecksArchive g old new (Err (check.Failed fault)) × StoreFaultHasCause old new fault (HasDiskCause g old new)
+  RefusesCheck (Store fault) = ChecksArchive g old new (Err (check.Failed fault)) × StoreFaultHasCause g old new fault (HasDiskCause g old new)
   RefusesCheck (Damaged list key) = ChecksArchive g old new (Err (check.Damaged list key))
   RefusesCheck _ = ⊥
 
@@ -112,21 +111,21 @@ module _ {S : Type 0} (g : Ghosts S) (old new : Open S) where
   RefusesExport ask before after (Desk fault) = (count : ℕ) × ExportsList g old new ask before.written after.written (Err (record { written = count; fault = fault }))
       × IsExportStop before.written after.written before.failures after.failures count fault
       × ExportsPart g old new before.written after.written count (λ a. exported_text a ask)
-      × DeskErrorHasCause old new fault (HasCause g old new (λ a. IsQuestionUnreadable a ask (messages_in a ask.list)))
+      × DeskErrorHasCause g old new fault (HasCause g old new (λ a. IsQuestionUnreadable a ask (messages_in a ask.list)))
   RefusesExport ask before after _ = ⊥
 
 -- ---- an order over the database of a name
 
-module _ {S D : Type 0} (keeps : Keeps D (Open S)) (old new : D) (file : List ℕ) where
+module _ {S D : Type 0} (keeps : Keeps D S) (old new : D) (file : List ℕ) where
   -- It was not opened: E14, E15.
   abbrev pub RefusesOpening : RunError → Type 0
   RefusesOpening (Store fault) = GivesNoDatabase keeps old new file fault
   RefusesOpening _ = ⊥
 
   -- It was not opened, or this became of its store.
-  abbrev pub FailsOnDatabase : (Open S → Open S → RunError → Type 0) → RunError → Type 0
+  abbrev pub FailsOnDatabase : (S → S → RunError → Type 0) → RunError → Type 0
   FailsOnDatabase Becomes refusal = RefusesOpening refusal ⊎ UsesDatabase keeps old new file (λ o c. Becomes o c refusal)
 
   -- What was answered came of its store; or it was not opened; or what was refused came of its store.
-  abbrev pub AnswersOrFails : {A : Type 0} → Result A RunError → (A → Open S → Open S → Type 0) → (Open S → Open S → RunError → Type 0) → Type 0
+  abbrev pub AnswersOrFails : {A : Type 0} → Result A RunError → (A → S → S → Type 0) → (S → S → RunError → Type 0) → Type 0
   AnswersOrFails result Said Refused = MatchResult result (λ a. UsesDatabase keeps old new file (Said a)) (FailsOnDatabase Refused)

@@ -1,5 +1,5 @@
 //! The databases of archives, by their names.
-use archive_store::StoreFault;
+use archive_port::StoreFault;
 use std::alloc::Global;
 
 /// Whoever has databases, each of which is opened as an archive of the type `T`.

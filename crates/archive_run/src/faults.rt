@@ -4,7 +4,7 @@ ghost use Rattle.sift_run.specs.Refusals.{WritesErrorTextOrFails};
 ghost use Rattle.archive_run.specs.Refusals.{import_error_text, visible_bytes, visible_byte};
 
 use archive_desk::{DeskError, ImportError, ImportStop};
-use archive_store::StoreFault;
+use archive_port::StoreFault;
 use mbox_core::device::{DeviceFailure, Sink};
 use sift_run::{CommandError, PrintsError, put_number, write_piece};
 

@@ -4,7 +4,7 @@ ghost use Rattle.sift_run.specs.Running.{IsReadingDay, IsPolicyErrorCause, AreRu
 ghost use Rattle.sift_run.specs.Streams.{WritesAndFlushesOrFails, output_stream_state};
 ghost use Rattle.archive_run.specs.Crashing.{CrashCarriesOutCommand, CrashImportsFile};
 ghost use Rattle.archive_run.specs.Databases.{LeavesOrUsesDatabase, UsesDatabaseIfOpened};
-ghost use Rattle.archive_store.specs.Told.{WritesNothing};
+ghost use Rattle.archive_port.specs.Crashes.{WritesNothing};
 ghost use Rattle.archive_run.specs.Refusals.{IsCommandErrorWith};
 ghost use Rattle.archive_run.specs.Orders.{RunExportsListOnDay, RunGetsMessageOnDay, RunsCheck, RunsExport, RunsGet, RunsImport, RunsStoreCommand, ask_of_values};
 ghost use Rattle.archive_run.specs.Working.{WritesTextOrFails, report_line};
@@ -55,9 +55,9 @@ pub(crate) fn run_table<Y: Platform>(
     world: &mut Environment<Y>,
     order: &StoreArgs<'_>,
 ) -> Result<(), RunError>
-    ensures runs { RunsStoreCommand world.old world.new Y.Output.Sink Y.Output.BufferedSink.own Y.Storage.Store Y.Databases.Databases order.now result }
+    ensures runs { RunsStoreCommand world.old world.new Y.Output.Sink Y.Output.BufferedSink.own Y.Archive.ArchiveState Y.Databases.Databases order.now result }
     ensures crash { UsesDatabaseIfOpened Y.Databases.Databases world.old.databases world.new.databases order.now.file
-        (λ o c. CrashCarriesOutCommand Y.Storage.Store o c order.now.command) }
+        (λ o c. CrashCarriesOutCommand Y.Archive.ArchiveState o c order.now.command) }
 {
     match work_table(alloc, &mut world.databases, order) {
         Ok(answer) => send(&mut world.output, answer.line().as_bytes()),
@@ -71,10 +71,10 @@ pub(crate) fn run_import<Y: Platform>(
     world: &mut Environment<Y>,
     order: &ImportArgs<'_>,
 ) -> Result<(), RunError>
-    ensures runs { RunsImport world.old world.new Y.Output.Sink Y.Output.BufferedSink.own Y.Storage.Store Y.Databases.Databases
+    ensures runs { RunsImport world.old world.new Y.Output.Sink Y.Output.BufferedSink.own Y.Archive.ArchiveState Y.Databases.Databases
         Y.Files.StreamedFiles Y.Files.Input.Source order.now result }
     ensures crash { UsesDatabaseIfOpened Y.Databases.Databases world.old.databases world.new.databases order.now.file
-        (λ o c. CrashImportsFile Y.Storage.Store o c Y.Files.StreamedFiles Y.Files.Input.Source world.old.files order.now.list order.now.mbox) }
+        (λ o c. CrashImportsFile Y.Archive.ArchiveState o c Y.Files.StreamedFiles Y.Files.Input.Source world.old.files order.now.list order.now.mbox) }
 {
     match work_import(alloc, &mut world.databases, &world.files, order) {
         Ok(report) => send_report(&mut world.output, report),
@@ -125,9 +125,9 @@ pub(crate) fn run_check<Y: Platform>(
     world: &mut Environment<Y>,
     order: &CheckArgs<'_>,
 ) -> Result<(), RunError>
-    ensures runs { RunsCheck world.old world.new Y.Output.Sink Y.Output.BufferedSink.own Y.Storage.Store Y.Databases.Databases order.now result }
+    ensures runs { RunsCheck world.old world.new Y.Output.Sink Y.Output.BufferedSink.own Y.Archive.ArchiveState Y.Databases.Databases order.now result }
     ensures crash { UsesDatabaseIfOpened Y.Databases.Databases world.old.databases world.new.databases order.now.file
-        (WritesNothing Y.Storage.Store) }
+        (WritesNothing Y.Archive.ArchiveState) }
 {
     match work_check(alloc, &mut world.databases, order) {
         Ok(()) => send(&mut world.output, b"ok\n"),
@@ -167,10 +167,10 @@ fn get_by<Y: Platform>(
     policy: &Policy,
     order: &GetArgs<'_>,
 ) -> Result<(), RunError>
-    ensures runs { RunGetsMessageOnDay world.old world.new Y.Output.Sink Y.Output.BufferedSink.own Y.Storage.Store Y.Databases.Databases
+    ensures runs { RunGetsMessageOnDay world.old world.new Y.Output.Sink Y.Output.BufferedSink.own Y.Archive.ArchiveState Y.Databases.Databases
         Y.Clock.DayClock order.now policy.now result }
     ensures crash { LeavesOrUsesDatabase Y.Databases.Databases world.old.databases world.new.databases order.now.ask.file
-        (WritesNothing Y.Storage.Store) }
+        (WritesNothing Y.Archive.ArchiveState) }
 {
     let Some(day) = asking_day(order.asked.day, &mut world.clock) else {
         return Err(RunError::Run(CommandError::Clock));
@@ -192,10 +192,10 @@ pub(crate) fn run_get<Y: Platform>(
     world: &mut Environment<Y>,
     order: &GetArgs<'_>,
 ) -> Result<(), RunError>
-    ensures runs { RunsGet world.old world.new Y.Output.Sink Y.Output.BufferedSink.own Y.Storage.Store Y.Databases.Databases
+    ensures runs { RunsGet world.old world.new Y.Output.Sink Y.Output.BufferedSink.own Y.Archive.ArchiveState Y.Databases.Databases
         Y.Clock.DayClock Y.Files.ReadFiles order.now result }
     ensures crash { LeavesOrUsesDatabase Y.Databases.Databases world.old.databases world.new.databases order.now.ask.file
-        (WritesNothing Y.Storage.Store) }
+        (WritesNothing Y.Archive.ArchiveState) }
 {
     let policy = named_policy(alloc, &world.files, order.asked.policy)?;
     get_by(alloc, world, &policy, order)
@@ -208,10 +208,10 @@ fn export_by<Y: Platform>(
     policy: &Policy,
     order: &ReaderArgs<'_>,
 ) -> Result<(), RunError>
-    ensures runs { RunExportsListOnDay world.old world.new Y.Output.Sink Y.Output.BufferedSink.own Y.Storage.Store Y.Databases.Databases
+    ensures runs { RunExportsListOnDay world.old world.new Y.Output.Sink Y.Output.BufferedSink.own Y.Archive.ArchiveState Y.Databases.Databases
         Y.Clock.DayClock order.now policy.now result }
     ensures crash { LeavesOrUsesDatabase Y.Databases.Databases world.old.databases world.new.databases order.now.file
-        (WritesNothing Y.Storage.Store) }
+        (WritesNothing Y.Archive.ArchiveState) }
 {
     let Some(day) = asking_day(order.day, &mut world.clock) else {
         return Err(RunError::Run(CommandError::Clock));
@@ -232,10 +232,10 @@ pub(crate) fn run_export<Y: Platform>(
     world: &mut Environment<Y>,
     order: &ReaderArgs<'_>,
 ) -> Result<(), RunError>
-    ensures runs { RunsExport world.old world.new Y.Output.Sink Y.Output.BufferedSink.own Y.Storage.Store Y.Databases.Databases
+    ensures runs { RunsExport world.old world.new Y.Output.Sink Y.Output.BufferedSink.own Y.Archive.ArchiveState Y.Databases.Databases
         Y.Clock.DayClock Y.Files.ReadFiles order.now result }
     ensures crash { LeavesOrUsesDatabase Y.Databases.Databases world.old.databases world.new.databases order.now.file
-        (WritesNothing Y.Storage.Store) }
+        (WritesNothing Y.Archive.ArchiveState) }
 {
     let policy = named_policy(alloc, &world.files, order.policy)?;
     export_by(alloc, world, &policy, order)

@@ -47,10 +47,10 @@ fn run_order<Y: Platform>(
     world: &mut Environment<Y>,
     asked: &Order<'_>,
 ) -> Result<(), RunError>
-    ensures runs { RunsOrder (devices Y.Storage.Store Y.Files.ReadFiles Y.Files.StreamedFiles Y.Files.Input.Source Y.Databases.Databases Y.Clock.DayClock
+    ensures runs { RunsOrder (devices Y.Archive.ArchiveState Y.Files.ReadFiles Y.Files.StreamedFiles Y.Files.Input.Source Y.Databases.Databases Y.Clock.DayClock
         Y.Ports.listens Y.Ports.Listener.accepts Y.Ports.Listener.closes Y.Ports.Listener.over Y.Ports.went Y.Threaders.makes Y.Input.Source Y.Output.Sink Y.Output.BufferedSink.own Y.Faults.Sink)
         world.old world.new asked.now result }
-    ensures crash { CrashRunsOrder (devices Y.Storage.Store Y.Files.ReadFiles Y.Files.StreamedFiles Y.Files.Input.Source Y.Databases.Databases Y.Clock.DayClock
+    ensures crash { CrashRunsOrder (devices Y.Archive.ArchiveState Y.Files.ReadFiles Y.Files.StreamedFiles Y.Files.Input.Source Y.Databases.Databases Y.Clock.DayClock
         Y.Ports.listens Y.Ports.Listener.accepts Y.Ports.Listener.closes Y.Ports.Listener.over Y.Ports.went Y.Threaders.makes Y.Input.Source Y.Output.Sink Y.Output.BufferedSink.own Y.Faults.Sink)
         world.old world.new asked.now }
 {
@@ -73,20 +73,20 @@ pub fn run<Y: Platform>(alloc: Global, world: &mut Environment<Y>, words: &[&str
     // At 0 an order is carried out, whole. Its database holds what the order makes of the archive that it held, and what went out is of
     // that archive.
     ensures done { (order : Order) → ParseAsOrder (map (λ w. w.now) words.now) order → result ≡ 0
-        → OrderIsCarriedOut (devices Y.Storage.Store Y.Files.ReadFiles Y.Files.StreamedFiles Y.Files.Input.Source Y.Databases.Databases Y.Clock.DayClock
+        → OrderIsCarriedOut (devices Y.Archive.ArchiveState Y.Files.ReadFiles Y.Files.StreamedFiles Y.Files.Input.Source Y.Databases.Databases Y.Clock.DayClock
         Y.Ports.listens Y.Ports.Listener.accepts Y.Ports.Listener.closes Y.Ports.Listener.over Y.Ports.went Y.Threaders.makes Y.Input.Source Y.Output.Sink Y.Output.BufferedSink.own Y.Faults.Sink)
         world.old world.new order }
 
     // At 1 it is refused: for a reason that holds, or for want of memory to read the words. One line tells the refusal.
     ensures refused { (order : Order) → ParseAsOrder (map (λ w. w.now) words.now) order → result ≡ 1
-        → OrderIsRefused (devices Y.Storage.Store Y.Files.ReadFiles Y.Files.StreamedFiles Y.Files.Input.Source Y.Databases.Databases Y.Clock.DayClock
+        → OrderIsRefused (devices Y.Archive.ArchiveState Y.Files.ReadFiles Y.Files.StreamedFiles Y.Files.Input.Source Y.Databases.Databases Y.Clock.DayClock
         Y.Ports.listens Y.Ports.Listener.accepts Y.Ports.Listener.closes Y.Ports.Listener.over Y.Ports.went Y.Threaders.makes Y.Input.Source Y.Output.Sink Y.Output.BufferedSink.own Y.Faults.Sink)
         world.old world.new order }
 
     // At each status, and at each moment while the database of the order is open: a crash leaves the archive as it was, or the one that
     // the command makes; of an import, some first messages of the mbox were added.
     ensures crash { (order : Order) → ParseAsOrder (map (λ w. w.now) words.now) order
-        → CrashRunsOrder (devices Y.Storage.Store Y.Files.ReadFiles Y.Files.StreamedFiles Y.Files.Input.Source Y.Databases.Databases Y.Clock.DayClock
+        → CrashRunsOrder (devices Y.Archive.ArchiveState Y.Files.ReadFiles Y.Files.StreamedFiles Y.Files.Input.Source Y.Databases.Databases Y.Clock.DayClock
         Y.Ports.listens Y.Ports.Listener.accepts Y.Ports.Listener.closes Y.Ports.Listener.over Y.Ports.went Y.Threaders.makes Y.Input.Source Y.Output.Sink Y.Output.BufferedSink.own Y.Faults.Sink)
         world.old world.new order }
 
@@ -100,7 +100,7 @@ pub fn run<Y: Platform>(alloc: Global, world: &mut Environment<Y>, words: &[&str
     ensures stopped { ((order : Order) × ParseAsOrder (map (λ w. w.now) words.now) order
         × (result ≤ 1))
         ⊎ ((stop : OrderStop) × IsOrderStopOf (map (λ w. w.now) words.now) stop
-        × RunReportsOrderStop (devices Y.Storage.Store Y.Files.ReadFiles Y.Files.StreamedFiles Y.Files.Input.Source Y.Databases.Databases Y.Clock.DayClock
+        × RunReportsOrderStop (devices Y.Archive.ArchiveState Y.Files.ReadFiles Y.Files.StreamedFiles Y.Files.Input.Source Y.Databases.Databases Y.Clock.DayClock
         Y.Ports.listens Y.Ports.Listener.accepts Y.Ports.Listener.closes Y.Ports.Listener.over Y.Ports.went Y.Threaders.makes Y.Input.Source Y.Output.Sink Y.Output.BufferedSink.own Y.Faults.Sink)
         world.old world.new stop result) }
 {

@@ -1,6 +1,6 @@
 //! Serving an archive: the policy is read, the day asked and the database opened once, and then connections are answered.
 ghost use Rattle.std.specs.Prelude.{◌≡◌, ◌≤◌, Ok, Err, MatchResult};
-ghost use Rattle.archive_store.specs.Told.{WritesNothing};
+ghost use Rattle.archive_port.specs.Crashes.{WritesNothing};
 ghost use Rattle.archive_listen.specs.declared.faults.ListenError.{ListenError};
 ghost use Rattle.archive_run.specs.Databases.{LeavesOrUsesDatabase};
 ghost use Rattle.archive_run.specs.Serving.{AnnouncesThenServesAll, RunsServe, RunServesDatabase, RefusesServing, ServesOpenStore, RunServesDatabaseOnDay, max_cache_bytes, server_output};
@@ -12,13 +12,12 @@ use crate::threaders::Threaders;
 use crate::world::{Environment, Platform};
 use archive_args::ServeArgs;
 use archive_listen::{BoundListener, BufferedSink, Ports};
+use archive_port::ArchiveStore;
 use archive_serve::{ServingContext, ServingError, serve};
-use archive_store::Store;
 use civil_time::Day;
 use mbox_core::device::Sink;
 use policy_core::Policy;
 use sift_run::CommandError;
-use sqlite::Alter;
 use std::alloc::Global;
 use thread_core::Threader;
 
@@ -59,9 +58,9 @@ fn serving_terms<'a, T>(
 
 /// Says where a listener listens, answers so many of its connections out of an open store, and ends it. F4: no more connections come.
 /// F2: it could not be said where. F5: the memory of the routes of the pages was refused, which the store counts.
-fn serve_listening<T: Threader, S: Alter, P: Ports, O: BufferedSink, E: Sink>(
+fn serve_listening<T: Threader, S: ArchiveStore, P: Ports, O: BufferedSink, E: Sink>(
     alloc: Global,
-    store: &mut Store<S>,
+    store: &mut S,
     policy: &Policy,
     threader: &T,
     day: Day,
@@ -72,16 +71,16 @@ fn serve_listening<T: Threader, S: Alter, P: Ports, O: BufferedSink, E: Sink>(
     faults: &mut E,
 ) -> Result<(), RunError>
     ensures served { MatchResult result
-        (λ _. AnnouncesThenServesAll S.Store P.Listener.accepts P.Listener.closes P.Listener.over P.went ports.old ports.new policy.now day listening
+        (λ _. AnnouncesThenServesAll S.ArchiveState P.Listener.accepts P.Listener.closes P.Listener.over P.went ports.old ports.new policy.now day listening
         store.old store.new
         (server_output O.Sink O.BufferedSink.own E.Sink output.old faults.old)
         (server_output O.Sink O.BufferedSink.own E.Sink output.new faults.new) count)
-        (RefusesServing S.Store P.Listener.accepts P.Listener.closes P.Listener.over P.went ports.old ports.new policy.now day listening
+        (RefusesServing S.ArchiveState P.Listener.accepts P.Listener.closes P.Listener.over P.went ports.old ports.new policy.now day listening
         store.old store.new
         (server_output O.Sink O.BufferedSink.own E.Sink output.old faults.old)
         (server_output O.Sink O.BufferedSink.own E.Sink output.new faults.new) count) }
     ensures failures { E.failures faults.old ≤ E.failures faults.new }
-    ensures writes_nothing { WritesNothing S.Store store.old store.new }
+    ensures writes_nothing { WritesNothing S.ArchiveState store.old store.new }
 {
     let BoundListener { listener, port } = listening;
     let mut listener = listener;
@@ -100,16 +99,16 @@ fn serve_listening<T: Threader, S: Alter, P: Ports, O: BufferedSink, E: Sink>(
 fn serve_store<Y: Platform, T: Threader>(
     alloc: Global,
     world: &mut Environment<Y>,
-    store: &mut Store<Y::Storage>,
+    store: &mut Y::Archive,
     policy: &Policy,
     threader: &T,
     day: Day,
     order: &ServeArgs<'_>,
 ) -> Result<(), RunError>
-    ensures served { ServesOpenStore world.old world.new Y.Output.Sink Y.Output.BufferedSink.own Y.Faults.Sink Y.Storage.Store
+    ensures served { ServesOpenStore world.old world.new Y.Output.Sink Y.Output.BufferedSink.own Y.Faults.Sink Y.Archive.ArchiveState
         Y.Ports.listens Y.Ports.Listener.accepts Y.Ports.Listener.closes Y.Ports.Listener.over Y.Ports.went store.old store.new order.now policy.now day result }
     ensures failures { Y.Faults.failures world.old.faults ≤ Y.Faults.failures world.new.faults }
-    ensures writes_nothing { WritesNothing Y.Storage.Store store.old store.new }
+    ensures writes_nothing { WritesNothing Y.Archive.ArchiveState store.old store.new }
 {
     let listening = listen_on(&mut world.ports, order.port)?;
     serve_listening(
@@ -135,11 +134,11 @@ fn work_serve<Y: Platform, T: Threader>(
     day: Day,
     order: &ServeArgs<'_>,
 ) -> Result<(), RunError>
-    ensures served { RunServesDatabase world.old world.new Y.Output.Sink Y.Output.BufferedSink.own Y.Faults.Sink Y.Storage.Store
+    ensures served { RunServesDatabase world.old world.new Y.Output.Sink Y.Output.BufferedSink.own Y.Faults.Sink Y.Archive.ArchiveState
         Y.Ports.listens Y.Ports.Listener.accepts Y.Ports.Listener.closes Y.Ports.Listener.over Y.Ports.went Y.Databases.Databases order.now policy.now day result }
     ensures failures { Y.Faults.failures world.old.faults ≤ Y.Faults.failures world.new.faults }
     ensures crash { LeavesOrUsesDatabase Y.Databases.Databases world.old.databases world.new.databases order.now.file
-        (WritesNothing Y.Storage.Store) }
+        (WritesNothing Y.Archive.ArchiveState) }
 {
     let mut store = match world.databases.open(alloc, order.file) {
         Ok(store) => store,
@@ -158,11 +157,11 @@ fn serve_by<Y: Platform, T: Threader>(
     threader: &T,
     order: &ServeArgs<'_>,
 ) -> Result<(), RunError>
-    ensures served { RunServesDatabaseOnDay world.old world.new Y.Output.Sink Y.Output.BufferedSink.own Y.Faults.Sink Y.Storage.Store Y.Ports.listens
+    ensures served { RunServesDatabaseOnDay world.old world.new Y.Output.Sink Y.Output.BufferedSink.own Y.Faults.Sink Y.Archive.ArchiveState Y.Ports.listens
         Y.Ports.Listener.accepts Y.Ports.Listener.closes Y.Ports.Listener.over Y.Ports.went Y.Databases.Databases Y.Clock.DayClock order.now policy.now result }
     ensures failures { Y.Faults.failures world.old.faults ≤ Y.Faults.failures world.new.faults }
     ensures crash { LeavesOrUsesDatabase Y.Databases.Databases world.old.databases world.new.databases order.now.file
-        (WritesNothing Y.Storage.Store) }
+        (WritesNothing Y.Archive.ArchiveState) }
 {
     let Some(day) = asking_day(order.day, &mut world.clock) else {
         return Err(RunError::Run(CommandError::Clock));
@@ -177,10 +176,10 @@ pub(crate) fn run_serve<Y: Platform>(
     world: &mut Environment<Y>,
     order: &ServeArgs<'_>,
 ) -> Result<(), RunError>
-    ensures runs { RunsServe world.old world.new Y.Output.Sink Y.Output.BufferedSink.own Y.Faults.Sink Y.Storage.Store Y.Ports.listens
+    ensures runs { RunsServe world.old world.new Y.Output.Sink Y.Output.BufferedSink.own Y.Faults.Sink Y.Archive.ArchiveState Y.Ports.listens
         Y.Ports.Listener.accepts Y.Ports.Listener.closes Y.Ports.Listener.over Y.Ports.went Y.Databases.Databases Y.Clock.DayClock Y.Files.ReadFiles Y.Threaders.makes order.now result }
     ensures crash { LeavesOrUsesDatabase Y.Databases.Databases world.old.databases world.new.databases order.now.file
-        (WritesNothing Y.Storage.Store) }
+        (WritesNothing Y.Archive.ArchiveState) }
 {
     let Some(threader) = world.threaders.threader() else {
         return Err(RunError::Run(CommandError::Read));

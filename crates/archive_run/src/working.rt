@@ -5,8 +5,8 @@ ghost use Rattle.archive_run.specs.Crashing.{CrashCarriesOutCommand, CrashImport
 ghost use Rattle.archive_run.specs.Databases.{UsesDatabase, UsesDatabaseIfOpened, GivesNoDatabase};
 ghost use Rattle.archive_run.specs.Working.{AnswersOrFails, RefusesCommand, RefusesCheck, RefusesExport, RefusesGet, ImportsFile, RefusesImport, ExportsWholeList, RefusesOpening};
 ghost use Rattle.sift_run.specs.Streams.{output_stream_state};
-ghost use Rattle.archive_store.specs.Checking.{ChecksArchive};
-ghost use Rattle.archive_store.specs.Told.{WritesNothing};
+ghost use Rattle.archive_port.specs.Checking.{ChecksArchive};
+ghost use Rattle.archive_port.specs.Crashes.{WritesNothing};
 
 use crate::databases::Databases;
 use crate::faults::RunError;
@@ -15,26 +15,25 @@ use archive_commands::{Answer, GetError, carry_out, get};
 use archive_desk::{DeskError, Report, export};
 use archive_import::import_from;
 use archive_listen::BufferedSink;
+use archive_port::{ArchiveStore, CheckError, StoreFault};
 use archive_results::Ask;
-use archive_store::{CheckError, Store, StoreFault};
 use sift_run::{CommandError, FileError, StreamedFiles};
-use sqlite::Alter;
 use std::alloc::Global;
 
 /// Carries a command out in the database of the order.
-pub(crate) fn work_table<S: Alter, D: Databases<Store<S>>>(
+pub(crate) fn work_table<S: ArchiveStore, D: Databases<S>>(
     alloc: Global,
     databases: &mut D,
     order: &StoreArgs<'_>,
 ) -> Result<Answer, StoreFault>
     ensures worked { MatchResult result
         (λ answer. UsesDatabase D.Databases databases.old databases.new order.now.file
-        (λ o c. CarriesOutCommand S.Store o c order.now.command (Ok answer)))
+        (λ o c. CarriesOutCommand S.ArchiveState o c order.now.command (Ok answer)))
         (λ fault. GivesNoDatabase D.Databases databases.old databases.new order.now.file fault
         ⊎ UsesDatabase D.Databases databases.old databases.new order.now.file
-        (λ o c. RefusesCommand S.Store o c order.now.command (RunError.Store fault))) }
+        (λ o c. RefusesCommand S.ArchiveState o c order.now.command (RunError.Store fault))) }
     ensures crash { UsesDatabaseIfOpened D.Databases databases.old databases.new order.now.file
-        (λ o c. CrashCarriesOutCommand S.Store o c order.now.command) }
+        (λ o c. CrashCarriesOutCommand S.ArchiveState o c order.now.command) }
 {
     let mut store = databases.open(alloc, order.file)?;
     let answer = carry_out(&mut store, alloc, &order.command);
@@ -44,17 +43,17 @@ pub(crate) fn work_table<S: Alter, D: Databases<Store<S>>>(
 
 /// Takes the messages of the file of this name, which is read piece by piece, into a list of an open store. F1: it cannot be
 /// opened; F5: there was no memory to open it. Nothing was taken in then. M1 to M3, E4, E12, E14 and E15 as `import_from`.
-fn import_file<S: Alter, F: StreamedFiles>(
-    store: &mut Store<S>,
+fn import_file<S: ArchiveStore, F: StreamedFiles>(
+    store: &mut S,
     alloc: Global,
     files: &F,
     list: &str,
     name: &str,
 ) -> Result<Report, RunError>
     ensures imported { MatchResult result
-        (λ report. ImportsFile S.Store store.old store.new F.StreamedFiles F.Input.Source files.now list.now name.now report)
-        (λ refusal. RefusesImport S.Store store.old store.new F.StreamedFiles F.Input.Source files.now list.now name.now refusal) }
-    ensures crash { CrashImportsFile S.Store store.old store.new F.StreamedFiles F.Input.Source files.now list.now name.now }
+        (λ report. ImportsFile S.ArchiveState store.old store.new F.StreamedFiles F.Input.Source files.now list.now name.now report)
+        (λ refusal. RefusesImport S.ArchiveState store.old store.new F.StreamedFiles F.Input.Source files.now list.now name.now refusal) }
+    ensures crash { CrashImportsFile S.ArchiveState store.old store.new F.StreamedFiles F.Input.Source files.now list.now name.now }
 {
     let mut input = match files.open_file(alloc, name) {
         Ok(input) => input,
@@ -68,17 +67,17 @@ fn import_file<S: Alter, F: StreamedFiles>(
 }
 
 /// Takes the messages of the mbox of the order into its list.
-pub(crate) fn work_import<S: Alter, D: Databases<Store<S>>, F: StreamedFiles>(
+pub(crate) fn work_import<S: ArchiveStore, D: Databases<S>, F: StreamedFiles>(
     alloc: Global,
     databases: &mut D,
     files: &F,
     order: &ImportArgs<'_>,
 ) -> Result<Report, RunError>
     ensures worked { AnswersOrFails D.Databases databases.old databases.new order.now.file result
-        (λ report o c. ImportsFile S.Store o c F.StreamedFiles F.Input.Source files.now order.now.list order.now.mbox report)
-        (λ o c. RefusesImport S.Store o c F.StreamedFiles F.Input.Source files.now order.now.list order.now.mbox) }
+        (λ report o c. ImportsFile S.ArchiveState o c F.StreamedFiles F.Input.Source files.now order.now.list order.now.mbox report)
+        (λ o c. RefusesImport S.ArchiveState o c F.StreamedFiles F.Input.Source files.now order.now.list order.now.mbox) }
     ensures crash { UsesDatabaseIfOpened D.Databases databases.old databases.new order.now.file
-        (λ o c. CrashImportsFile S.Store o c F.StreamedFiles F.Input.Source files.now order.now.list order.now.mbox) }
+        (λ o c. CrashImportsFile S.ArchiveState o c F.StreamedFiles F.Input.Source files.now order.now.list order.now.mbox) }
 {
     let mut store = match databases.open(alloc, order.file) {
         Ok(store) => store,
@@ -90,16 +89,16 @@ pub(crate) fn work_import<S: Alter, D: Databases<Store<S>>, F: StreamedFiles>(
 }
 
 /// What a reader gets of a message of an open store.
-fn get_text<S: Alter>(
-    store: &mut Store<S>,
+fn get_text<S: ArchiveStore>(
+    store: &mut S,
     alloc: Global,
     ask: &Ask<'_>,
     key: &str,
 ) -> Result<Vec<u8>, RunError>
     ensures got { MatchResult result
-        (λ text. GetsMessage S.Store store.old store.new ask.now key.now (Ok text))
-        (λ refusal. RefusesGet S.Store store.old store.new ask.now key.now refusal) }
-    ensures writes_nothing { WritesNothing S.Store store.old store.new }
+        (λ text. GetsMessage S.ArchiveState store.old store.new ask.now key.now (Ok text))
+        (λ refusal. RefusesGet S.ArchiveState store.old store.new ask.now key.now refusal) }
+    ensures writes_nothing { WritesNothing S.ArchiveState store.old store.new }
 {
     match get(store, alloc, ask, key) {
         Ok(text) => Ok(text),
@@ -108,7 +107,7 @@ fn get_text<S: Alter>(
         Err(GetError::Denied(rule)) => match String::from_str(alloc, rule) {
             Ok(rule) => Err(RunError::Denied(rule)),
             Err(refused) => {
-                store.wants.increment(refused.into());
+                store.count_refusal(refused.into());
                 Err(RunError::Run(CommandError::Memory))
             }
         },
@@ -116,7 +115,7 @@ fn get_text<S: Alter>(
 }
 
 /// What a reader gets of a message of the database of this name.
-pub(crate) fn work_get<S: Alter, D: Databases<Store<S>>>(
+pub(crate) fn work_get<S: ArchiveStore, D: Databases<S>>(
     alloc: Global,
     databases: &mut D,
     file: &str,
@@ -124,9 +123,9 @@ pub(crate) fn work_get<S: Alter, D: Databases<Store<S>>>(
     key: &str,
 ) -> Result<Vec<u8>, RunError>
     ensures worked { AnswersOrFails D.Databases databases.old databases.new file.now result
-        (λ text o c. GetsMessage S.Store o c ask.now key.now (Ok text))
-        (λ o c. RefusesGet S.Store o c ask.now key.now) }
-    ensures crash { UsesDatabaseIfOpened D.Databases databases.old databases.new file.now (WritesNothing S.Store) }
+        (λ text o c. GetsMessage S.ArchiveState o c ask.now key.now (Ok text))
+        (λ o c. RefusesGet S.ArchiveState o c ask.now key.now) }
+    ensures crash { UsesDatabaseIfOpened D.Databases databases.old databases.new file.now (WritesNothing S.ArchiveState) }
 {
     let mut store = match databases.open(alloc, file) {
         Ok(store) => store,
@@ -138,11 +137,11 @@ pub(crate) fn work_get<S: Alter, D: Databases<Store<S>>>(
 }
 
 /// Looks whether an open store is whole.
-fn check_store<S: Alter>(store: &mut Store<S>, alloc: Global) -> Result<(), RunError>
+fn check_store<S: ArchiveStore>(store: &mut S, alloc: Global) -> Result<(), RunError>
     ensures checked { MatchResult result
-        (λ _. ChecksArchive S.Store store.old store.new (Ok tt))
-        (λ refusal. RefusesCheck S.Store store.old store.new refusal) }
-    ensures writes_nothing { WritesNothing S.Store store.old store.new }
+        (λ _. ChecksArchive S.ArchiveState store.old store.new (Ok tt))
+        (λ refusal. RefusesCheck S.ArchiveState store.old store.new refusal) }
+    ensures writes_nothing { WritesNothing S.ArchiveState store.old store.new }
 {
     match store.check(alloc) {
         Ok(()) => Ok(()),
@@ -152,15 +151,15 @@ fn check_store<S: Alter>(store: &mut Store<S>, alloc: Global) -> Result<(), RunE
 }
 
 /// Looks whether the database of the order is whole.
-pub(crate) fn work_check<S: Alter, D: Databases<Store<S>>>(
+pub(crate) fn work_check<S: ArchiveStore, D: Databases<S>>(
     alloc: Global,
     databases: &mut D,
     order: &CheckArgs<'_>,
 ) -> Result<(), RunError>
     ensures worked { AnswersOrFails D.Databases databases.old databases.new order.now.file result
-        (λ _ o c. ChecksArchive S.Store o c (Ok tt)) (λ o c. RefusesCheck S.Store o c) }
+        (λ _ o c. ChecksArchive S.ArchiveState o c (Ok tt)) (λ o c. RefusesCheck S.ArchiveState o c) }
     ensures crash { UsesDatabaseIfOpened D.Databases databases.old databases.new order.now.file
-        (WritesNothing S.Store) }
+        (WritesNothing S.ArchiveState) }
 {
     let mut store = match databases.open(alloc, order.file) {
         Ok(store) => store,
@@ -172,18 +171,18 @@ pub(crate) fn work_check<S: Alter, D: Databases<Store<S>>>(
 }
 
 /// Writes the messages of a list of an open store that the reader may see, and passes them on (G6).
-fn export_text<S: Alter, O: BufferedSink>(
-    store: &mut Store<S>,
+fn export_text<S: ArchiveStore, O: BufferedSink>(
+    store: &mut S,
     alloc: Global,
     ask: &Ask<'_>,
     output: &mut O,
 ) -> Result<(), RunError>
     ensures exported { MatchResult result
-        (λ _. ExportsWholeList S.Store store.old store.new ask.now (output_stream_state O.Sink O.BufferedSink.own output.old)
+        (λ _. ExportsWholeList S.ArchiveState store.old store.new ask.now (output_stream_state O.Sink O.BufferedSink.own output.old)
         (output_stream_state O.Sink O.BufferedSink.own output.new))
-        (RefusesExport S.Store store.old store.new ask.now (output_stream_state O.Sink O.BufferedSink.own output.old)
+        (RefusesExport S.ArchiveState store.old store.new ask.now (output_stream_state O.Sink O.BufferedSink.own output.old)
         (output_stream_state O.Sink O.BufferedSink.own output.new)) }
-    ensures writes_nothing { WritesNothing S.Store store.old store.new }
+    ensures writes_nothing { WritesNothing S.ArchiveState store.old store.new }
 {
     match export(store, alloc, ask, output) {
         Ok(_count) => {}
@@ -196,7 +195,7 @@ fn export_text<S: Alter, O: BufferedSink>(
 }
 
 /// Writes the messages of a list of the database of this name that the reader may see, and passes them on (G6).
-pub(crate) fn work_export<S: Alter, D: Databases<Store<S>>, O: BufferedSink>(
+pub(crate) fn work_export<S: ArchiveStore, D: Databases<S>, O: BufferedSink>(
     alloc: Global,
     databases: &mut D,
     file: &str,
@@ -205,14 +204,14 @@ pub(crate) fn work_export<S: Alter, D: Databases<Store<S>>, O: BufferedSink>(
 ) -> Result<(), RunError>
     ensures worked { MatchResult result
         (λ _. UsesDatabase D.Databases databases.old databases.new file.now
-        (λ o c. ExportsWholeList S.Store o c ask.now
+        (λ o c. ExportsWholeList S.ArchiveState o c ask.now
         (output_stream_state O.Sink O.BufferedSink.own output.old) (output_stream_state O.Sink O.BufferedSink.own output.new)))
         (λ refusal. (RefusesOpening D.Databases databases.old databases.new file.now refusal
         × (output.new ≡ output.old))
         ⊎ UsesDatabase D.Databases databases.old databases.new file.now
-        (λ o c. RefusesExport S.Store o c ask.now
+        (λ o c. RefusesExport S.ArchiveState o c ask.now
         (output_stream_state O.Sink O.BufferedSink.own output.old) (output_stream_state O.Sink O.BufferedSink.own output.new) refusal)) }
-    ensures crash { UsesDatabaseIfOpened D.Databases databases.old databases.new file.now (WritesNothing S.Store) }
+    ensures crash { UsesDatabaseIfOpened D.Databases databases.old databases.new file.now (WritesNothing S.ArchiveState) }
 {
     let mut store = match databases.open(alloc, file) {
         Ok(store) => store,

@@ -2,22 +2,21 @@
 use crate::databases::Databases;
 use crate::threaders::Threaders;
 use archive_listen::{BufferedSink, Ports};
-use archive_store::Store;
+use archive_port::ArchiveStore;
 use mbox_core::device::{Sink, Source};
 use sift_run::{DayClock, ReadFiles, StreamedFiles};
-use sqlite::Alter;
 
 /// The kinds of devices that a run is over. No value of it is ever made.
 pub trait Platform {
     ghost use Rattle.archive_run.specs.Remembering.{ClosedDatabaseHoldsArchive, OpenedStoreHoldsArchive, UnopenedDatabaseHoldsArchive};
 
-    /// What the pages of a database lie in.
-    type Storage: Alter;
+    /// What an opened archive is.
+    type Archive: ArchiveStore + Drop;
 
     /// The files of policies, which are read whole, and of mboxes, which are read piece by piece.
     type Files: ReadFiles + StreamedFiles + Drop;
 
-    type Databases: Databases<Store<Self::Storage>> + Drop;
+    type Databases: Databases<Self::Archive> + Drop;
 
     type Clock: DayClock + Drop;
 
@@ -35,10 +34,10 @@ pub trait Platform {
 
     // A database that holds an archive gives a store that remembers it, if the disk has returned what was written to it, and that has no
     // limit on the steps of a query.
-    ghost opens_held: { OpenedStoreHoldsArchive Self.Storage.Store Self.Databases.Databases };
+    ghost opens_held: { OpenedStoreHoldsArchive Self.Archive.ArchiveState Self.Databases.Databases };
 
     // When it is closed, it holds what its store remembers then.
-    ghost closes_held: { ClosedDatabaseHoldsArchive Self.Storage.Store Self.Databases.Databases };
+    ghost closes_held: { ClosedDatabaseHoldsArchive Self.Archive.ArchiveState Self.Databases.Databases };
 
     // If an opening fails, it still holds what it held.
     ghost unopened_held: { UnopenedDatabaseHoldsArchive Self.Databases.Databases };

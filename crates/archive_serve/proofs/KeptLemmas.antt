@@ -1,14 +1,12 @@
 -- Connections one after the other, out of what is kept from one to the next.
-use Rattle.std.proofs.Common.{◌≡◌, ◌∙◌, inl, inr, ℤ, List, Bool, true, Option, None, Some, Result, Ok, Err, refl, sym, ap, subst, ℕ}
+use Rattle.std.proofs.Common.{◌≡◌, ◌∙◌, inl, inr, ℤ, List, Bool, true, Option, None, Some, Result, Ok, Err, refl, sym, ap, subst, ℕ, IsTrue}
 use Rattle.std.specs.Prelude.{IfErr, IfSome, OnOk, OnErr, is_some}
 use Rattle.std.proofs.lemmas.Bool.{cases_Bool}
-use Rattle.sqlite.specs.Store.{Ghosts}
-use Rattle.sqlite.specs.Held.{state}
+use Rattle.archive_port.specs.declared.state.ArchiveState.{Ghosts}
 use Rattle.policy_core.specs.Rules.{Rule}
 use Rattle.archive_model.specs.Records.{Archive}
-use Rattle.archive_store.specs.Held.{store_connection}
-use Rattle.archive_store.specs.Told.{StoreHasCleanDisk, HoldsTables, IsOpen, WritesNothing, archive_in}
-use Rattle.archive_store.specs.declared.store.Store.{Store}
+use Rattle.archive_port.specs.Told.{StoreHasCleanDisk, HoldsTables, IsOpen, archive_in}
+use Rattle.archive_port.specs.Crashes.{WritesNothing}
 use Rattle.archive_cache.specs.Coherence.{IsCacheCoherent, KeepsCacheCoherent}
 use Rattle.archive_pages.specs.Answered.{AnswersRequestFromStore}
 use Rattle.archive_pages.specs.Calls.{IsPagesCacheCoherent, ChangesOnlyPagesCache}
@@ -46,7 +44,7 @@ with_routes None says some = absurd (cc)
 with_routes (Some routes) says some = says
 
 -- what a call that answers says
-module _ {S T : Type 0} (g : Ghosts S) (pages later : Pages T) (old new : Store S) (before after : ConnectionTranscript) (result : Result ℕ ServeFault) where
+module _ {S W T : Type 0} (g : Ghosts S W) (pages later : Pages T) (old new : S) (before after : ConnectionTranscript) (result : Result ℕ ServeFault) where
   pub answers_kept : (outcome : ConnectionResult) → outcome ≡ connection_result_of result
       → (IsTrueOfRememberedArchive g old new (IsPagesCacheCoherent pages)
       → AnswersRequestFromStore g old new pages.policy.now pages.day before.read after.read before.ends after.ends before.written after.written result)
@@ -69,10 +67,10 @@ module _ {S T : Type 0} (g : Ghosts S) (pages later : Pages T) (old new : Store 
     keeps = keeps.cache_stays_coherent;
   }
 
-module _ {S : Type 0} (g : Ghosts S) (rules : List Rule) (day : ℤ) where
+module _ {S W : Type 0} (g : Ghosts S W) (rules : List Rule) (day : ℤ) where
   -- pages and the store that they answer out of
   abbrev Serving : Type 0
-  Serving = RunningService ServingContextState (Store S)
+  Serving = RunningService ServingContextState S
 
   abbrev pub KeptLaw : Serving → Serving → ConnectionTranscript → ConnectionTranscript → ConnectionResult → Type 0
   KeptLaw = service_answer_law (λ keeper later. AnswersFromCache g keeper later)
@@ -87,7 +85,8 @@ module _ {S : Type 0} (g : Ghosts S) (rules : List Rule) (day : ℤ) where
     pub left : IsOpen g serving.state → HoldsTables g serving.state × (archive_in g serving.state ≡ archive)
 
   -- one answer on, by pages that go by these rules, on this day
-  module _ (archive : Archive) (old new : Serving) (same : SameBy old) (before after : ConnectionTranscript) (outcome : ConnectionResult)
+  module _ (opens : (store : S) → g.is_at_rest store → IsTrue (g.is_open store)) (archive : Archive) (old new : Serving) (same : SameBy old) (before after : ConnectionTranscript)
+      (outcome : ConnectionResult)
       (law : KeptLaw old new before after outcome) where
     same_on : SameBy new
     same_on = (law.same_rules ∙ same.0, law.same_day ∙ same.1, law.same_routes ∙ same.2)
@@ -95,7 +94,7 @@ module _ {S : Type 0} (g : Ghosts S) (rules : List Rule) (day : ℤ) where
     -- where the disk has returned what was written, and what is kept is of the archive
     module _ (had : StoreHasCleanDisk g new.state) (sound : IsSound archive old) where
       serves_held_archive : IsTrueOfRememberedArchive g old.state new.state (λ a. IsCacheCoherent a rules day old.service.kept)
-      serves_held_archive returned held = subst (λ a. IsCacheCoherent a rules day old.service.kept) (sym (sound.left held.is_open).1) sound.kept
+      serves_held_archive returned held = subst (λ a. IsCacheCoherent a rules day old.service.kept) (sym (sound.left (opens old.state held)).1) sound.kept
 
       answered : AnswersRequestFromStore g old.state new.state rules day before.read after.read before.ends after.ends before.written after.written law.result
       answered = (rw (same.0, same.1) at law.answered) serves_held_archive
@@ -113,10 +112,10 @@ module _ {S : Type 0} (g : Ghosts S) (rules : List Rule) (day : ℤ) where
       stays_open : IsNeither503NorWriteError outcome → IsOpen g old.state → IsOpen g new.state
       stays_open steady up =
           let goes = goes_by g old.state new.state before after law.result _ (subst IsNeither503NorWriteError law.is steady) answered law.ends.archive_is_kept in
-          (goes.1 had (sound.left up).0).0.is_open
+          opens new.state (goes.1 had (sound.left up).0).0
 
       kept_on : KeepsCacheCoherent g old.state new.state rules day old.service.kept new.service.kept → IsCacheCoherent archive rules day new.service.kept
-      kept_on keeps = elim (cases_Bool (state g (store_connection old.state)).is_open) [
+      kept_on keeps = elim (cases_Bool (g.is_open old.state)) [
         | inl up ↦
             let was = sound.left up in
             subst (λ a. IsCacheCoherent a rules day new.service.kept) was.1 (keeps.keeps_coherent had was.0 (serves_held_archive had was.0))
@@ -138,7 +137,8 @@ module _ {S : Type 0} (g : Ghosts S) (rules : List Rule) (day : ℤ) where
         stays_open = λ i. stays_open (had i) (sound i);
       }
 
-  module _ {L : Type 0} (accepts : L → L → Option AcceptError → Type 0) (closes : L → L → Exchange → Bool → Type 0) (If : Type 0) (archive : Archive) where
+  module _ {L : Type 0} (opens : (store : S) → g.is_at_rest store → IsTrue (g.is_open store)) (accepts : L → L → Option AcceptError → Type 0) (closes : L → L → Exchange → Bool → Type 0)
+      (If : Type 0) (archive : Archive) where
     -- what a run hands on from connection to connection
     pub record GoesOn (serving : Serving) : Type 0 where
       pub same : SameBy serving
@@ -156,25 +156,26 @@ module _ {S : Type 0} (g : Ghosts S) (rules : List Rule) (day : ℤ) where
         each_had_through KeptLaw (AnswersFromArchiveInRun g If archive rules day) (λ (w : Serving). w.state) accepts closes (λ w. If → StoreHasCleanDisk g w.state) GoesOn
         (λ old new first last outcome law returned i. law.ends.archive_is_kept.archive_is_same.0.disk_was_clean (returned i))
         (λ old new first last outcome returned on law. (
-          answers_in archive old new on.same first last outcome law If returned on.sound,
+          answers_in opens archive old new on.same first last outcome law If returned on.sound,
           record {
-            same = same_on archive old new on.same first last outcome law;
-            sound = λ i. sound_on archive old new on.same first last outcome law (returned i) (on.sound i);
+            same = same_on opens archive old new on.same first last outcome law;
+            sound = λ i. sound_on opens archive old new on.same first last outcome law (returned i) (on.sound i);
           },
         ))
         outcomes before after had goes each
 
 -- a run of a service that keeps nothing before the first connection
-module _ {S L : Type 0} (g : Ghosts S) (accepts : L → L → Option AcceptError → Type 0) (closes : L → L → Exchange → Bool → Type 0)
-    (rules : List Rule) (day : ℤ) (most : ℕ) (keeper : ServingContextState) (fresh : keeper ≡ fresh_serving_context rules day most) (store : Store S) (listener : L) where
-  abbrev Law : RunningService ServingContextState (Store S) → RunningService ServingContextState (Store S) → ConnectionTranscript → ConnectionTranscript → ConnectionResult → Type 0
+module _ {S W L : Type 0} (g : Ghosts S W) (opens : (store : S) → g.is_at_rest store → IsTrue (g.is_open store)) (accepts : L → L → Option AcceptError → Type 0)
+    (closes : L → L → Exchange → Bool → Type 0)
+    (rules : List Rule) (day : ℤ) (most : ℕ) (keeper : ServingContextState) (fresh : keeper ≡ fresh_serving_context rules day most) (store : S) (listener : L) where
+  abbrev Law : RunningService ServingContextState S → RunningService ServingContextState S → ConnectionTranscript → ConnectionTranscript → ConnectionResult → Type 0
   Law = KeptLaw g rules day
 
-  run_each : (last : Store S) (outcomes : List ConnectionResult) (after : ServerState L (RunningService ServingContextState (Store S))) → last ≡ after.state.state
+  run_each : (last : S) (outcomes : List ConnectionResult) (after : ServerState L (RunningService ServingContextState S)) → last ≡ after.state.state
       → ServesEachConnection Law accepts closes outcomes (server_state listener (running_service keeper store)) after
       → ServesEachConnection (ServingAnswerLaw g rules day store last) accepts closes outcomes (server_state listener store) (server_state after.listener after.state.state)
   run_each last outcomes after same each =
-      let through = answers_each g rules day accepts closes (HasSoundStore g store last) (archive_in g store) outcomes (server_state listener (running_service keeper store)) after
+      let through = answers_each g rules day opens accepts closes (HasSoundStore g store last) (archive_in g store) outcomes (server_state listener (running_service keeper store)) after
       (λ i. subst (λ s. StoreHasCleanDisk g s) same i.0)
       (record {
         same = (ap (λ (k : ServingContextState). k.rules) fresh, ap (λ (k : ServingContextState). k.day) fresh, ap (λ (k : ServingContextState). k.routes) fresh);
@@ -185,12 +186,12 @@ module _ {S L : Type 0} (g : Ghosts S) (accepts : L → L → Option AcceptError
       }) each in
       through.0
 
-  module _ (before after : ErrorStreamState) (count : ℕ) (service : ServingContextState) (last : Store S) (end : L) where
-    abbrev left_at : ServerState L (RunningService ServingContextState (Store S))
+  module _ (before after : ErrorStreamState) (count : ℕ) (service : ServingContextState) (last : S) (end : L) where
+    abbrev left_at : ServerState L (RunningService ServingContextState S)
     left_at = server_state end (running_service service last)
 
     -- the store before the service was made
-    module _ (was : Store S) (is_was : store ≡ was) where
+    module _ (was : S) (is_was : store ≡ was) where
       pub all_of_fresh : ServesAllConnections Law accepts closes (server_state listener (running_service keeper store)) before after count left_at
           → ServesAllConnections (ServingAnswerLaw g rules day was last) accepts closes (server_state listener was) before after count (server_state end last)
       all_of_fresh it =

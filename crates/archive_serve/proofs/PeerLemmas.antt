@@ -1,15 +1,12 @@
 -- What went over the connections that a listener took back in a run.
-use Rattle.std.proofs.Common.{◌≡◌, ◌<◌, ◌∙◌, inl, inr, ℕ, ℤ, List, [], ◌∷◌, ◌++◌, Bool, Option, Result, Err, refl, sym, ap, subst, append_assoc}
+use Rattle.std.proofs.Common.{◌≡◌, ◌<◌, ◌∙◌, inl, inr, ℕ, ℤ, List, [], ◌∷◌, ◌++◌, Bool, Option, Result, Err, refl, sym, ap, subst, append_assoc, IsTrue}
 use Rattle.std.proofs.lemmas.Bool.{cases_Bool}
 use Rattle.std.proofs.lemmas.List.{append-nil}
-use Rattle.sqlite.specs.Store.{Ghosts}
-use Rattle.sqlite.specs.Held.{state}
+use Rattle.archive_port.specs.declared.state.ArchiveState.{Ghosts}
 use Rattle.policy_core.specs.Rules.{Rule}
 use Rattle.archive_model.specs.Records.{Archive}
-use Rattle.archive_tables.proofs.LastLemmas.{lasts_same, lasts_then}
-use Rattle.archive_store.specs.Held.{store_connection}
-use Rattle.archive_store.specs.Told.{DiskHasFailed, HasNoStepLimit, StoreHasCleanDisk, HoldsTables, IsOpen, IsStoreClosed, StaysOpenUnlessDiskFails, archive_in}
-use Rattle.archive_store.specs.declared.store.Store.{Store}
+use Rattle.archive_port.proofs.LastLemmas.{lasts_same, lasts_then}
+use Rattle.archive_port.specs.Told.{DiskHasFailed, HasNoStepLimit, StoreHasCleanDisk, HoldsTables, IsOpen, IsStoreClosed, StaysOpenUnlessDiskFails, archive_in}
 use Rattle.archive_pages.specs.Causes.{IsInputDataUnreadable, Sent503OrBrokeOff, ServesOr503}
 use Rattle.archive_pages.specs.Headline.{AnswersRequestFromArchive}
 use Rattle.archive_pages.specs.declared.faults.ServeFault.{ServeFault}
@@ -20,23 +17,23 @@ use Rattle.archive_listen.specs.declared.faults.ConnectionError.TheVariants.{Rea
 use Rattle.archive_serve.specs.Runs.{AnswersFromArchiveInRun, ExchangesAreAnswered, HasSoundStore, EachGetsItsReply, ExchangeIsAnswered}
 use Rattle.archive_serve.specs.Runs.{Each503HasItsCause, ExchangeIsAnsweredWithCause, ExchangesAreAnsweredWithCause, HasUnservedCause}
 
-module _ {S L : Type 0} (g : Ghosts S) (accepts : L → L → Option AcceptError → Type 0) (closes : L → L → Exchange → Bool → Type 0)
+module _ {S W L : Type 0} (g : Ghosts S W) (accepts : L → L → Option AcceptError → Type 0) (closes : L → L → Exchange → Bool → Type 0)
     (If : Type 0) (archive : Archive) (rules : List Rule) (day : ℤ) where
   -- a disk that has returned what was written so far had done so before
-  had_one : (outcome : ConnectionResult) (before after : ServerState L (Store S)) → ServesOneConnection (AnswersFromArchiveInRun g If archive rules day) accepts closes outcome before after
+  had_one : (outcome : ConnectionResult) (before after : ServerState L S) → ServesOneConnection (AnswersFromArchiveInRun g If archive rules day) accepts closes outcome before after
       → StoreHasCleanDisk g after.state → StoreHasCleanDisk g before.state
   had_one outcome before after (inl takes) returned = takes.is_answered.is_answered.ends.archive_is_kept.archive_is_same.0.disk_was_clean returned
-  had_one outcome before after (inr misses) returned = subst (λ (s : Store S). StoreHasCleanDisk g s) misses.state_is_same returned
+  had_one outcome before after (inr misses) returned = subst (λ (s : S). StoreHasCleanDisk g s) misses.state_is_same returned
 
-  pub had_before : (outcomes : List ConnectionResult) (before after : ServerState L (Store S))
+  pub had_before : (outcomes : List ConnectionResult) (before after : ServerState L S)
       → ServesEachConnection (AnswersFromArchiveInRun g If archive rules day) accepts closes outcomes before after
       → StoreHasCleanDisk g after.state → StoreHasCleanDisk g before.state
-  had_before [] before after same returned = subst (λ (s : ServerState L (Store S)). StoreHasCleanDisk g s.state) same returned
+  had_before [] before after same returned = subst (λ (s : ServerState L S). StoreHasCleanDisk g s.state) same returned
   had_before (outcome ∷ outcomes) before after (between, first, rest) returned =
       had_one outcome before between first (had_before outcomes between after rest returned)
 
 -- what was answered, without its cause
-pub are_answered : {S : Type 0} (g : Ghosts S) (archive : Archive) (rules : List Rule) (day : ℤ) (first old new : Store S) (outcomes : List ConnectionResult) (all : List Exchange)
+pub are_answered : {S W : Type 0} (g : Ghosts S W) (archive : Archive) (rules : List Rule) (day : ℤ) (first old new : S) (outcomes : List ConnectionResult) (all : List Exchange)
     → ExchangesAreAnsweredWithCause g archive rules day first old new outcomes all → ExchangesAreAnswered archive rules day outcomes all
 are_answered g archive rules day first old new [] [] it = tt
 are_answered g archive rules day first old new [] (over ∷ others) it = absurd it
@@ -47,27 +44,27 @@ are_answered g archive rules day first old new (outcome ∷ outcomes) (over ∷ 
     inr (gone, are_answered g archive rules day first old new outcomes (over ∷ others) rest)
 
 -- a run from this store, which was open, and of which no limit was set
-module _ {S : Type 0} (g : Ghosts S) (archive : Archive) (rules : List Rule) (day : ℤ) (first : Store S) (up : IsOpen g first) (unlimited : HasNoStepLimit g first) where
+module _ {S W : Type 0} (g : Ghosts S W) (archive : Archive) (rules : List Rule) (day : ℤ) (first : S) (up : IsOpen g first) (unlimited : HasNoStepLimit g first) where
   -- what the run hands on from one connection to the next
-  pub record StaysSound (store : Store S) : Type 0 where
+  pub record StaysSound (store : S) : Type 0 where
     pub lasts : StaysOpenUnlessDiskFails g first store
     pub remembers : IsOpen g store → HoldsTables g store × (archive_in g store ≡ archive)
 
   -- only a fault of the disk closes a store
-  failed_before : (store : Store S) → StaysSound store → StoreHasCleanDisk g store → IsStoreClosed g store → DiskHasFailed g first store
+  failed_before : (store : S) → StaysSound store → StoreHasCleanDisk g store → IsStoreClosed g store → DiskHasFailed g first store
   failed_before store sound clean down = elim (sound.lasts.closes_only_by_fault.stays_open clean up) [
     | inl still ↦ absurd (down still)
     | inr more ↦ more
   ]
 
-  cause_of : (old new : Store S) (read : List ℕ) (result : Result ℕ ServeFault) → ServesOr503 g old new result (IsInputDataUnreadable [] read rules day)
+  cause_of : (old new : S) (read : List ℕ) (result : Result ℕ ServeFault) → ServesOr503 g old new result (IsInputDataUnreadable [] read rules day)
       → StoreHasCleanDisk g old → StoreHasCleanDisk g new → StaysSound old → Sent503OrBrokeOff result → HasUnservedCause g archive rules day first old new read
-  cause_of old new read result caused was_clean clean sound sent = elim (cases_Bool (state g (store_connection old)).is_open) [
+  cause_of old new read result caused was_clean clean sound sent = elim (cases_Bool (g.is_open old)) [
     | inl still ↦ elim (caused.1 sent) [
       | inl refused ↦ inl refused
       | inr why ↦
           let was = sound.remembers still in
-          elim (why clean was.0 (sound.lasts.step_limit_is_same ∙ unlimited)) [
+          elim (why clean was.0 (sound.lasts.sets_no_limit unlimited)) [
             | inl failed ↦ inr (inl failed)
             | inr unread ↦ inr (inr (inr (subst (λ a. IsInputDataUnreadable [] read rules day a) was.1 unread)))
           ]
@@ -77,7 +74,7 @@ module _ {S : Type 0} (g : Ghosts S) (archive : Archive) (rules : List Rule) (da
         inr (inr (inl (down, failed_before old sound was_clean down)))
   ]
 
-module _ {S L : Type 0} (g : Ghosts S) (over : L → List Exchange) (accepts : L → L → Option AcceptError → Type 0)
+module _ {S W L : Type 0} (g : Ghosts S W) (over : L → List Exchange) (accepts : L → L → Option AcceptError → Type 0)
     (closes : L → L → Exchange → Bool → Type 0)
     (accepts_none : (old new : L) (fault : Option AcceptError) → accepts old new fault → over new ≡ over old)
     (closes_one : (old new : L) (went : Exchange) (broke_off : Bool) → closes old new went broke_off → over new ≡ over old ++ went ∷ []) where
@@ -88,7 +85,7 @@ module _ {S L : Type 0} (g : Ghosts S) (over : L → List Exchange) (accepts : L
     replied_gone outcome outcomes [] gone rest = (gone, rest)
     replied_gone outcome outcomes (one ∷ others) gone rest = inr (gone, rest)
 
-    module _ (before between : ServerState L (Store S)) (outcome : ConnectionResult)
+    module _ (before between : ServerState L S) (outcome : ConnectionResult)
         (takes : AcceptsAndAnswers (AnswersFromArchiveInRun g If archive rules day) accepts closes before between outcome) where
       abbrev went : Exchange
       went = exchange takes.transcript.read takes.sent
@@ -113,11 +110,11 @@ module _ {S L : Type 0} (g : Ghosts S) (over : L → List Exchange) (accepts : L
             client_receives = subst (λ answer. ClientReceives answer outcome a.transcript.written (a.transcript.write_failures < takes.transcript.write_failures) takes.sent) it.is a.client_receives;
           }
 
-    each_replied : (outcomes : List ConnectionResult) (before after : ServerState L (Store S))
+    each_replied : (outcomes : List ConnectionResult) (before after : ServerState L S)
         → ServesEachConnection (AnswersFromArchiveInRun g If archive rules day) accepts closes outcomes before after → If
         → (all : List Exchange) × (over after.listener ≡ over before.listener ++ all) × ExchangesAreAnswered archive rules day outcomes all
     each_replied [] before after same i =
-        ([], ap (λ (s : ServerState L (Store S)). over s.listener) same ∙ sym (append-nil (over before.listener)), tt)
+        ([], ap (λ (s : ServerState L S). over s.listener) same ∙ sym (append-nil (over before.listener)), tt)
     each_replied (outcome ∷ outcomes) before after (between, inl takes, rest) i =
         let others = each_replied outcomes between after rest i in
         let one = went before between outcome takes in (
@@ -134,22 +131,22 @@ module _ {S L : Type 0} (g : Ghosts S) (over : L → List Exchange) (accepts : L
         )
 
     -- the same with causes, in a run from this store
-    module _ (first : Store S) (up : IsOpen g first) (unlimited : HasNoStepLimit g first) where
-      abbrev Sound : Store S → Type 0
+    module _ (first : S) (up : IsOpen g first) (unlimited : HasNoStepLimit g first) where
+      abbrev Sound : S → Type 0
       Sound = StaysSound g archive rules day first up unlimited
 
-      caused_gone : (outcome : ConnectionResult) (outcomes : List ConnectionResult) (others : List Exchange) (old new : Store S) → outcome ≡ Err Read
+      caused_gone : (outcome : ConnectionResult) (outcomes : List ConnectionResult) (others : List Exchange) (old new : S) → outcome ≡ Err Read
           → ExchangesAreAnsweredWithCause g archive rules day first old new outcomes others
           → ExchangesAreAnsweredWithCause g archive rules day first old new (outcome ∷ outcomes) others
       caused_gone outcome outcomes [] old new gone rest = (gone, rest)
       caused_gone outcome outcomes (one ∷ others) old new gone rest = inr (gone, rest)
 
-      module _ (before between : ServerState L (Store S)) (outcome : ConnectionResult)
+      module _ (before between : ServerState L S) (outcome : ConnectionResult)
           (takes : AcceptsAndAnswers (AnswersFromArchiveInRun g If archive rules day) accepts closes before between outcome) (sound : Sound before.state) (i : If) where
         sound_on : Sound between.state
         sound_on =
             let it = takes.is_answered.is_answered in
-            record { lasts = lasts_then _ _ _ sound.lasts it.ends.archive_is_kept.archive_is_same.0; remembers = it.left i }
+            record { lasts = lasts_then g _ _ _ sound.lasts it.ends.archive_is_kept.archive_is_same.0; remembers = it.left i }
 
         caused : StoreHasCleanDisk g between.state → ExchangeIsAnsweredWithCause g archive rules day first before.state between.state outcome (went before between outcome takes)
         caused clean =
@@ -164,13 +161,13 @@ module _ {S L : Type 0} (g : Ghosts S) (over : L → List Exchange) (accepts : L
               remains_open = lasts;
             }
 
-      each_caused : (outcomes : List ConnectionResult) (before after : ServerState L (Store S))
+      each_caused : (outcomes : List ConnectionResult) (before after : ServerState L S)
           → ServesEachConnection (AnswersFromArchiveInRun g If archive rules day) accepts closes outcomes before after → If → StoreHasCleanDisk g after.state → Sound before.state
           → (all : List Exchange) × (over after.listener ≡ over before.listener ++ all) × ExchangesAreAnsweredWithCause g archive rules day first before.state after.state outcomes all
       each_caused [] before after same i clean sound = (
         [],
-        ap (λ (s : ServerState L (Store S)). over s.listener) same ∙ sym (append-nil (over before.listener)),
-        ap (λ (s : ServerState L (Store S)). s.state) same,
+        ap (λ (s : ServerState L S). over s.listener) same ∙ sym (append-nil (over before.listener)),
+        ap (λ (s : ServerState L S). s.state) same,
       )
       each_caused (outcome ∷ outcomes) before after (between, inl takes, rest) i clean sound =
           let others = each_caused outcomes between after rest i clean (sound_on before between outcome takes sound i) in
@@ -189,7 +186,7 @@ module _ {S L : Type 0} (g : Ghosts S) (over : L → List Exchange) (accepts : L
             others.0,
             others.1 ∙ ap (λ (all : List Exchange). all ++ others.0) (accepts_none before.listener between.listener _ misses.accepts_no_peer),
             caused_gone outcome outcomes others.0 before.state after.state misses.read_failed
-                (subst (λ (s : Store S). ExchangesAreAnsweredWithCause g archive rules day first s after.state outcomes others.0) misses.state_is_same others.2),
+                (subst (λ (s : S). ExchangesAreAnsweredWithCause g archive rules day first s after.state outcomes others.0) misses.state_is_same others.2),
           )
 
   pub each_gets : EachGetsItsReply g over accepts closes
@@ -197,8 +194,8 @@ module _ {S L : Type 0} (g : Ghosts S) (over : L → List Exchange) (accepts : L
       each_replied (HasSoundStore g old new) (archive_in g old) rules day outcomes
       (record { listener = first; state = old }) (record { listener = last; state = new }) each can
 
-  pub each_has_cause : Each503HasItsCause g over accepts closes
-  each_has_cause rules day outcomes first last old new each can unlimited =
-      each_caused (HasSoundStore g old new) (archive_in g old) rules day old can.1.is_open unlimited outcomes
+  pub each_has_cause : ((store : S) → g.is_at_rest store → IsTrue (g.is_open store)) → Each503HasItsCause g over accepts closes
+  each_has_cause opens rules day outcomes first last old new each can unlimited =
+      each_caused (HasSoundStore g old new) (archive_in g old) rules day old (opens old can.1) unlimited outcomes
       (record { listener = first; state = old }) (record { listener = last; state = new }) each can can.0
-      (record { lasts = lasts_same _; remembers = λ up. (can.1, refl) })
+      (record { lasts = lasts_same g _; remembers = λ up. (can.1, refl) })

@@ -1,9 +1,8 @@
 -- What a service keeps of an archive from one connection to the next. No caller sees it: it keeps nothing before the first, and is gone
 -- behind the last.
 use Rattle.std.specs.Prelude.{◌≡◌, ℕ, ℤ, Bool, true, List, Result}
-use Rattle.sqlite.specs.Store.{Ghosts}
+use Rattle.archive_port.specs.declared.state.ArchiveState.{Ghosts}
 use Rattle.policy_core.specs.Rules.{Rule}
-use Rattle.archive_store.specs.declared.store.Store.{Store}
 use Rattle.archive_cache.specs.Views.{CacheState, empty_cache}
 use Rattle.archive_cache.specs.Coherence.{IsCacheCoherent, KeepsCacheCoherent}
 use Rattle.archive_pages.specs.Answered.{AnswersRequestFromStore}
@@ -25,7 +24,7 @@ fresh_serving_context rules day most = record { rules = rules; day = day; routes
 
 -- One request is answered as the call that answers says, of what the connection told before and after: out of what the store
 -- remembers, by the rules and on the day, where what is kept is of that; and what is kept then stays so.
-pub record AnswersFromCache {S : Type 0} (g : Ghosts S) (keeper later : ServingContextState) (old new : Store S) (before after : ConnectionTranscript)
+pub record AnswersFromCache {S W : Type 0} (g : Ghosts S W) (keeper later : ServingContextState) (old new : S) (before after : ConnectionTranscript)
     (outcome : ConnectionResult) : Type 0 where
   pub result : Result ℕ ServeFault
   pub is : outcome ≡ connection_result_of result

@@ -1,10 +1,9 @@
 -- What an archive answers on a connection.
-use Rattle.std.specs.Prelude.{◌≡◌, ◌+◌, ⊤, ℕ, ℤ, List, Result, Ok, Err, OnOk, IfErr}
-use Rattle.sqlite.specs.Store.{Ghosts}
+use Rattle.std.specs.Prelude.{◌≡◌, ⊤, ℕ, ℤ, List, Result, Ok, Err, OnOk, IfErr}
+use Rattle.archive_port.specs.declared.state.ArchiveState.{Ghosts}
 use Rattle.policy_core.specs.Rules.{Rule}
-use Rattle.archive_store.specs.Held.{memory_refusal_count}
-use Rattle.archive_store.specs.Told.{WritesNothing}
-use Rattle.archive_store.specs.declared.store.Store.{Store}
+use Rattle.archive_port.specs.Told.{CountsOneRefusal}
+use Rattle.archive_port.specs.Crashes.{WritesNothing}
 use Rattle.archive_pages.specs.Answered.{IfAnsweredOrUnread, Sends404IfUnrouted, ReadsRequestInput}
 use Rattle.archive_pages.specs.Causes.{IsInputDataUnreadable, ServesOr503}
 use Rattle.archive_pages.specs.Replies.{HasServeFaultCause}
@@ -23,7 +22,7 @@ connection_result_of (Err (answering.Broken written)) = Err Broken
 
 -- How one answer by these rules, on this day, ends, whatever the store is: the store is left, and nothing is written to it; no direction
 -- failed where a reply went out, each fault has its cause, and so have 503 and S3. What went out is not said.
-pub record EndsConnection {S : Type 0} (g : Ghosts S) (rules : List Rule) (day : ℤ) (old new : Store S) (before after : ConnectionTranscript) (result : Result ℕ ServeFault) : Type 0 where
+pub record EndsConnection {S W : Type 0} (g : Ghosts S W) (rules : List Rule) (day : ℤ) (old new : S) (before after : ConnectionTranscript) (result : Result ℕ ServeFault) : Type 0 where
   pub archive_is_kept : StoreKeepsArchive g old new result
   pub writes_nothing : WritesNothing g old new
   pub no_failure_if_ok : OnOk result ((after.read_failures ≡ before.read_failures) × (after.write_failures ≡ before.write_failures))
@@ -36,6 +35,7 @@ abbrev pub Answers404IfUnrouted : (before after : ConnectionTranscript) → Resu
 Answers404IfUnrouted before after result = IfAnsweredOrUnread result
     (ReadsRequestInput before.read after.read before.ends after.ends (λ given all. Sends404IfUnrouted all before.written after.written result)) ⊤
 
--- One more refusal of memory is counted, and the store is else as before.
-abbrev pub OnlyCountsRefusal : {S : Type 0} → (old new : Store S) → Type 0
-OnlyCountsRefusal old new = new ≡ record old { wants = memory_refusal_count old + 1 }
+-- One more refusal of memory is counted: the archive is as it was, and nothing was written.
+pub record OnlyCountsRefusal {S W : Type 0} (g : Ghosts S W) (old new : S) : Type 0 where
+  pub counts_one : CountsOneRefusal g old new
+  pub writes_nothing : WritesNothing g old new

@@ -1,6 +1,6 @@
 //! Saying where the archive listens, and then serving it.
 ghost use Rattle.std.specs.Prelude.{◌≡◌, ◌≢◌, ◌≤◌, ◌<◌, Err, IfErr, OnOk};
-ghost use Rattle.archive_store.specs.Told.{WritesNothing};
+ghost use Rattle.archive_port.specs.Crashes.{WritesNothing};
 ghost use Rattle.archive_listen.specs.Connections.{error_stream_state};
 ghost use Rattle.archive_listen.specs.Serving.{ServesAllConnections, ServesFewerConnections, server_state};
 ghost use Rattle.archive_serve.specs.Announced.{WritesListeningLine};
@@ -10,10 +10,9 @@ ghost use Rattle.archive_serve.specs.Runs.{ServingAnswerLaw};
 use crate::faults::ServingError;
 use crate::pages::{PageService, ServingContext};
 use archive_listen::{BufferedSink, Listener, serve_each};
-use archive_store::Store;
+use archive_port::ArchiveStore;
 use itoa::Buffer;
 use mbox_core::device::{Sink, write_bytes};
-use sqlite::Alter;
 use thread_core::Threader;
 
 /// Writes the line that says where the archive listens, and passes it on. It takes no memory.
@@ -41,8 +40,8 @@ fn announce<O: BufferedSink>(port: u16, output: &mut O) -> Result<(), ServingErr
 
 /// Says on the output where the archive listens, and then answers `count` connections as `serve_on` does. The listener listens
 /// on that port already, and the line is passed on before the first connection is taken.
-pub fn serve<T: Threader, S: Alter, L: Listener, O: BufferedSink, E: Sink>(
-    store: &mut Store<S>,
+pub fn serve<T: Threader, S: ArchiveStore, L: Listener, O: BufferedSink, E: Sink>(
+    store: &mut S,
     terms: &ServingContext<'_, T>,
     listener: &mut L,
     port: u16,
@@ -52,7 +51,7 @@ pub fn serve<T: Threader, S: Alter, L: Listener, O: BufferedSink, E: Sink>(
 ) -> Result<(), ServingError>
     ensures served { OnOk result (WritesListeningLine port (O.told output.old) (O.told output.new)
         (O.sent output.new)
-        × ServesAllConnections (ServingAnswerLaw S.Store terms.now.policy.now terms.now.day store.old store.new) L.accepts L.closes
+        × ServesAllConnections (ServingAnswerLaw S.ArchiveState terms.now.policy.now terms.now.day store.old store.new) L.accepts L.closes
         (server_state listener.old store.old)
         (error_stream_state E.Sink faults.old) (error_stream_state E.Sink faults.new) count (server_state listener.new store.new)) }
 
@@ -60,15 +59,15 @@ pub fn serve<T: Threader, S: Alter, L: Listener, O: BufferedSink, E: Sink>(
     // more refusal of memory. At F2 and F5 nothing else was touched.
     ensures stopped { result ≡ Err ServingError.Listen
         → WritesListeningLine port (O.told output.old) (O.told output.new) (O.sent output.new)
-        × ServesFewerConnections (ServingAnswerLaw S.Store terms.now.policy.now terms.now.day store.old store.new) L.accepts L.closes
+        × ServesFewerConnections (ServingAnswerLaw S.ArchiveState terms.now.policy.now terms.now.day store.old store.new) L.accepts L.closes
         (server_state listener.old store.old)
         (error_stream_state E.Sink faults.old) (error_stream_state E.Sink faults.new) count (server_state listener.new store.new) }
     ensures untouched { IfErr result (λ stop. stop ≢ ServingError.Listen
         → (listener.new ≡ listener.old) × (faults.new ≡ faults.old)
         × (stop ≡ ServingError.Write → (store.new ≡ store.old) × (O.failures output.old < O.failures output.new))
-        × (stop ≡ ServingError.Memory → OnlyCountsRefusal store.old store.new × (output.new ≡ output.old))) }
+        × (stop ≡ ServingError.Memory → OnlyCountsRefusal S.ArchiveState store.old store.new × (output.new ≡ output.old))) }
     ensures failures { E.failures faults.old ≤ E.failures faults.new }
-    ensures writes_nothing { WritesNothing S.Store store.old store.new }
+    ensures writes_nothing { WritesNothing S.ArchiveState store.old store.new }
 {
     let mut service = PageService::new(terms, store)?;
     announce(port, output)?;

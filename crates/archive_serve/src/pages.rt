@@ -7,12 +7,11 @@ use crate::faults::ServingError;
 use archive_cache::Cache;
 use archive_listen::{ConnectionError, Service};
 use archive_pages::{Pages, ServeFault, answer_cached};
+use archive_port::ArchiveStore;
 use archive_requests::Routes;
-use archive_store::Store;
 use civil_time::Day;
 use mbox_core::device::{Sink, Source};
 use policy_core::Policy;
-use sqlite::Alter;
 use std::alloc::Global;
 use std::marker::Model;
 use thread_core::Threader;
@@ -50,19 +49,19 @@ impl<'a, T> Model for PageService<'a, T> {
 
 impl<'a, T> PageService<'a, T> {
     /// It has routes, and keeps nothing yet. F5: the memory of the routes was refused, which the store counts.
-    pub(crate) fn new<S: Alter>(
+    pub(crate) fn new<S: ArchiveStore>(
         terms: &ServingContext<'a, T>,
-        store: &mut Store<S>,
+        store: &mut S,
     ) -> Result<PageService<'a, T>, ServingError>
         ensures { MatchResult result
             (λ service. (service ≡ fresh_serving_context terms.now.policy.now terms.now.day terms.now.most)
             × (store.new ≡ store.old))
-            (λ stop. (stop ≡ ServingError.Memory) × OnlyCountsRefusal store.old store.new) }
+            (λ stop. (stop ≡ ServingError.Memory) × OnlyCountsRefusal S.ArchiveState store.old store.new) }
     {
         let routes = match Routes::new(terms.alloc) {
             Ok(routes) => routes,
             Err(refused) => {
-                store.wants.increment(refused.into());
+                store.count_refusal(refused.into());
                 return Err(ServingError::from(refused));
             }
         };
@@ -79,14 +78,14 @@ impl<'a, T> PageService<'a, T> {
     }
 }
 
-impl<'a, T: Threader, S: Alter> Service<Store<S>> for PageService<'a, T> {
+impl<'a, T: Threader, S: ArchiveStore> Service<S> for PageService<'a, T> {
     ghost use Rattle.archive_serve.specs.Keeping.{AnswersFromCache};
 
-    ghost answers = { λ p q. AnswersFromCache S.Store p q };
+    ghost answers = { λ p q. AnswersFromCache S.ArchiveState p q };
 
     fn answer<R: Source, W: Sink>(
         &mut self,
-        state: &mut Store<S>,
+        state: &mut S,
         input: &mut R,
         output: &mut W,
     ) -> Result<u16, ConnectionError> {

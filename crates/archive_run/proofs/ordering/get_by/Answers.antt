@@ -1,5 +1,5 @@
 use Rattle.std.proofs.Common.{◌≡◌, ◌∙◌, ap, inl, inr, refl, subst, true, List, ℕ, Some, Ok}
-use Rattle.archive_store.specs.Told.{WritesNothing}
+use Rattle.archive_port.specs.Crashes.{WritesNothing}
 use Rattle.archive_results.specs.Access.{Ask}
 use Rattle.archive_args.specs.Values.{GetValues}
 use Rattle.archive_commands.specs.Working.{GetsMessage}
@@ -27,14 +27,14 @@ returns-in_err-text-clause-runs g c =
     let is_asked : c.order.inside.asked ≡ order.ask = ap (λ (o : GetValues). o.ask) c.order.view_is in
     let is_ask = rw is_asked at c.ask_of-ask.ensures in
     let given : IsReadingDay g.Y.Clock.DayClock order.ask.day true old.clock clock (Some day) = rw is_day at c.in-Some.ensures in
-    err_at (RunGetsMessageOnDay old new g.Y.Output.Sink g.Y.Output.BufferedSink g.Y.Storage.Store g.Y-Databases-Databases g.Y.Clock.DayClock order c.args.policy.now)
+    err_at (RunGetsMessageOnDay old new g.Y.Output.Sink g.Y.Output.BufferedSink g.Y.Archive.ArchiveState g.Y.Databases.Databases g.Y.Clock.DayClock order c.args.policy.now)
     c.from_residual.result refusal c.from_residual.ensures.1
     (inr (
       clock,
       day,
       given,
       inl (
-        at_three (λ (f : List ℕ) (a : Ask) (k : List ℕ). FailsOnDatabase g.Y-Databases-Databases old.databases new.databases f (λ o x. RefusesGet g.Y.Storage.Store o x a k) refusal)
+        at_three (λ (f : List ℕ) (a : Ask) (k : List ℕ). FailsOnDatabase g.Y.Databases.Databases old.databases new.databases f (λ o x. RefusesGet g.Y.Archive.ArchiveState o x a k) refusal)
             _ _ _ _ _ _ is_file is_ask is_key c.in_err-text.ensures.worked,
         refl,
       ),
@@ -58,9 +58,9 @@ returns-clause-runs g c =
     let is_asked : c.order.inside.asked ≡ order.ask = ap (λ (o : GetValues). o.ask) c.order.view_is in
     let is_ask = rw is_asked at c.ask_of-ask.ensures in
     let given : IsReadingDay g.Y.Clock.DayClock order.ask.day true old.clock clock (Some day) = rw is_day at c.in-Some.ensures in
-    let got = at_three (λ (f : List ℕ) (a : Ask) (k : List ℕ). UsesDatabase g.Y-Databases-Databases old.databases new.databases f (λ o x. GetsMessage g.Y.Storage.Store o x a k (Ok text)))
+    let got = at_three (λ (f : List ℕ) (a : Ask) (k : List ℕ). UsesDatabase g.Y.Databases.Databases old.databases new.databases f (λ o x. GetsMessage g.Y.Archive.ArchiveState o x a k (Ok text)))
     _ _ _ _ _ _ is_file is_ask is_key c.in_ok-text.ensures.worked in
-    by_result (RunGetsMessageOnDay old new g.Y.Output.Sink g.Y.Output.BufferedSink g.Y.Storage.Store g.Y-Databases-Databases g.Y.Clock.DayClock order c.args.policy.now) _ _
+    by_result (RunGetsMessageOnDay old new g.Y.Output.Sink g.Y.Output.BufferedSink g.Y.Archive.ArchiveState g.Y.Databases.Databases g.Y.Clock.DayClock order c.args.policy.now) _ _
     c.send.result (sent_as _ before after c.deref.result.now _ c.send.result c.deref.ensures.value c.send.ensures)
     (λ u sends. (clock, day, given, (text, got, (sends, refl))))
     (λ e part. inr (clock, day, given, inr (text, got, (part.0, part.1, refl))))
@@ -70,11 +70,11 @@ returns-in_err-text-clause-crash g c =
     let old = c.args.world.now in
     let is_file : c.order-inside.inside.0.0.file.now ≡ c.args.order.now.ask.file =
     ap (λ i. i.asked.file) c.order-inside.view_is ∙ ap (λ (o : GetValues). o.ask.file) c.order.view_is in
-    inr (subst (λ f. UsesDatabaseIfOpened g.Y-Databases-Databases old.databases c.work_get.new.databases f (WritesNothing g.Y.Storage.Store)) is_file c.work_get.ensures.crash)
+    inr (subst (λ f. UsesDatabaseIfOpened g.Y.Databases.Databases old.databases c.work_get.new.databases f (WritesNothing g.Y.Archive.ArchiveState)) is_file c.work_get.ensures.crash)
 
 pub returns-clause-crash : goal.returns-clause-crash
 returns-clause-crash g c =
     let old = c.args.world.now in
     let is_file : c.order-inside.inside.0.0.file.now ≡ c.args.order.now.ask.file =
     ap (λ i. i.asked.file) c.order-inside.view_is ∙ ap (λ (o : GetValues). o.ask.file) c.order.view_is in
-    inr (subst (λ f. UsesDatabaseIfOpened g.Y-Databases-Databases old.databases c.work_get.new.databases f (WritesNothing g.Y.Storage.Store)) is_file c.work_get.ensures.crash)
+    inr (subst (λ f. UsesDatabaseIfOpened g.Y.Databases.Databases old.databases c.work_get.new.databases f (WritesNothing g.Y.Archive.ArchiveState)) is_file c.work_get.ensures.crash)

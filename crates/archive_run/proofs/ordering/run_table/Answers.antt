@@ -12,7 +12,7 @@ returns-in-Ok-clause-runs g c =
     let after = output_stream_state g.Y.Output.Sink g.Y.Output.BufferedSink c.send.new.output in
     let answer = c.in-Ok.answer in
     let worked = c.in-Ok.ensures.worked in
-    by_result (RunsStoreCommand old new g.Y.Output.Sink g.Y.Output.BufferedSink g.Y.Storage.Store g.Y-Databases-Databases c.args.order.now) _ _ c.send.result
+    by_result (RunsStoreCommand old new g.Y.Output.Sink g.Y.Output.BufferedSink g.Y.Archive.ArchiveState g.Y.Databases.Databases c.args.order.now) _ _ c.send.result
     (sent_as _ before after c.as_bytes.result.now _ c.send.result (c.as_bytes.ensures.value ∙ c.line.ensures) c.send.ensures)
     (λ u sends. (answer, worked, (sends, refl)))
     (λ e part. inr (answer, worked, (part.0, part.1, refl)))

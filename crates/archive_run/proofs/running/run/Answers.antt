@@ -14,7 +14,7 @@ use Rattle.archive_run.proofs.running.run.Goals as goal
 pub returns-in-Ok-clause-done : goal.returns-in-Ok-clause-done
 returns-in-Ok-clause-done g c =
     λ order given zero.
-    let dev = devices g.Y.Storage.Store g.Y.Files.ReadFiles g.Y.Files.StreamedFiles g.Y.Files.Input.Source g.Y-Databases-Databases g.Y.Clock.DayClock
+    let dev = devices g.Y.Archive.ArchiveState g.Y.Files.ReadFiles g.Y.Files.StreamedFiles g.Y.Files.Input.Source g.Y.Databases.Databases g.Y.Clock.DayClock
     g.Y.Ports.Ports.listens g.Y.Ports.Listener.Listener.accepts g.Y.Ports.Listener.Listener.closes g.Y.Ports.Listener.Listener.over g.Y.Ports.Ports.went
     g.Y.Threaders.Threaders.makes g.Y.Input.Source g.Y.Output.Sink g.Y.Output.BufferedSink g.Y.Faults.Sink in
     let old = c.args.world.now in
@@ -25,7 +25,7 @@ returns-in-Ok-clause-done g c =
     let runs = subst Q (sym it.2) (subst P (same_order _ _ _ c.in-Ok.ensures.ok given.1) it.1) in
     record {
       runs_order = runs;
-      runs_on_archive = runs_over dev g.met.Y.Platform.opens_held g.met.Y.Platform.closes_held
+      runs_on_archive = runs_over dev g.met.Y.Platform.opens_held g.met.Y.Platform.closes_held g.met.Y.Archive.ArchiveStore.at_rest_is_open
           g.met.Y.Ports.Listener.Listener.accepts_none g.met.Y.Ports.Listener.Listener.closes_one g.met.Y.Ports.Ports.listens_none
           old (record c.run_order-done.new.world { faults = c.finish.new.faults }) order runs;
     }
@@ -33,7 +33,7 @@ returns-in-Ok-clause-done g c =
 pub returns-in-Ok-clause-refused : goal.returns-in-Ok-clause-refused
 returns-in-Ok-clause-refused g c =
     λ order given one.
-    let dev = devices g.Y.Storage.Store g.Y.Files.ReadFiles g.Y.Files.StreamedFiles g.Y.Files.Input.Source g.Y-Databases-Databases g.Y.Clock.DayClock
+    let dev = devices g.Y.Archive.ArchiveState g.Y.Files.ReadFiles g.Y.Files.StreamedFiles g.Y.Files.Input.Source g.Y.Databases.Databases g.Y.Clock.DayClock
     g.Y.Ports.Ports.listens g.Y.Ports.Listener.Listener.accepts g.Y.Ports.Listener.Listener.closes g.Y.Ports.Listener.Listener.over g.Y.Ports.Ports.went
     g.Y.Threaders.Threaders.makes g.Y.Input.Source g.Y.Output.Sink g.Y.Output.BufferedSink g.Y.Faults.Sink in
     let old = c.args.world.now in
@@ -46,14 +46,14 @@ returns-in-Ok-clause-refused g c =
       stopped = mid;
       cause = inr cause;
       reports_refusal = (it.2, refl);
-      served_until_f4 = ends_over dev g.met.Y.Platform.opens_held g.met.Y.Platform.closes_held
+      served_until_f4 = ends_over dev g.met.Y.Platform.opens_held g.met.Y.Platform.closes_held g.met.Y.Archive.ArchiveStore.at_rest_is_open
           g.met.Y.Ports.Listener.Listener.accepts_none g.met.Y.Ports.Listener.Listener.closes_one g.met.Y.Ports.Ports.listens_none old mid order it.0 cause;
     }
 
 pub returns-in-Ok-clause-crash : goal.returns-in-Ok-clause-crash
 returns-in-Ok-clause-crash g c =
     λ order given.
-    let dev = devices g.Y.Storage.Store g.Y.Files.ReadFiles g.Y.Files.StreamedFiles g.Y.Files.Input.Source g.Y-Databases-Databases g.Y.Clock.DayClock
+    let dev = devices g.Y.Archive.ArchiveState g.Y.Files.ReadFiles g.Y.Files.StreamedFiles g.Y.Files.Input.Source g.Y.Databases.Databases g.Y.Clock.DayClock
     g.Y.Ports.Ports.listens g.Y.Ports.Listener.Listener.accepts g.Y.Ports.Listener.Listener.closes g.Y.Ports.Listener.Listener.over g.Y.Ports.Ports.went
     g.Y.Threaders.Threaders.makes g.Y.Input.Source g.Y.Output.Sink g.Y.Output.BufferedSink g.Y.Faults.Sink in
     let old = c.args.world.now in
@@ -84,7 +84,7 @@ pub returns-in-Err-clause-refused : goal.returns-in-Err-clause-refused
 returns-in-Err-clause-refused g c =
     λ order given one.
     let old = c.args.world.now in
-    let dev = devices g.Y.Storage.Store g.Y.Files.ReadFiles g.Y.Files.StreamedFiles g.Y.Files.Input.Source g.Y-Databases-Databases g.Y.Clock.DayClock
+    let dev = devices g.Y.Archive.ArchiveState g.Y.Files.ReadFiles g.Y.Files.StreamedFiles g.Y.Files.Input.Source g.Y.Databases.Databases g.Y.Clock.DayClock
     g.Y.Ports.Ports.listens g.Y.Ports.Listener.Listener.accepts g.Y.Ports.Listener.Listener.closes g.Y.Ports.Listener.Listener.over g.Y.Ports.Ports.went
     g.Y.Threaders.Threaders.makes g.Y.Input.Source g.Y.Output.Sink g.Y.Output.BufferedSink g.Y.Faults.Sink in
     let faults = c.report_parse_error.new.faults in
@@ -95,14 +95,14 @@ returns-in-Err-clause-refused g c =
       stopped = old;
       cause = inl (refl, refl);
       reports_refusal = (said.2, ap (λ o. record old { output = o; faults = faults }) said.1);
-      served_until_f4 = ends_unread dev g.met.Y.Platform.opens_held g.met.Y.Platform.closes_held
+      served_until_f4 = ends_unread dev g.met.Y.Platform.opens_held g.met.Y.Platform.closes_held g.met.Y.Archive.ArchiveStore.at_rest_is_open
           g.met.Y.Ports.Listener.Listener.accepts_none g.met.Y.Ports.Listener.Listener.closes_one g.met.Y.Ports.Ports.listens_none old old order;
     }
 
 pub returns-in-Err-clause-crash : goal.returns-in-Err-clause-crash
 returns-in-Err-clause-crash g c =
     λ order given.
-    let dev = devices g.Y.Storage.Store g.Y.Files.ReadFiles g.Y.Files.StreamedFiles g.Y.Files.Input.Source g.Y-Databases-Databases g.Y.Clock.DayClock
+    let dev = devices g.Y.Archive.ArchiveState g.Y.Files.ReadFiles g.Y.Files.StreamedFiles g.Y.Files.Input.Source g.Y.Databases.Databases g.Y.Clock.DayClock
     g.Y.Ports.Ports.listens g.Y.Ports.Listener.Listener.accepts g.Y.Ports.Listener.Listener.closes g.Y.Ports.Listener.Listener.over g.Y.Ports.Ports.went
     g.Y.Threaders.Threaders.makes g.Y.Input.Source g.Y.Output.Sink g.Y.Output.BufferedSink g.Y.Faults.Sink in
     let old = c.args.world.now in

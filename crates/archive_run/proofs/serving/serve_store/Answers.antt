@@ -26,13 +26,13 @@ returns-clause-served g c =
     let is_count : c.order.inside.count ≡ order.count = ap (λ (o : ServeValues). o.count) c.order.view_is in
     let P : ℕ → Type 0 = λ p. g.Y.Ports.Ports.listens old.ports between p (Ok listening) in
     let Q : ℕ → Type 0 = λ n. MatchResult done.result
-    (λ _. AnnouncesThenServesAll g.Y.Storage.Store accepts closes over went between ports c.args.policy.now c.args.day listening open_old open_new before after n)
-    (RefusesServing g.Y.Storage.Store accepts closes over went between ports c.args.policy.now c.args.day listening open_old open_new before after n) in
+    (λ _. AnnouncesThenServesAll g.Y.Archive.ArchiveState accepts closes over went between ports c.args.policy.now c.args.day listening open_old open_new before after n)
+    (RefusesServing g.Y.Archive.ArchiveState accepts closes over went between ports c.args.policy.now c.args.day listening open_old open_new before after n) in
     let had = subst P is_port c.in_ok-listening.ensures in
     let R : Result ⊤ RunError → Type 0 = λ r. MatchResult r
-    (λ _. ListensAndServes g.Y.Storage.Store accepts closes over went g.Y.Ports.Ports.listens old.ports ports order.port order.count
+    (λ _. ListensAndServes g.Y.Archive.ArchiveState accepts closes over went g.Y.Ports.Ports.listens old.ports ports order.port order.count
     c.args.policy.now c.args.day open_old open_new before after)
-    (RefusesListeningOrServing g.Y.Storage.Store accepts closes over went g.Y.Ports.Ports.listens old.ports ports order.port order.count
+    (RefusesListeningOrServing g.Y.Archive.ArchiveState accepts closes over went g.Y.Ports.Ports.listens old.ports ports order.port order.count
     c.args.policy.now c.args.day open_old open_new before after) in (
       by_result R _ _ done.result (subst Q is_count done.ensures.served)
           (λ u served. (listening, between, had, served))

@@ -13,15 +13,15 @@ returns-clause-worked g c =
     let command = store_command_of c.order.inside.command in
     let done = c.carry_out-answer in
     rw (← c.order.view_is) (worked g.D.Databases c.args.databases.now c.open.new.self c.close.new.self c.order.inside.file.now c.in_ok-store.store
-    done.new.store c.in_ok-store.ensures.opened c.close.ensures done.result (λ answer o x. CarriesOutCommand g.S.Store o x command (Ok answer))
-    (λ fault o x. RefusesCommand g.S.Store o x command (Store fault))
+    done.new.store c.in_ok-store.ensures.opened c.close.ensures done.result (λ answer o x. CarriesOutCommand g.S.ArchiveState o x command (Ok answer))
+    (λ fault o x. RefusesCommand g.S.ArchiveState o x command (Store fault))
     (λ fault. g.D.Databases.opens c.args.databases.now c.close.new.self c.order.inside.file.now (Err fault))
-    (carried g.S.Store c.in_ok-store.store done.new.store command done.result done.ensures.carried done.ensures.ends))
+    (carried g.S.ArchiveState c.in_ok-store.store done.new.store command done.result done.ensures.carried done.ensures.ends))
 
 pub returns-clause-crash : goal.returns-clause-crash
 returns-clause-crash g c =
     let command = store_command_of c.order.inside.command in
     let done = c.carry_out-answer in
     rw (← c.order.view_is) (inr (works g.D.Databases c.args.databases.now c.open.new.self c.close.new.self c.order.inside.file.now c.in_ok-store.store done.new.store
-    c.in_ok-store.ensures.opened c.close.ensures (λ o x. CrashCarriesOutCommand g.S.Store o x command)
-    (crash_of_command g.S.Store c.in_ok-store.store done.new.store command done.ensures.crash)))
+    c.in_ok-store.ensures.opened c.close.ensures (λ o x. CrashCarriesOutCommand g.S.ArchiveState o x command)
+    (crash_of_command g.S.ArchiveState c.in_ok-store.store done.new.store command done.ensures.crash)))

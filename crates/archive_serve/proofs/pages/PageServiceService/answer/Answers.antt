@@ -2,8 +2,8 @@ use Rattle.std.proofs.Common.{◌≡◌, rules}
 use Rattle.archive_listen.specs.Connections.{connection_transcript}
 use Rattle.archive_serve.specs.Pages.{connection_result_of}
 use Rattle.archive_serve.proofs.KeptLemmas.{answers_kept}
-use Rattle.archive_serve.proofs.pages.PageServiceServiceStore.answer.Goals.{in-Ok, in-Err-Read, in-Err-Write, in-Err-Broken}
-use Rattle.archive_serve.proofs.pages.PageServiceServiceStore.answer.Goals as goal
+use Rattle.archive_serve.proofs.pages.PageServiceService.answer.Goals.{in-Ok, in-Err-Read, in-Err-Write, in-Err-Broken}
+use Rattle.archive_serve.proofs.pages.PageServiceService.answer.Goals as goal
 
 pub returns : goal.returns
 returns g c =
@@ -14,7 +14,7 @@ returns g c =
       | in-Err-Write w ↦ search rules
       | in-Err-Broken w ↦ search rules
     ] in
-    rw (← c.self.view_is) (answers_kept g.S.Store c.self.inside.pages answer.new.pages c.args.state.now answer.new.store
+    rw (← c.self.view_is) (answers_kept g.S.ArchiveState c.self.inside.pages answer.new.pages c.args.state.now answer.new.store
     (connection_transcript (g.R.Source.told c.args.input.now) (g.R.Source.ends c.args.input.now) (g.R.Source.failures c.args.input.now) (g.W.Sink.told c.args.output.now)
     (g.W.Sink.failures c.args.output.now))
     (connection_transcript (g.R.Source.told answer.new.input) (g.R.Source.ends answer.new.input) (g.R.Source.failures answer.new.input) (g.W.Sink.told answer.new.output)
