@@ -1,12 +1,11 @@
 -- Three calls, one after the other, from what each of them says.
 use Rattle.std.proofs.Common.{◌≡◌, sym, subst, ◌++◌, ◌^◌, ◌-◌, ◌<◌, ℕ, List, length, map, min, Option, Some, None, Result}
 use Rattle.std.specs.Prelude.{MatchOption, option_map}
-use Rattle.sqlite.specs.Store.{Ghosts}
+use Rattle.archive_port.specs.declared.state.ArchiveState.{Ghosts}
 use Rattle.mbox_core.specs.Written.{AppendsPrefixOfText}
 use Rattle.archive_model.specs.Records.{Archive}
-use Rattle.archive_store.specs.Told.{CallsReadyStore, RelatesReadyArchives, RelatesReadyArchivesIfOpen, StoreHasCleanDisk, HoldsTables, IsReady, StaysOpenUnlessDiskFails, archive_in}
-use Rattle.archive_store.specs.declared.store.Store.{Store}
-use Rattle.archive_store.proofs.Joins.{calls_too, goes_as, goes_as_if_open, goes_on, goes_on_if_open}
+use Rattle.archive_port.specs.Told.{CallsReadyStore, RelatesReadyArchives, RelatesReadyArchivesIfOpen, StoreHasCleanDisk, HoldsTables, IsReady, StaysOpenUnlessDiskFails, archive_in}
+use Rattle.archive_port.proofs.Joins.{calls_too, goes_as, goes_as_if_open, goes_on, goes_on_if_open}
 use Rattle.archive_results.specs.Access.{Ask, view_of}
 use Rattle.archive_results.specs.Results.{month_lines}
 use Rattle.archive_results.specs.Shown.{shown_message}
@@ -20,7 +19,7 @@ use Rattle.desk_tests.specs.declared.chain.Told.{Told}
 
 -- ---- a call after one that left an archive of which `First` holds
 
-module _ {S : Type 0} (g : Ghosts S) (old mid new : Store S) where
+module _ {S W : Type 0} (g : Ghosts S W) (old mid new : S) where
   module _ (First Then After : Archive → Archive → Type 0) (joins : (a b c : Archive) → First a b → Then b c → After a c) where
     goes_then : RelatesReadyArchives g old mid First → RelatesReadyArchives g mid new Then → RelatesReadyArchives g old new After
     goes_then first second =
@@ -38,14 +37,14 @@ module _ {S : Type 0} (g : Ghosts S) (old mid new : Store S) where
 
 -- ---- the three calls
 
-module _ {S : Type 0} (g : Ghosts S) (ask : Ask) (text : List ℕ) where
+module _ {S W : Type 0} (g : Ghosts S W) (ask : Ask) (text : List ℕ) where
   -- the file is imported into the list of the question
-  pub into_list : (old new : Store S) (list : List ℕ) (report : Report) → list ≡ ask.list → RelatesReadyArchives g old new (λ a b. IsImported list text a b report)
+  pub into_list : (old new : S) (list : List ℕ) (report : Report) → list ≡ ask.list → RelatesReadyArchives g old new (λ a b. IsImported list text a b report)
       → RelatesReadyArchives g old new (λ a b. IsImported ask.list text a b report)
   into_list old new list report is = subst (λ l. RelatesReadyArchives g old new (λ a b. IsImported l text a b report)) is
 
   -- it is not imported
-  pub import_stops : (old new : Store S) (before after list : List ℕ) (Stops : List ℕ → Archive → Archive → Type 0) (r : Option (ℕ × ImportStopCause)) → list ≡ ask.list
+  pub import_stops : (old new : S) (before after list : List ℕ) (Stops : List ℕ → Archive → Archive → Type 0) (r : Option (ℕ × ImportStopCause)) → list ≡ ask.list
       → MatchOption r (RelatesReadyArchivesIfOpen g old new (Stops list)) (λ why. RelatesReadyArchives g old new (λ a b. IsRefusedImport list text a b why.0 why.1))
       → MatchOption (option_map (λ (why : ℕ × ImportStopCause). not_imported why.0 why.1) r) (RelatesReadyArchivesIfOpen g old new (Stops ask.list))
       (λ why. RelatesReadyArchives g old new (λ a b. IsChainRefused ask text before after a b why))
@@ -53,12 +52,12 @@ module _ {S : Type 0} (g : Ghosts S) (ask : Ask) (text : List ℕ) where
   import_stops old new before after list Stops (Some why) is it =
       subst (λ l. RelatesReadyArchives g old new (λ a b. IsRefusedImport l text a b why.0 why.1)) is it
 
-  module _ (old mid : Store S) (report : Report) (imported : RelatesReadyArchives g old mid (λ a b. IsImported ask.list text a b report)) where
+  module _ (old mid : S) (report : Report) (imported : RelatesReadyArchives g old mid (λ a b. IsImported ask.list text a b report)) where
     has_imported : RelatesReadyArchives g old mid (HasImported ask text)
     has_imported = goes_as g old mid (λ a b. IsImported ask.list text a b report) (HasImported ask text) (λ a b h. (report, h)) imported
 
     -- the month is not told
-    pub month_stops : (new : Store S) (before after : List ℕ) (r : Option RefusalReason)
+    pub month_stops : (new : S) (before after : List ℕ) (r : Option RefusalReason)
         → MatchOption r (RelatesReadyArchivesIfOpen g mid new (λ b c. c ≡ b)) (λ why. RelatesReadyArchives g mid new (λ b c. (c ≡ b) × (ask_reason b ask ≡ Some why)))
         → MatchOption (option_map not_listed r) (RelatesReadyArchivesIfOpen g old new (HasImported ask text))
         (λ why. RelatesReadyArchives g old new (λ a b. IsChainRefused ask text before after a b why))
@@ -69,7 +68,7 @@ module _ {S : Type 0} (g : Ghosts S) (ask : Ask) (text : List ℕ) where
         (λ a b c one two. (subst (HasImported ask text a) (sym two.0) one, subst (λ x. ask_reason x ask ≡ Some why) (sym two.0) two.1))
         has_imported it
 
-    module _ (asked : Store S) (Says : Archive → Type 0) (listed : RelatesReadyArchives g mid asked (λ b c. (c ≡ b) × (ask_reason b ask ≡ None) × Says b)) where
+    module _ (asked : S) (Says : Archive → Type 0) (listed : RelatesReadyArchives g mid asked (λ b c. (c ≡ b) × (ask_reason b ask ≡ None) × Says b)) where
       -- the month leaves what the import left
       pub left : RelatesReadyArchives g old asked (HasImported ask text)
       left =
@@ -77,7 +76,7 @@ module _ {S : Type 0} (g : Ghosts S) (ask : Ask) (text : List ℕ) where
           (λ a b c one two. subst (HasImported ask text a) (sym two.0) one) has_imported listed
 
       -- the export stops
-      pub export_stops : (new : Store S) (before after : List ℕ) (r : Option (ℕ × RefusalReason))
+      pub export_stops : (new : S) (before after : List ℕ) (r : Option (ℕ × RefusalReason))
           → MatchOption r (RelatesReadyArchivesIfOpen g asked new (λ b c. c ≡ b))
           (λ why. RelatesReadyArchives g asked new (λ b c. (c ≡ b) × IsExportRefused (ask_reason b ask) before after (exported_text b ask) why.0 why.1))
           → MatchOption (option_map (λ (why : ℕ × RefusalReason). not_exported why.0 why.1) r) (RelatesReadyArchivesIfOpen g old new (HasImported ask text))
@@ -93,7 +92,7 @@ module _ {S : Type 0} (g : Ghosts S) (ask : Ask) (text : List ℕ) where
           )) left it
 
 -- an export of a store that is ready leaves it ready
-pub export_right : {S : Type 0} (g : Ghosts S) (asked new : Store S) (ask : Ask) (before after : List ℕ) (result : Result ℕ ExportStop)
+pub export_right : {S W : Type 0} (g : Ghosts S W) (asked new : S) (ask : Ask) (before after : List ℕ) (result : Result ℕ ExportStop)
     → ExportsMbox g asked new result ask before after (λ a. exported_text a ask)
     → CallsReadyStore g asked new export_reason result
     (λ a b count. (b ≡ a) × (ask_reason a ask ≡ None) × (after ≡ before ++ exported_text a ask) × (count ≡ min (length (exported_text a ask)) (2 ^ 64 - 1)))
@@ -106,13 +105,13 @@ export_right g asked new ask before after result call = calls_too g asked new ex
 -- ---- what was written of the export that stopped
 
 -- whatever the fault, the store lasts
-pub lasts_on : {S R : Type 0} (g : Ghosts S) (old new : Store S) (Stops : Archive → Archive → Type 0) (Refuses : Archive → Archive → R → Type 0)
+pub lasts_on : {S W R : Type 0} (g : Ghosts S W) (old new : S) (Stops : Archive → Archive → Type 0) (Refuses : Archive → Archive → R → Type 0)
     (r : Option R) → MatchOption r (RelatesReadyArchivesIfOpen g old new Stops) (λ why. RelatesReadyArchives g old new (λ a b. Refuses a b why)) → StaysOpenUnlessDiskFails g old new
 lasts_on g old new Stops Refuses None it = it.0
 lasts_on g old new Stops Refuses (Some why) it = it.0
 
 -- it is of the archive that was left before
-pub part_of : {S : Type 0} (g : Ghosts S) (ask : Ask) (text : List ℕ) (old asked new : Store S) → RelatesReadyArchives g old asked (HasImported ask text)
+pub part_of : {S W : Type 0} (g : Ghosts S W) (ask : Ask) (text : List ℕ) (old asked new : S) → RelatesReadyArchives g old asked (HasImported ask text)
     → StaysOpenUnlessDiskFails g asked new → (before after : List ℕ) (count : ℕ)
     → (StoreHasCleanDisk g new → HoldsTables g asked → length after < 2 ^ 64 → AppendsPrefixOfText before after (exported_text (archive_in g asked) ask) count)
     → StoreHasCleanDisk g new → IsReady g old → length after < 2 ^ 64
@@ -123,7 +122,7 @@ part_of g ask text old asked new left lasts before after count part = λ returne
 
 -- ---- all three are told
 
-module _ {S : Type 0} (g : Ghosts S) (ask : Ask) (text : List ℕ) (month : ℕ) (before after : List ℕ) (told : Told) (old mid asked new : Store S) where
+module _ {S W : Type 0} (g : Ghosts S W) (ask : Ask) (text : List ℕ) (month : ℕ) (before after : List ℕ) (told : Told) (old mid asked new : S) where
   abbrev Imported : Archive → Archive → Type 0
   Imported a b = IsImported ask.list text a b told.report
 

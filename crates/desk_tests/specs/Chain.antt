@@ -1,11 +1,10 @@
 -- What an import, a month and an export of one store answer, one after the other: the last two of the archive that the import
 -- left.
 use Rattle.std.specs.Prelude.{◌≡◌, ◌<◌, ◌^◌, ◌-◌, ◌++◌, ℕ, List, length, map, min, Option, Some, None, option_map}
-use Rattle.sqlite.specs.Store.{Ghosts}
+use Rattle.archive_port.specs.declared.state.ArchiveState.{Ghosts}
 use Rattle.mbox_core.specs.Written.{AppendsPrefixOfText}
 use Rattle.archive_model.specs.Records.{Archive}
-use Rattle.archive_store.specs.Told.{StoreHasCleanDisk, IsReady, archive_in}
-use Rattle.archive_store.specs.declared.store.Store.{Store}
+use Rattle.archive_port.specs.Told.{StoreHasCleanDisk, IsReady, archive_in}
 use Rattle.archive_results.specs.Access.{Ask, view_of}
 use Rattle.archive_results.specs.Results.{month_lines}
 use Rattle.archive_results.specs.Shown.{shown_message}
@@ -63,7 +62,7 @@ WritesUntilChainStop before after failed fails (Export stop) = IsExportStop befo
 
 -- Whatever stopped the export, and whether the connection is still open: the file was imported, and exactly the first bytes of
 -- the export of the archive that it left were written, where the writer told fewer than 2^64 bytes.
-abbrev pub WritesExportPrefix : {S : Type 0} → Ghosts S → (old new : Store S) → Ask → (text before after : List ℕ) → ChainStop → Type 0
+abbrev pub WritesExportPrefix : {S W : Type 0} → Ghosts S W → (old new : S) → Ask → (text before after : List ℕ) → ChainStop → Type 0
 WritesExportPrefix g old new ask text before after (Export stop) =
     StoreHasCleanDisk g new → IsReady g old → length after < 2 ^ 64
     → (b : Archive) × HasImported ask text (archive_in g old) b × AppendsPrefixOfText before after (exported_text b ask) stop.written

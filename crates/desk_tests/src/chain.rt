@@ -1,14 +1,13 @@
 //! Calls of the desk that follow one another, with what they say together proved by their contracts alone.
 ghost use Rattle.std.specs.Prelude.{◌≡◌, OnOk, IfErr};
-ghost use Rattle.archive_store.specs.Told.{CallsReadyStore};
+ghost use Rattle.archive_port.specs.Told.{CallsReadyStore};
 ghost use Rattle.desk_tests.specs.Chain.{ImportsListsAndExports, WritesExportPrefix, IsChainSystemError, WritesUntilChainStop, IsChainRefused, chain_refusal_of};
 
 use archive_desk::{DeskError, ExportStop, ImportStop, Report, export, import, month};
+use archive_port::ArchiveStore;
 use archive_results::{Ask, Line};
-use archive_store::Store;
 use civil_time::Month;
 use mbox_core::device::Sink;
-use sqlite::Alter;
 use std::alloc::Global;
 
 /// What became of the messages of a file, the lines of a month, and how many bytes an export wrote.
@@ -32,19 +31,19 @@ pub enum ChainStop {
 
 /// Imports a file into a list, and then asks for a month of it and writes its export: both are of the archive that the
 /// import left.
-pub fn import_and_ask<S: Alter, W: Sink>(
-    store: &mut Store<S>,
+pub fn import_and_ask<S: ArchiveStore, W: Sink>(
+    store: &mut S,
     alloc: Global,
     ask: &Ask<'_>,
     mbox: &[u8],
     asked: Month,
     out: &mut W,
 ) -> Result<Told, ChainStop>
-    ensures chain { CallsReadyStore S.Store store.old store.new chain_refusal_of result
+    ensures chain { CallsReadyStore S.ArchiveState store.old store.new chain_refusal_of result
         (λ a b told. ImportsListsAndExports ask.now mbox.now asked (W.told out.old) (W.told out.new) a b told)
         (λ a b why. IsChainRefused ask.now mbox.now (W.told out.old) (W.told out.new) a b why)
         (λ a b stop. IsChainSystemError ask.now mbox.now a b stop) }
-    ensures part { IfErr result (λ stop. WritesExportPrefix S.Store store.old store.new ask.now mbox.now
+    ensures part { IfErr result (λ stop. WritesExportPrefix S.ArchiveState store.old store.new ask.now mbox.now
         (W.told out.old) (W.told out.new) stop) }
     ensures quiet { OnOk result (W.failures out.new ≡ W.failures out.old) }
     ensures cause { IfErr result (λ stop. WritesUntilChainStop (W.told out.old) (W.told out.new)

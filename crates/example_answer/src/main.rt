@@ -2,8 +2,9 @@
 #![tactic(auto)]
 
 use anyhow::bail;
-use archive_pages::{Client, run_and_answer_in_memory};
+use archive_pages::Client;
 use archive_store::Command;
+use archive_stored::run_and_answer_in_memory;
 use civil_time::Day;
 use mbox_core::cut;
 use mbox_core::device::Counted;

@@ -1,5 +1,5 @@
 -- Two requests behind a withdrawal, over a store in memory.
-use Rattle.std.proofs.Common.{◌≡◌, ◌<◌, ◌⊎◌, inl, inr, ℕ, ℤ, List, ◌∙◌, refl, sym, ap, subst, arith, Result}
+use Rattle.std.proofs.Common.{◌≡◌, ◌<◌, ◌⊎◌, inl, inr, ℕ, ℤ, List, refl, sym, ap, subst, arith, Result}
 use Rattle.std.specs.List.{All}
 use Rattle.sqlite.specs.Steps.{over_memory}
 use Rattle.sqlite.proofs.Callers.{memory_is_clean}
@@ -14,7 +14,8 @@ use Rattle.archive_model.specs.Commands.{Command as Told}
 use Rattle.archive_model.specs.Machine.{StepOutcome, step}
 use Rattle.archive_model.specs.Runs.{taken}
 use Rattle.archive_store.specs.Held.{store_connection, memory_refusal_count}
-use Rattle.archive_store.specs.Told.{HasNoStepLimit, HoldsTables, IsReady, MemoryWasRefused, archive_in}
+use Rattle.archive_port.specs.Told.{HasNoStepLimit, HoldsTables, IsReady, MemoryWasRefused, archive_in}
+use Rattle.archive_store.specs.State.{state_of}
 use Rattle.archive_store.specs.declared.store.Store.{Store}
 use Rattle.archive_desk.specs.Holding.{RelatesTableArchives}
 use Rattle.archive_desk.specs.Readable.{CanBeRead, IsWellFormedCommand}
@@ -49,22 +50,22 @@ can_be_read takes steps items it a b report made can =
 
 abbrev pub IsRefused : Type 0
 IsRefused = (old new : Store MemStore) (result : Result ℕ ServeFault) (told_before told_after : List ℕ) (rules : List Rule) (day : ℤ)
-    → HoldsTables over_memory old → HasNoStepLimit over_memory old → CanBeRead (archive_in over_memory old)
-    → ServesOr503 over_memory old new result (IsInputDataUnreadable told_before told_after rules day) → Sent503OrBrokeOff result → MemoryWasRefused old new
+    → HoldsTables (state_of over_memory) old → HasNoStepLimit (state_of over_memory) old → CanBeRead (archive_in (state_of over_memory) old)
+    → ServesOr503 (state_of over_memory) old new result (IsInputDataUnreadable told_before told_after rules day) → Sent503OrBrokeOff result → MemoryWasRefused (state_of over_memory) old new
 
 abbrev pub IsFollowed : Type 0
-IsFollowed = (old new : Store MemStore) (result : Result ℕ ServeFault) → StoreKeepsArchive over_memory old new result → RelatesTableArchives over_memory old new (λ a b. b ≡ a)
+IsFollowed = (old new : Store MemStore) (result : Result ℕ ServeFault) → StoreKeepsArchive (state_of over_memory) old new result → RelatesTableArchives (state_of over_memory) old new (λ a b. b ≡ a)
 
 module _ (refused : IsRefused) (followed : IsFollowed) (takes : TakesIn) (steps : StepsOn) (items : AreItems) where
   module _ {R W : Type 0} (gives : Gives R) (sinks : Takes W) (rules : List Rule) (day : ℤ) (old new : Store MemStore) (it : Withdrawal) (first first' second second' : Client R W)
       (report : Report) (answered : TwoAnswers) where
-    pub wanting : IsReady over_memory old → HasNoStepLimit over_memory old → CanBeRead (archive_in over_memory old)
-        → EndsAnswersAfterWithdrawal gives sinks over_memory rules day old new it first first' second second' report answered
+    pub wanting : IsReady (state_of over_memory) old → HasNoStepLimit (state_of over_memory) old → CanBeRead (archive_in (state_of over_memory) old)
+        → EndsAnswersAfterWithdrawal gives sinks (state_of over_memory) rules day old new it first first' second second' report answered
         → Sent503OrBrokeOff answered.first ⊎ Sent503OrBrokeOff answered.second → 0 < memory_refusal_count new
     wanting ready free can behind bad =
         let made = behind.withdrawn.1 (memory_is_clean (store_connection behind.found)) ready in
-        let readable = can_be_read takes steps items it (archive_in over_memory old) (archive_in over_memory behind.found) report made.1 can in
-        let unlimited : HasNoStepLimit over_memory behind.found = behind.withdrawn.0.step_limit_is_same ∙ free in
+        let readable = can_be_read takes steps items it (archive_in (state_of over_memory) old) (archive_in (state_of over_memory) behind.found) report made.1 can in
+        let unlimited : HasNoStepLimit (state_of over_memory) behind.found = behind.withdrawn.0.sets_no_limit free in
         let on = followed behind.found behind.ends.store_between answered.first behind.ends.first_ends.stays in
         let later = on.1 (memory_is_clean (store_connection behind.ends.store_between)) made.0.is_archive_at_rest in
         let grown = behind.ends.second_error_cause.0 in
@@ -73,6 +74,6 @@ module _ (refused : IsRefused) (followed : IsFollowed) (takes : TakesIn) (steps 
               (gives.told first'.input) rules day made.0.is_archive_at_rest
               unlimited readable behind.ends.first_error_cause one in omega (arith, more, grown)
           | inr other ↦ let more = refused behind.ends.store_between new answered.second (gives.told second.input) (gives.told second'.input) rules day later.0
-              (on.0.step_limit_is_same ∙ unlimited) (subst CanBeRead (sym later.1) readable)
+              (on.0.sets_no_limit unlimited) (subst CanBeRead (sym later.1) readable)
               behind.ends.second_error_cause other in omega (arith, more)
         ]

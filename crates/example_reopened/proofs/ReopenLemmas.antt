@@ -10,7 +10,7 @@ use Rattle.sqlite_catalog.specs.Listing.{Lists}
 use Rattle.sqlite_catalog.proofs.ReadLemmas.{lists_once}
 use Rattle.sqlite_store.specs.declared.store.FileStore.{FileStore}
 use Rattle.sqlite.specs.Effect.{Database}
-use Rattle.sqlite.specs.Store.{Ghosts}
+use Rattle.archive_port.specs.declared.state.ArchiveState.{Ghosts}
 use Rattle.sqlite.specs.Held.{Held}
 use Rattle.sqlite.specs.State.{HasCleanDisk, IsLive}
 use Rattle.sqlite.specs.Files.{over_files, file_state, Finds, IsOpened}
@@ -19,9 +19,11 @@ use Rattle.sqlite.proofs.Callers.{finds_again}
 use Rattle.archive_model.specs.Records.{Archive}
 use Rattle.archive_tables.specs.Tables.{IsKnownVersion, IsOpenArchiveInFormat, IsArchiveAtRest, AreTablesOfVersion, format_of_version, newest_version, archive_of_version, archive_of}
 use Rattle.archive_store.specs.Held.{store_connection}
-use Rattle.archive_store.specs.Told.{HoldsArchive, HoldsTables, StoreHasCleanDisk, IsReady, archive_in, RelatesReadyArchives, RelatesReadyArchivesIfOpen, AnswersFromReadyStore}
+use Rattle.archive_store.specs.State.{state_of}
+use Rattle.archive_store.specs.Told.{HoldsArchive}
+use Rattle.archive_port.specs.Told.{HoldsTables, StoreHasCleanDisk, IsReady, archive_in, RelatesReadyArchives, RelatesReadyArchivesIfOpen, AnswersFromReadyStore}
 use Rattle.archive_store.specs.declared.store.Store.{Store}
-use Rattle.archive_store.proofs.Joins.{ready_with}
+use Rattle.archive_port.proofs.Joins.{ready_with}
 use Rattle.archive_desk.specs.Holding.{RelatesTableArchivesIfOpen}
 use Rattle.archive_desk.proofs.CallLemmas.{calls_after}
 use Rattle.example_reopened.specs.Reopening.{FilesHoldClosedRows, StoreAdoptsFiles, RelatesFilesToStore, RelatesFilesToOpenStore}
@@ -62,15 +64,15 @@ module _ {D : Type 0} {g : DiskGhosts D} where
   -- ---- opened and taken over
 
   pub takes_over : (files : Files D) (store : Store (FileStore D g)) (opened : Held (FileStore D g)) → (HasCleanDisk (file_state opened) → Finds files opened)
-      → (HasCleanDisk (file_state opened) → IsOpened opened) → (StoreHasCleanDisk over_files store → HasCleanDisk (file_state opened))
-      → (StoreHasCleanDisk over_files store → (number : ℕ) → IsKnownVersion number → IsOpenArchiveInFormat (format_of_version number) None (file_state opened)
+      → (HasCleanDisk (file_state opened) → IsOpened opened) → (StoreHasCleanDisk (state_of over_files) store → HasCleanDisk (file_state opened))
+      → (StoreHasCleanDisk (state_of over_files) store → (number : ℕ) → IsKnownVersion number → IsOpenArchiveInFormat (format_of_version number) None (file_state opened)
       → IsArchiveAtRest (file_state (store_connection store)) × (archive_of (file_state (store_connection store)) ≡ archive_of_version number (file_state opened).now.trees))
       → StoreAdoptsFiles files store
   takes_over files store opened found opens clean brought returned = (opened, found (clean returned), opens (clean returned), brought returned)
 
   -- so it remembers what the rows of the files stood for
-  pub rows_to : (files : Files D) (store : Store (FileStore D g)) → StoreAdoptsFiles files store → StoreHasCleanDisk over_files store
-      → (archive : Archive) → FilesHoldClosedRows g files archive → HoldsTables over_files store × (archive_in over_files store ≡ archive)
+  pub rows_to : (files : Files D) (store : Store (FileStore D g)) → StoreAdoptsFiles files store → StoreHasCleanDisk (state_of over_files) store
+      → (archive : Archive) → FilesHoldClosedRows g files archive → HoldsTables (state_of over_files) store × (archive_in (state_of over_files) store ≡ archive)
   rows_to files store takes returned archive held =
       let (opened, found, opens, brought) = takes returned in
       let again = tables_again held.number held.closed_connection opened files held.tables held.is_live held.is_copied found opens in
@@ -81,21 +83,22 @@ module _ {D : Type 0} {g : DiskGhosts D} where
   pub leads_to : (files : Files D) (store : Store (FileStore D g)) → StoreAdoptsFiles files store → RelatesFilesToStore files store (λ a b. b ≡ a)
   leads_to files store takes returned archive held =
       let it = rows_to files store takes returned archive held.rows in
-      (ready_with over_files store archive it.0 it.1 held.is_indexed_correctly, it.1)
+      (ready_with (state_of over_files) store archive it.0 it.1 held.is_indexed_correctly, it.1)
 
   module _ (files : Files D) (mid new : Store (FileStore D g)) where
     -- after a call
-    pub leads_on : (R : Archive → Archive → Type 0) → RelatesFilesToStore files mid (λ a b. b ≡ a) → RelatesReadyArchives over_files mid new R → RelatesFilesToStore files new R
+    pub leads_on : (R : Archive → Archive → Type 0) → RelatesFilesToStore files mid (λ a b. b ≡ a) → RelatesReadyArchives (state_of over_files) mid new R → RelatesFilesToStore files new R
     leads_on R before goes returned archive held =
         let here = before (goes.0.disk_was_clean returned) archive held in
         let there = goes.1 returned here.0 in
-        (there.0, subst (λ a. R a (archive_in over_files new)) here.1 there.1)
+        (there.0, subst (λ a. R a (archive_in (state_of over_files) new)) here.1 there.1)
 
-    pub leads_on_if_open : (R : Archive → Archive → Type 0) → RelatesFilesToStore files mid (λ a b. b ≡ a) → RelatesReadyArchivesIfOpen over_files mid new R → RelatesFilesToOpenStore files new R
+    pub leads_on_if_open : (R : Archive → Archive → Type 0) → RelatesFilesToStore files mid (λ a b. b ≡ a) → RelatesReadyArchivesIfOpen (state_of over_files) mid new R → RelatesFilesToOpenStore
+        files new R
     leads_on_if_open R before goes returned archive held up =
         let here = before (goes.0.disk_was_clean returned) archive held in
         let there = goes.1 returned here.0 up in
-        (there.0, subst (λ a. R a (archive_in over_files new)) here.1 there.1)
+        (there.0, subst (λ a. R a (archive_in (state_of over_files) new)) here.1 there.1)
 
     -- and after a close
     pub leads_again : (R : Archive → Archive → Type 0) → RelatesFilesToStore files mid R → RemembersSameArchive mid new → RelatesFilesToStore files new R
@@ -105,11 +108,11 @@ module _ {D : Type 0} {g : DiskGhosts D} where
         (there.0, subst (λ b. R archive b) (sym there.1) here.1)
 
     -- and after a request
-    pub leads_still : (R : Archive → Archive → Type 0) → RelatesFilesToStore files mid R → RelatesTableArchivesIfOpen over_files mid new (λ a b. b ≡ a) → RelatesFilesToOpenStore files new R
+    pub leads_still : (R : Archive → Archive → Type 0) → RelatesFilesToStore files mid R → RelatesTableArchivesIfOpen (state_of over_files) mid new (λ a b. b ≡ a) → RelatesFilesToOpenStore files new R
     leads_still R before goes returned archive held up =
         let here = before (goes.0.disk_was_clean returned) archive held in
         let there = goes.1 returned here.0.is_archive_at_rest up in
-        (ready_with over_files new (archive_in over_files mid) there.0 there.1 here.0.is_indexed_correctly, subst (λ b. R archive b) (sym there.1) here.1)
+        (ready_with (state_of over_files) new (archive_in (state_of over_files) mid) there.0 there.1 here.0.is_indexed_correctly, subst (λ b. R archive b) (sym there.1) here.1)
 
 -- ---- closed and opened again
 
@@ -135,47 +138,48 @@ module _ {D : Type 0} {g : DiskGhosts D} (store again : Store (FileStore D g)) w
     λ returned. let it = (was returned).2 in (it.is_copied it.finds_files.honest).was_clean,
     λ returned ready.
         let it = (was returned).2 in
-        let holds = law (store_connection store) (was returned).0 (was returned).1 (archive_in over_files store) (ready.is_archive_at_rest, refl, ready.is_indexed_correctly)
+        let holds = law (store_connection store) (was returned).0 (was returned).1 (archive_in (state_of over_files) store) (ready.is_archive_at_rest, refl, ready.is_indexed_correctly)
         it.is_live it.is_copied it.finds_files it.is_opened in
-        let is = it.keeps_archive (archive_in over_files store) holds returned in
-        (ready_with over_files again (archive_in over_files store) is.0 is.1 ready.is_indexed_correctly, is.1),
+        let is = it.keeps_archive (archive_in (state_of over_files) store) holds returned in
+        (ready_with (state_of over_files) again (archive_in (state_of over_files) store) is.0 is.1 ready.is_indexed_correctly, is.1),
   )
 
 -- ---- asked
 
 module _ {D : Type 0} {g : DiskGhosts D} (old mid new : Store (FileStore D g)) (same : RemembersSameArchive old mid) where
-  goes_again : (R : Archive → Archive → Type 0) → RelatesReadyArchives over_files mid new R → RelatesAcrossReopen old new R
+  goes_again : (R : Archive → Archive → Type 0) → RelatesReadyArchives (state_of over_files) mid new R → RelatesAcrossReopen old new R
   goes_again R goes = (
     λ returned. same.0 (goes.0.disk_was_clean returned),
     λ returned ready.
         let here = same.1 (goes.0.disk_was_clean returned) ready in
         let there = goes.1 returned here.0 in
-        (there.0, subst (λ a. R a (archive_in over_files new)) here.1 there.1),
+        (there.0, subst (λ a. R a (archive_in (state_of over_files) new)) here.1 there.1),
   )
 
-  goes_again_if_open : (R : Archive → Archive → Type 0) → RelatesReadyArchivesIfOpen over_files mid new R → RelatesAcrossReopenIfOpen old new R
+  goes_again_if_open : (R : Archive → Archive → Type 0) → RelatesReadyArchivesIfOpen (state_of over_files) mid new R → RelatesAcrossReopenIfOpen old new R
   goes_again_if_open R goes = (
     λ returned. same.0 (goes.0.disk_was_clean returned),
     λ returned ready up.
         let here = same.1 (goes.0.disk_was_clean returned) ready in
         let there = goes.1 returned here.0 up in
-        (there.0, subst (λ a. R a (archive_in over_files new)) here.1 there.1),
+        (there.0, subst (λ a. R a (archive_in (state_of over_files) new)) here.1 there.1),
   )
 
   -- a question to a store that was closed and opened again
   pub asks_again : {A F R : Type 0} (reason : F → Option R) (refuses : Archive → Option R) (Says : Archive → A → Type 0) (result : Result A F)
-      → AnswersFromReadyStore over_files mid new reason result refuses Says → AnswersAfterReopen old new reason result refuses Says
+      → AnswersFromReadyStore (state_of over_files) mid new reason result refuses Says → AnswersAfterReopen old new reason result refuses Says
   asks_again reason refuses Says (Ok answer) goes = goes_again (λ a b. (b ≡ a) × (refuses a ≡ None) × Says a answer) goes
   asks_again {R = R} reason refuses Says (Err fault) goes = by_reason (reason fault) goes
     where
       by_reason : (r : Option R)
-          → MatchOption r (RelatesReadyArchivesIfOpen over_files mid new (λ a b. b ≡ a)) (λ why. RelatesReadyArchives over_files mid new (λ a b. (b ≡ a) × (refuses a ≡ Some why)))
+          → MatchOption r (RelatesReadyArchivesIfOpen (state_of over_files) mid new (λ a b. b ≡ a)) (λ why. RelatesReadyArchives (state_of over_files) mid new
+          (λ a b. (b ≡ a) × (refuses a ≡ Some why)))
           → MatchOption r (RelatesAcrossReopenIfOpen old new (λ a b. b ≡ a)) (λ why. RelatesAcrossReopen old new (λ a b. (b ≡ a) × (refuses a ≡ Some why)))
       by_reason None goes = goes_again_if_open (λ a b. b ≡ a) goes
       by_reason (Some why) goes = goes_again (λ a b. (b ≡ a) × (refuses a ≡ Some why)) goes
 
 -- a question behind another one that was answered, and is refused for the same reason
-pub both_asked : {S : Type 0} (g : Ghosts S) (old mid new : Store S) {A F R : Type 0} (reason : F → Option R) (refuses : Archive → Option R)
+pub both_asked : {S W : Type 0} (g : Ghosts S W) (old mid new : S) {A F R : Type 0} (reason : F → Option R) (refuses : Archive → Option R)
     (First : Archive → Type 0) (Says : Archive → A → Type 0) (result : Result A F)
     → RelatesReadyArchives g old mid (λ a b. (b ≡ a) × (refuses a ≡ None) × First a) → AnswersFromReadyStore g mid new reason result refuses Says
     → AnswersFromReadyStore g old new reason result refuses (λ a answer. First a × Says a answer)

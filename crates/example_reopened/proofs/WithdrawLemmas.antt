@@ -4,7 +4,7 @@ use Rattle.std.specs.Prelude.{MatchOption, option_map}
 use Rattle.std.specs.List.{All}
 use Rattle.std.proofs.lemmas.List.Elements.{All-nil, All-cons}
 use Rattle.httparse.specs.Grammar.{RequestHead}
-use Rattle.sqlite.specs.Store.{Ghosts}
+use Rattle.archive_port.specs.declared.state.ArchiveState.{Ghosts}
 use Rattle.policy_core.specs.Numbers.{withdrawn_by_number}
 use Rattle.policy_core.specs.Rules.{Rule}
 use Rattle.policy_core.specs.declared.access.WithdrawnBy.{WithdrawnBy}
@@ -15,14 +15,11 @@ use Rattle.archive_model.specs.Commands.{Refusal, withdraw, done, refused}
 use Rattle.archive_model.specs.Machine.{StepOutcome, step}
 use Rattle.archive_model.specs.Messages.{withdrawal_number}
 use Rattle.archive_model.specs.Questions.{is_message_at_key}
-use Rattle.archive_store.specs.Held.{store_connection}
-use Rattle.archive_store.specs.Replies.{PerformsModelStep}
+use Rattle.archive_port.specs.Told.{PerformsModelStep, RelatesReadyArchives, RelatesReadyArchivesIfOpen, StaysOpenUnlessDiskFails}
 use Rattle.archive_port.specs.Replies.{refusal_of_fault}
-use Rattle.archive_store.specs.Told.{RelatesReadyArchives, RelatesReadyArchivesIfOpen, StaysOpenUnlessDiskFails}
-use Rattle.archive_store.specs.declared.store.Store.{Store}
 use Rattle.archive_port.specs.declared.faults.StoreFault.{StoreFault}
-use Rattle.archive_store.proofs.Joins.{goes_as, goes_as_if_open, goes_on, goes_on_if_open, step_failed, stepped}
-use Rattle.archive_store.proofs.RightLemmas.{step_right}
+use Rattle.archive_port.proofs.Joins.{goes_as, goes_as_if_open, goes_on, goes_on_if_open, step_failed, stepped}
+use Rattle.archive_port.proofs.RightLemmas.{step_right}
 use Rattle.archive_results.specs.Access.{is_own_by_address, reader_facts}
 use Rattle.archive_results.specs.Promise.{DeniesWithdrawnBy, IsNotOwnMessage, without_message}
 use Rattle.archive_desk.specs.Importing.{IsImported}
@@ -74,12 +71,12 @@ replies_hide_message promise it imported after is rules day head asker denies =
 
 -- ---- the two commands
 
-module _ {S : Type 0} (g : Ghosts S) (old mid new : Store S) (it : Withdrawal) (report : Report)
+module _ {S W : Type 0} (g : Ghosts S W) (old mid new : S) (it : Withdrawal) (report : Report)
     (first : RelatesReadyArchives g old mid (λ a b. IsImported it.list.now it.mbox.now a b report)) (lasts : StaysOpenUnlessDiskFails g mid new) where
   abbrev Imports : Archive → Archive → Type 0
   Imports a b = IsImported it.list.now it.mbox.now a b report
 
-  pub withdrawn : IsAsIfItNeverCame → PerformsModelStep g (store_connection mid) (store_connection new) (λ a. step a (withdraw_command_of it)) (Some done)
+  pub withdrawn : IsAsIfItNeverCame → PerformsModelStep g mid new (λ a. step a (withdraw_command_of it)) (Some done)
       → RelatesReadyArchives g old new (λ a c. ImportsAndWithdraws it a c report)
   withdrawn promise clause =
       goes_as g old new (λ a c. (b : Archive) × Imports a b × ((c, done) ≡ step b (withdraw_command_of it))) (λ a c. ImportsAndWithdraws it a c report)
@@ -87,7 +84,7 @@ module _ {S : Type 0} (g : Ghosts S) (old mid new : Store S) (it : Withdrawal) (
       (goes_on g old mid new Imports (λ b c. (c, done) ≡ step b (withdraw_command_of it)) first
       (stepped g mid new lasts (λ a. step a (withdraw_command_of it)) (Some done) done (step_right (withdraw_command_of it)) refl clause))
 
-  pub not_withdrawn : (fault : StoreFault) → PerformsModelStep g (store_connection mid) (store_connection new) (λ a. step a (withdraw_command_of it)) (option_map refused (refusal_of_fault fault))
+  pub not_withdrawn : (fault : StoreFault) → PerformsModelStep g mid new (λ a. step a (withdraw_command_of it)) (option_map refused (refusal_of_fault fault))
       → IsWithdrawError g old new it (NotWithdrawn report fault)
   not_withdrawn fault clause = by_reason (refusal_of_fault fault) refl
     where

@@ -6,7 +6,8 @@ use Rattle.sqlite_store.specs.declared.store.FileStore.{FileStore}
 use Rattle.sqlite.specs.Files.{over_files}
 use Rattle.archive_model.specs.Records.{Archive}
 use Rattle.archive_port.specs.Replies.{refusal_of_fault}
-use Rattle.archive_store.specs.Told.{StoreHasCleanDisk}
+use Rattle.archive_port.specs.Told.{StoreHasCleanDisk}
+use Rattle.archive_store.specs.State.{state_of}
 use Rattle.archive_store.specs.declared.store.Store.{Store}
 use Rattle.archive_desk.specs.Importing.{IsImported, IsRefusedImport, IsBrokenImport, import_stop_reason}
 use Rattle.archive_desk.specs.declared.importing.Report.{Report}
@@ -18,7 +19,7 @@ module _ {D : Type 0} {g : Ghosts D} (files : Files D) where
   -- Where the disk has returned what was written to it: an import made an archive out of what the files held before they were
   -- opened, and this is so of the one that it made.
   abbrev pub IsTrueOfImportedArchive : Store (FileStore D g) → (list text : List ℕ) → Report → (Archive → Type 0) → Type 0
-  IsTrueOfImportedArchive store list text report Says = StoreHasCleanDisk over_files store → (before : Archive) → FilesHoldClosedArchive g files before
+  IsTrueOfImportedArchive store list text report Says = StoreHasCleanDisk (state_of over_files) store → (before : Archive) → FilesHoldClosedArchive g files before
       → (after : Archive) × IsImported list text before after report × Says after
 
   -- The files were not opened, not closed or not opened again (E14, E15); or the import into what they held stopped, for its own

@@ -11,7 +11,9 @@ use Rattle.archive_model.specs.Commands.{Command}
 use Rattle.archive_model.specs.Runs.{run}
 use Rattle.archive_tables.specs.Making.{empty_archive}
 use Rattle.archive_store.specs.Held.{memory_refusal_count}
-use Rattle.archive_store.specs.Told.{StoreHasCleanDisk, faults_of}
+use Rattle.archive_port.specs.Told.{StoreHasCleanDisk}
+use Rattle.archive_store.specs.State.{state_of}
+use Rattle.archive_store.specs.Told.{faults_of}
 use Rattle.archive_store.specs.declared.store.Store.{Store}
 use Rattle.archive_pages.specs.Calls.{ClientMeetsNoFailure, HasClientFaultCause}
 use Rattle.archive_desk.specs.Readable.{CanBeRead}
@@ -27,11 +29,11 @@ CannotBeRead archive = ¬ CanBeRead archive
 module _ {D : Type 0} {g : Ghosts D} (files : Files D) (store : Store (FileStore D g)) where
   -- Where the disk has returned what was written to it, this is so of the archive that the files held, of whatever version.
   abbrev pub IsTrueOfArchiveInFiles : (Archive → Type 0) → Type 0
-  IsTrueOfArchiveInFiles Says = StoreHasCleanDisk over_files store → (archive : Archive) → FilesHoldClosedArchive g files archive → Says archive
+  IsTrueOfArchiveInFiles Says = StoreHasCleanDisk (state_of over_files) store → (archive : Archive) → FilesHoldClosedArchive g files archive → Says archive
 
   -- The same of what commands made of an empty archive: they file right, so nothing is asked of what the rows file.
   abbrev pub IsTrueOfArchiveByCommands : (Archive → Type 0) → Type 0
-  IsTrueOfArchiveByCommands Says = StoreHasCleanDisk over_files store → (commands : List Command) → FilesHoldClosedRows g files (run empty_archive commands).archive
+  IsTrueOfArchiveByCommands Says = StoreHasCleanDisk (state_of over_files) store → (commands : List Command) → FilesHoldClosedRows g files (run empty_archive commands).archive
       → Says (run empty_archive commands).archive
 
   -- Why 503 goes out, and why an mbox breaks off (S3), out of a store that was opened from the files: memory was refused to a call of

@@ -13,12 +13,13 @@ use Rattle.archive_model.specs.Questions.{merge_of}
 use Rattle.archive_model.specs.Sound.{IsIndexedCorrectly}
 use Rattle.archive_tables.specs.Tables.{IsKnownVersion, IsOpenArchiveInFormat, format_of_version, archive_of_version}
 use Rattle.archive_store.specs.Held.{store_connection}
-use Rattle.archive_store.specs.Told.{HoldsTables, StoreHasCleanDisk, IsOpen, IsReady, archive_in}
+use Rattle.archive_port.specs.Told.{HoldsTables, StoreHasCleanDisk, IsOpen, IsReady, archive_in}
+use Rattle.archive_store.specs.State.{state_of}
 use Rattle.archive_store.specs.declared.store.Store.{Store}
 use Rattle.archive_results.specs.Access.{Ask, view_of}
 use Rattle.archive_results.specs.Results.{TreeLine, month_lines, tree_lines}
 use Rattle.archive_results.specs.Shown.{Line, shown_message}
-use Rattle.archive_pages.specs.Reopened.{IsReopened}
+use Rattle.archive_stored.specs.Reopened.{IsReopened}
 
 -- ---- files, and a store that was opened from them
 
@@ -42,21 +43,21 @@ module _ {D : Type 0} {g : Ghosts D} where
   -- Where the disk has returned what was written to it, a connection was opened from the files, and the store took it over: tables
   -- of whatever version stand for the same archive as before.
   abbrev pub StoreAdoptsFiles : Files D → Store (FileStore D g) → Type 0
-  StoreAdoptsFiles files store = StoreHasCleanDisk over_files store → (opened : Held (FileStore D g)) × Finds files opened × IsOpened opened
+  StoreAdoptsFiles files store = StoreHasCleanDisk (state_of over_files) store → (opened : Held (FileStore D g)) × Finds files opened × IsOpened opened
       × ((number : ℕ) → IsKnownVersion number → IsOpenArchiveInFormat (format_of_version number) None (file_state opened)
-      → HoldsTables over_files store × (archive_in over_files store ≡ archive_of_version number (file_state opened).now.trees))
+      → HoldsTables (state_of over_files) store × (archive_in (state_of over_files) store ≡ archive_of_version number (file_state opened).now.trees))
 
   module _ (files : Files D) (store : Store (FileStore D g)) where
     -- Where the disk has returned what was written to it, and the files held an archive before they were opened, the store is
     -- ready, and this holds of that archive and of the one that it remembers.
     abbrev pub RelatesFilesToStore : (Archive → Archive → Type 0) → Type 0
-    RelatesFilesToStore R = StoreHasCleanDisk over_files store → (archive : Archive) → FilesHoldClosedArchive g files archive
-        → IsReady over_files store × R archive (archive_in over_files store)
+    RelatesFilesToStore R = StoreHasCleanDisk (state_of over_files) store → (archive : Archive) → FilesHoldClosedArchive g files archive
+        → IsReady (state_of over_files) store × R archive (archive_in (state_of over_files) store)
 
     -- the same, if its connection is still open
     abbrev pub RelatesFilesToOpenStore : (Archive → Archive → Type 0) → Type 0
-    RelatesFilesToOpenStore R = StoreHasCleanDisk over_files store → (archive : Archive) → FilesHoldClosedArchive g files archive → IsOpen over_files store
-        → IsReady over_files store × R archive (archive_in over_files store)
+    RelatesFilesToOpenStore R = StoreHasCleanDisk (state_of over_files) store → (archive : Archive) → FilesHoldClosedArchive g files archive → IsOpen (state_of over_files) store
+        → IsReady (state_of over_files) store × R archive (archive_in (state_of over_files) store)
 
   -- ---- a store, and the one that was opened from its files
 
@@ -64,19 +65,20 @@ module _ {D : Type 0} {g : Ghosts D} where
     -- where the disk has returned what was written to it, the store was closed to some files, and the other one took over a
     -- connection that was opened from them
     abbrev pub WasReopened : Type 0
-    WasReopened = StoreHasCleanDisk over_files again → (opened : Held (FileStore D g)) × (files : Files D) × IsReopened (store_connection store) opened files again
+    WasReopened = StoreHasCleanDisk (state_of over_files) again → (opened : Held (FileStore D g)) × (files : Files D) × IsReopened (store_connection store) opened files again
 
     -- A disk that has returned what was written so far had done so before; and where the one store was ready the other is, and
     -- this holds of what they remember. It is not one connection, so `StaysOpenUnlessDiskFails` says nothing of the two.
     abbrev pub RelatesAcrossReopen : (Archive → Archive → Type 0) → Type 0
-    RelatesAcrossReopen R = (StoreHasCleanDisk over_files again → StoreHasCleanDisk over_files store)
-        × (StoreHasCleanDisk over_files again → IsReady over_files store → IsReady over_files again × R (archive_in over_files store) (archive_in over_files again))
+    RelatesAcrossReopen R = (StoreHasCleanDisk (state_of over_files) again → StoreHasCleanDisk (state_of over_files) store)
+        × (StoreHasCleanDisk (state_of over_files) again → IsReady (state_of over_files) store → IsReady (state_of over_files) again × R (archive_in (state_of over_files) store)
+        (archive_in (state_of over_files) again))
 
     -- the same, if the connection of the other is still open
     abbrev pub RelatesAcrossReopenIfOpen : (Archive → Archive → Type 0) → Type 0
-    RelatesAcrossReopenIfOpen R = (StoreHasCleanDisk over_files again → StoreHasCleanDisk over_files store)
-        × (StoreHasCleanDisk over_files again → IsReady over_files store → IsOpen over_files again
-        → IsReady over_files again × R (archive_in over_files store) (archive_in over_files again))
+    RelatesAcrossReopenIfOpen R = (StoreHasCleanDisk (state_of over_files) again → StoreHasCleanDisk (state_of over_files) store)
+        × (StoreHasCleanDisk (state_of over_files) again → IsReady (state_of over_files) store → IsOpen (state_of over_files) again
+        → IsReady (state_of over_files) again × R (archive_in (state_of over_files) store) (archive_in (state_of over_files) again))
 
     -- the other one remembers the same archive
     abbrev pub RemembersSameArchive : Type 0

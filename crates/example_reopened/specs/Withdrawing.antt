@@ -1,6 +1,6 @@
 -- An import, a withdrawal behind it, and two requests behind that.
 use Rattle.std.specs.Prelude.{◌≡◌, ℕ, ℤ, List, Option, None, MatchOption}
-use Rattle.sqlite.specs.Store.{Ghosts}
+use Rattle.archive_port.specs.declared.state.ArchiveState.{Ghosts}
 use Rattle.httparse.specs.Grammar.{RequestHead}
 use Rattle.byte_device.specs.declared.devices.Sink.{Ghosts as Takes}
 use Rattle.byte_device.specs.declared.devices.Source.{Ghosts as Gives}
@@ -15,9 +15,8 @@ use Rattle.archive_model.specs.Records.{Archive}
 use Rattle.archive_model.specs.Commands.{Command, withdraw, done, refused}
 use Rattle.archive_model.specs.Machine.{step}
 use Rattle.archive_port.specs.Replies.{refusal_of_fault}
-use Rattle.archive_store.specs.Told.{RelatesReadyArchives, RelatesReadyArchivesIfOpen}
+use Rattle.archive_port.specs.Told.{RelatesReadyArchives, RelatesReadyArchivesIfOpen}
 use Rattle.archive_port.specs.Wanting.{IsMemoryRefusal}
-use Rattle.archive_store.specs.declared.store.Store.{Store}
 use Rattle.archive_results.specs.Promise.{DeniesWithdrawnBy, without_message}
 use Rattle.archive_desk.specs.Importing.{IsImported, IsImportStoreMemoryRefusal, IsRefusedImport, IsBrokenImport, import_stop_reason}
 use Rattle.archive_desk.specs.declared.importing.Report.{Report}
@@ -69,7 +68,7 @@ abbrev pub IsWithdrawOutOfMemory : WithdrawError → Type 0
 IsWithdrawOutOfMemory (NotImported stop) = IsImportStoreMemoryRefusal stop.fault
 IsWithdrawOutOfMemory (NotWithdrawn report fault) = IsMemoryRefusal fault
 
-module _ {S : Type 0} (g : Ghosts S) (old new : Store S) (it : Withdrawal) where
+module _ {S W : Type 0} (g : Ghosts S W) (old new : S) (it : Withdrawal) where
   -- The import stopped, for its own reasons; or all messages were added, and the machine refuses the withdrawal, or memory or the
   -- database was at fault.
   abbrev pub IsWithdrawError : WithdrawError → Type 0
@@ -85,17 +84,17 @@ module _ {S : Type 0} (g : Ghosts S) (old new : Store S) (it : Withdrawal) where
 module _ {R W : Type 0} (gives : Gives R) (takes : Takes W) where
   -- How two answers end, the second from the store that the first left: what each leaves of the store, that no direction failed where a
   -- reply went out, and the cause of each fault, of 503 and of S3. The replies go by these rules, on this day.
-  pub record EndsTwoAnswers {S : Type 0} (g : Ghosts S) (rules : List Rule) (day : ℤ) (old new : Store S) (first first' second second' : Client R W) (answered : TwoAnswers) : Type 0 where
-    pub store_between : Store S
+  pub record EndsTwoAnswers {S K : Type 0} (g : Ghosts S K) (rules : List Rule) (day : ℤ) (old new : S) (first first' second second' : Client R W) (answered : TwoAnswers) : Type 0 where
+    pub store_between : S
     pub first_ends : EndsAnswer g gives takes old store_between first.input first'.input first.output first'.output answered.first
     pub first_error_cause : ServesOr503 g old store_between answered.first (IsInputDataUnreadable (gives.told first.input) (gives.told first'.input) rules day)
     pub second_ends : EndsAnswer g gives takes store_between new second.input second'.input second.output second'.output answered.second
     pub second_error_cause : ServesOr503 g store_between new answered.second (IsInputDataUnreadable (gives.told second.input) (gives.told second'.input) rules day)
 
   -- How two answers behind a withdrawal end: the store that the withdrawal left, and what `EndsTwoAnswers` says of the answers from there on.
-  pub record EndsAnswersAfterWithdrawal {S : Type 0} (g : Ghosts S) (rules : List Rule) (day : ℤ) (old new : Store S) (it : Withdrawal) (first first' second second' : Client R W)
+  pub record EndsAnswersAfterWithdrawal {S K : Type 0} (g : Ghosts S K) (rules : List Rule) (day : ℤ) (old new : S) (it : Withdrawal) (first first' second second' : Client R W)
       (report : Report) (answered : TwoAnswers) : Type 0 where
-    pub found : Store S
+    pub found : S
     pub withdrawn : RelatesReadyArchives g old found (λ a b. ImportsAndWithdraws it a b report)
     pub ends : EndsTwoAnswers g rules day found new first first' second second' answered
 

@@ -1,16 +1,17 @@
 //! Two questions of a reader, and the same of a store that was closed and opened again.
 ghost use Rattle.std.specs.Prelude.{◌≡◌, None, IfOk, IfErr};
 ghost use Rattle.archive_port.specs.Replies.{refusal_of_fault};
-ghost use Rattle.archive_store.specs.Told.{AnswersFromReadyStore};
+ghost use Rattle.archive_port.specs.Told.{AnswersFromReadyStore};
 ghost use Rattle.archive_desk.specs.Faults.{IsAskFault, ask_reason, refusal_reason};
 ghost use Rattle.example_reopened.specs.Reopening.{AnswersAfterReopen, ShowsMonthAndThreads};
 
 use crate::reopening::reopen;
 use archive_desk::{DeskError, month, threads};
+use archive_port::ArchiveStore;
 use archive_results::{Ask, Line, TreeLine};
 use archive_store::{Store, StoreFault};
 use civil_time::Month;
-use sqlite::{Alter, FileStore, Options};
+use sqlite::{FileStore, Options};
 use sqlite_disk::Disk;
 use std::alloc::Global;
 use thread_core::Threader;
@@ -26,14 +27,14 @@ pub struct MonthAndThreads {
 
 /// Asks for a month and then for the threads: both answers are of one archive. G1 where there is no such list, G2 where there is
 /// no such person; G5 where no memory is left, G4 where the store has none or fails.
-pub fn month_and_threads<S: Alter, T: Threader>(
-    store: &mut Store<S>,
+pub fn month_and_threads<S: ArchiveStore, T: Threader>(
+    store: &mut S,
     alloc: Global,
     ask: &Ask<'_>,
     asked: Month,
     threader: &T,
 ) -> Result<MonthAndThreads, DeskError>
-    ensures listed { AnswersFromReadyStore S.Store store.old store.new refusal_reason result (λ a. ask_reason a ask.now)
+    ensures listed { AnswersFromReadyStore S.ArchiveState store.old store.new refusal_reason result (λ a. ask_reason a ask.now)
         (λ a shown. ShowsMonthAndThreads a ask.now asked shown.month.items shown.threads.items) }
     ensures fault { IfErr result (λ fault. IsAskFault fault) }
 {

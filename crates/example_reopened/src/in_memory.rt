@@ -12,10 +12,11 @@ use crate::withdrawing::{TwoAnswers, WithdrawError, Withdrawal, import_withdraw_
 use archive_desk::Report;
 use archive_desk::laws::{commands_of_a_run_are_well_formed, commands_write_readable_archives};
 use archive_pages::Client;
-use archive_pages::laws::{
-    in_memory_503_means_that_memory_was_refused, in_memory_each_request_leaves_the_store_ready,
-};
 use archive_store::{Command, Store, StoreFault};
+use archive_stored::laws::{
+    an_empty_archive_can_be_read, in_memory_503_means_that_memory_was_refused,
+    in_memory_each_request_leaves_the_store_ready,
+};
 use civil_time::Day;
 use mbox_core::device::{Sink, Source};
 use mbox_core::laws::messages_of_a_division_are_items;
@@ -66,6 +67,7 @@ pub fn import_withdraw_and_answer_in_memory<T: Threader, R: Source, W: Sink>(
     in_memory_503_means_that_memory_was_refused();
     in_memory_each_request_leaves_the_store_ready();
     commands_write_readable_archives();
+    an_empty_archive_can_be_read();
     commands_of_a_run_are_well_formed(commands);
     messages_of_a_division_are_items();
     let mut store = match run_in_memory(alloc, commands) {

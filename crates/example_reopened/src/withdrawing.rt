@@ -1,7 +1,8 @@
 //! An import, a withdrawal behind it, and two requests behind that, over one store.
 ghost use Rattle.std.specs.Prelude.{◌≡◌, IfOk, IfErr};
 ghost use Rattle.archive_pages.specs.Calls.{AnswersClient};
-ghost use Rattle.archive_store.specs.Told.{CountsRefusals, RelatesReadyArchives, StoreHasCleanDisk, HoldsTables, IsReady, archive_in};
+ghost use Rattle.archive_port.specs.Told.{CountsRefusals, RelatesReadyArchives, StoreHasCleanDisk, HoldsTables, IsReady, archive_in};
+ghost use Rattle.archive_store.specs.State.{state_of};
 ghost use Rattle.example_reopened.specs.Withdrawing.{AnswersAfterWithdrawal, EndsAnswersAfterWithdrawal, EndsTwoAnswers, IsWithdrawError, ImportsAndWithdraws, IsWithdrawOutOfMemory};
 
 use archive_desk::{ImportStop, Report, import};
@@ -53,10 +54,10 @@ pub fn import_and_withdraw<S: Alter>(
     alloc: Global,
     withdrawal: &Withdrawal<'_>,
 ) -> Result<Report, WithdrawError>
-    ensures done { IfOk result (λ report. RelatesReadyArchives S.Store store.old store.new
+    ensures done { IfOk result (λ report. RelatesReadyArchives (state_of S.Store) store.old store.new
         (λ a b. ImportsAndWithdraws withdrawal.now a b report)) }
-    ensures stopped { IfErr result (λ stop. IsWithdrawError S.Store store.old store.new withdrawal.now stop) }
-    ensures counted { CountsRefusals IsWithdrawOutOfMemory store.old store.new result }
+    ensures stopped { IfErr result (λ stop. IsWithdrawError (state_of S.Store) store.old store.new withdrawal.now stop) }
+    ensures counted { CountsRefusals (state_of S.Store) IsWithdrawOutOfMemory store.old store.new result }
 {
     a_withdrawn_message_might_never_have_arrived();
     let report = match import(store, alloc, withdrawal.list, withdrawal.mbox) {
@@ -80,11 +81,11 @@ pub(crate) fn answer_both<S: Alter, T: Threader, R: Source, W: Sink>(
     first: &mut Client<R, W>,
     second: &mut Client<R, W>,
 ) -> TwoAnswers
-    ensures first { StoreHasCleanDisk S.Store store.new → HoldsTables S.Store store.old
-        → AnswersClient R.Source W.Sink (archive_in S.Store store.old) policy.now day first.old first.new result.first }
-    ensures second { StoreHasCleanDisk S.Store store.new → HoldsTables S.Store store.old
-        → AnswersClient R.Source W.Sink (archive_in S.Store store.old) policy.now day second.old second.new result.second }
-    ensures ends { EndsTwoAnswers R.Source W.Sink S.Store policy.now day store.old store.new
+    ensures first { StoreHasCleanDisk (state_of S.Store) store.new → HoldsTables (state_of S.Store) store.old
+        → AnswersClient R.Source W.Sink (archive_in (state_of S.Store) store.old) policy.now day first.old first.new result.first }
+    ensures second { StoreHasCleanDisk (state_of S.Store) store.new → HoldsTables (state_of S.Store) store.old
+        → AnswersClient R.Source W.Sink (archive_in (state_of S.Store) store.old) policy.now day second.old second.new result.second }
+    ensures ends { EndsTwoAnswers R.Source W.Sink (state_of S.Store) policy.now day store.old store.new
         first.old first.new second.old second.new result }
 {
     let one = answer(
@@ -124,15 +125,15 @@ pub fn import_withdraw_and_answer<S: Alter, T: Threader, R: Source, W: Sink>(
     first: &mut Client<R, W>,
     second: &mut Client<R, W>,
 ) -> Result<(Report, TwoAnswers), WithdrawError>
-    ensures answered { IfOk result (λ told. StoreHasCleanDisk S.Store store.new
-        → IsReady S.Store store.old
-        → AnswersAfterWithdrawal R.Source W.Sink withdrawal.now policy.now day (archive_in S.Store store.old)
+    ensures answered { IfOk result (λ told. StoreHasCleanDisk (state_of S.Store) store.new
+        → IsReady (state_of S.Store) store.old
+        → AnswersAfterWithdrawal R.Source W.Sink withdrawal.now policy.now day (archive_in (state_of S.Store) store.old)
         first.old first.new second.old second.new told.0 told.1) }
-    ensures ends { IfOk result (λ told. EndsAnswersAfterWithdrawal R.Source W.Sink S.Store policy.now day
+    ensures ends { IfOk result (λ told. EndsAnswersAfterWithdrawal R.Source W.Sink (state_of S.Store) policy.now day
         store.old store.new withdrawal.now first.old first.new second.old second.new told.0 told.1) }
-    ensures stopped { IfErr result (λ stop. IsWithdrawError S.Store store.old store.new withdrawal.now stop
+    ensures stopped { IfErr result (λ stop. IsWithdrawError (state_of S.Store) store.old store.new withdrawal.now stop
         × (first.new ≡ first.old) × (second.new ≡ second.old)) }
-    ensures counted { CountsRefusals IsWithdrawOutOfMemory store.old store.new result }
+    ensures counted { CountsRefusals (state_of S.Store) IsWithdrawOutOfMemory store.old store.new result }
 {
     let report = import_and_withdraw(store, alloc, withdrawal)?;
     let answered = answer_both(store, alloc, policy, threader, day, first, second);

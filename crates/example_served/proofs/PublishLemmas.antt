@@ -7,7 +7,7 @@ use Rattle.archive_model.specs.Commands.{Command, CommandReply, done, was_there,
 use Rattle.archive_model.specs.Keys.{is_key}
 use Rattle.archive_model.specs.Machine.{refuse, step}
 use Rattle.archive_model.specs.Sound.{IsIndexedCorrectly}
-use Rattle.archive_store.specs.Told.{StoreHasCleanDisk}
+use Rattle.archive_port.specs.Told.{StoreHasCleanDisk}
 use Rattle.archive_args.specs.Orders.{IsOrderStopOf}
 use Rattle.archive_args.specs.Values.{withdraw}
 use Rattle.archive_args.specs.declared.orders.Order.{Order}
@@ -46,11 +46,11 @@ withdrawn_so list key by a b answer same told =
 
 -- ---- three orders
 
-module _ {Y S F D C P T R O E I L K A B M : Type 0} (dev : DeviceContracts S F I D C P L T R O E) where
+module _ {Y S F D C P T R O E W I L K A B M : Type 0} (dev : DeviceContracts S W F I D C P L T R O E) where
   -- what the first two make of an archive
-  pub archive_made : (old first second new : Environment Y S F D C P T R O E I L K A B M) (it : Publishing)
+  pub archive_made : (old first second new : Environment Y S F D C P T R O E W I L K A B M) (it : Publishing)
       (taken : RunsOrderOnArchive dev old first (Import (import_args_of it))) (outcome : RunsOrderOnArchive dev first second (Table (withdraw_args_of it)))
-      → StoreHasCleanDisk dev.pages taken.2.store_after → StoreHasCleanDisk dev.pages outcome.2.store_after
+      → StoreHasCleanDisk dev.archive taken.2.store_after → StoreHasCleanDisk dev.archive outcome.2.store_after
       → (before : Archive) → dev.databases.holds old.databases it.file before → IsIndexedCorrectly before
       → (archive : Archive) × MakesPublishedArchive dev old new it before archive × dev.databases.holds second.databases it.file archive
   archive_made old first second new it taken outcome returned_first returned_second before held right =
@@ -66,7 +66,7 @@ module _ {Y S F D C P T R O E I L K A B M : Type 0} (dev : DeviceContracts S F I
         two.3,
       )
 
-  pub published : (old first second new : Environment Y S F D C P T R O E I L K A B M) (it : Publishing)
+  pub published : (old first second new : Environment Y S F D C P T R O E W I L K A B M) (it : Publishing)
       → RunsOrder dev old first (Import (import_args_of it)) (Ok tt) → RunsOrderOnArchive dev old first (Import (import_args_of it))
       → RunsOrder dev first second (Table (withdraw_args_of it)) (Ok tt) → RunsOrderOnArchive dev first second (Table (withdraw_args_of it))
       → RunsOrder dev second new (Serve (serve_args_of it)) (Ok tt) → RunsOrderOnArchive dev second new (Serve (serve_args_of it)) → ImportsWithdrawsAndServes dev old new it
@@ -74,9 +74,9 @@ module _ {Y S F D C P T R O E I L K A B M : Type 0} (dev : DeviceContracts S F I
       let same_first : first ≡ record old { databases = first.databases; output = first.output } = ran_first.2.1 in
       let same_second : second ≡ record first { databases = second.databases; output = second.output } = ran_second.2.1 in
       let files : second.files ≡ old.files =
-      ap (λ (w : Environment Y S F D C P T R O E I L K A B M). w.files) same_second ∙ ap (λ (w : Environment Y S F D C P T R O E I L K A B M). w.files) same_first in
+      ap (λ (w : Environment Y S F D C P T R O E W I L K A B M). w.files) same_second ∙ ap (λ (w : Environment Y S F D C P T R O E W I L K A B M). w.files) same_first in
       let clock : second.clock ≡ old.clock =
-      ap (λ (w : Environment Y S F D C P T R O E I L K A B M). w.clock) same_second ∙ ap (λ (w : Environment Y S F D C P T R O E I L K A B M). w.clock) same_first in
+      ap (λ (w : Environment Y S F D C P T R O E W I L K A B M). w.clock) same_second ∙ ap (λ (w : Environment Y S F D C P T R O E W I L K A B M). w.clock) same_first in
       record {
         after_import = first;
         after_withdrawal = second;
@@ -93,7 +93,7 @@ module _ {Y S F D C P T R O E I L K A B M : Type 0} (dev : DeviceContracts S F I
 
   -- ---- an order that was not carried out
 
-  pub not_done : (old new : Environment Y S F D C P T R O E I L K A B M) (words : List (List ℕ)) (status : ℕ) → status ≢ 0
+  pub not_done : (old new : Environment Y S F D C P T R O E W I L K A B M) (words : List (List ℕ)) (status : ℕ) → status ≢ 0
       → ((order : Order) → ParseAsOrder words order → status ≡ 1 → OrderIsRefused dev old new order)
       → ((order : Order) × ParseAsOrder words order × (status ≤ 1)) ⊎ ((stop : OrderStop) × IsOrderStopOf words stop × RunReportsOrderStop dev old new stop status)
       → CommandLineFails dev old new words status
@@ -103,7 +103,7 @@ module _ {Y S F D C P T R O E I L K A B M : Type 0} (dev : DeviceContracts S F I
 
   -- ---- and one that was
 
-  pub is_done : (old new : Environment Y S F D C P T R O E I L K A B M) (words : List (List ℕ)) (status : ℕ) → status ≡ 0
+  pub is_done : (old new : Environment Y S F D C P T R O E W I L K A B M) (words : List (List ℕ)) (status : ℕ) → status ≡ 0
       → ((order : Order) → ParseAsOrder words order → status ≡ 0 → OrderIsCarriedOut dev old new order)
       → ((order : Order) × ParseAsOrder words order × (status ≤ 1)) ⊎ ((stop : OrderStop) × IsOrderStopOf words stop × RunReportsOrderStop dev old new stop status)
       → CommandLineSucceeds dev old new words

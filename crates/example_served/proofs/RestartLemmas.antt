@@ -2,7 +2,7 @@
 use Rattle.std.proofs.Common.{◌≡◌, ◌≢◌, ◌<◌, ◌∙◌, inl, inr, ap, subst, sym, refl, ℕ, ℤ, false, List, [], ◌∷◌, Ok}
 use Rattle.std.specs.List.{AllByRecursion}
 use Rattle.std.proofs.lemmas.List.Elements.{All-nil}
-use Rattle.sqlite.specs.Store.{Ghosts}
+use Rattle.archive_port.specs.declared.state.ArchiveState.{Ghosts}
 use Rattle.policy_core.specs.Numbers.{withdrawn_by_number}
 use Rattle.policy_core.specs.Rules.{Rule}
 use Rattle.policy_core.specs.declared.access.Withdrawn.{Withdrawn}
@@ -15,7 +15,6 @@ use Rattle.archive_model.specs.Lasting.{ends_withdrawal}
 use Rattle.archive_model.specs.Machine.{StepOutcome, step}
 use Rattle.archive_model.specs.Messages.{withdrawal_number}
 use Rattle.archive_model.specs.Runs.{run}
-use Rattle.archive_store.specs.declared.store.Store.{Store as Open}
 use Rattle.archive_results.specs.Promise.{DeniesWithdrawnBy}
 use Rattle.archive_pages.specs.Laws.{IsHiddenInReplies, StaysAsIfItNeverCame}
 use Rattle.archive_listen.specs.Connections.{ConnectionResult, Exchange}
@@ -64,9 +63,9 @@ hidden stays list key by before archive made =
 
 -- ---- what went to each client
 
-module _ {S : Type 0} (g : Ghosts S) (by : Withdrawn) (archive : Archive) (rules : List Rule) (day : ℤ) (list key : List ℕ) (reaches : HiddenMessageReachesNoPeer)
-    (hides : IsHiddenInReplies (DeniesWithdrawnBy by) archive list key) (first : Open S) where
-  each_hides : (old new : Open S) (outcomes : List ConnectionResult) (all : List Exchange) → ExchangesAreAnsweredWithCause g archive rules day first old new outcomes all
+module _ {S W : Type 0} (g : Ghosts S W) (by : Withdrawn) (archive : Archive) (rules : List Rule) (day : ℤ) (list key : List ℕ) (reaches : HiddenMessageReachesNoPeer)
+    (hides : IsHiddenInReplies (DeniesWithdrawnBy by) archive list key) (first : S) where
+  each_hides : (old new : S) (outcomes : List ConnectionResult) (all : List Exchange) → ExchangesAreAnsweredWithCause g archive rules day first old new outcomes all
       → AllByRecursion (HidesMessageFromClient by archive rules day list key) all
   each_hides old new [] [] it = tt
   each_hides old new [] (over ∷ others) it = absurd it
@@ -77,16 +76,16 @@ module _ {S : Type 0} (g : Ghosts S) (by : Withdrawn) (archive : Archive) (rules
   )
   each_hides old new (outcome ∷ outcomes) (over ∷ others) (inr (gone, rest)) = each_hides old new outcomes (over ∷ others) rest
 
-module _ {Y S F D C P T R O E I L K A B M : Type 0} (dev : DeviceContracts S F I D C P L T R O E) (reaches : HiddenMessageReachesNoPeer) where
+module _ {Y S F D C P T R O E W I L K A B M : Type 0} (dev : DeviceContracts S W F I D C P L T R O E) (reaches : HiddenMessageReachesNoPeer) where
   module _ (by : Withdrawn) (archive : Archive) (list key : List ℕ) (hides : IsHiddenInReplies (DeniesWithdrawnBy by) archive list key) where
-    answers_and_hides : (old new : Environment Y S F D C P T R O E I L K A B M) (order : ServeValues) (Count : ℕ → Type 0) (served : HasServed dev old new order Count)
+    answers_and_hides : (old new : Environment Y S F D C P T R O E W I L K A B M) (order : ServeValues) (Count : ℕ → Type 0) (served : HasServed dev old new order Count)
         → AnswersConnectionsFrom dev old new archive served → AnswersAndHidesMessage dev by archive list key old new served
     answers_and_hides old new order Count served it = record {
       answers_from_archive = it;
-      hides_message = each_hides dev.pages by archive served.rules served.day list key reaches hides served.store served.store served.later served.outcomes served.exchanges it;
+      hides_message = each_hides dev.archive by archive served.rules served.day list key reaches hides served.store served.store served.later served.outcomes served.exchanges it;
     }
 
-    server_hides : (old new : Environment Y S F D C P T R O E I L K A B M) (order : ServeValues) (status : ℕ) (ends : ServerEnds dev old new order status)
+    server_hides : (old new : Environment Y S F D C P T R O E W I L K A B M) (order : ServeValues) (status : ℕ) (ends : ServerEnds dev old new order status)
         → IsTrustedServer dev old new order status ends → dev.databases.holds old.databases order.file archive
         → ServerHidesMessage dev by archive list key old new order status ends
     server_hides old new order status (inl (none, carried_out)) clean held =
@@ -97,9 +96,9 @@ module _ {Y S F D C P T R O E I L K A B M : Type 0} (dev : DeviceContracts S F I
 
   -- ---- four runs
 
-  pub published_over_restarts : (stays : StaysAsIfItNeverCame) (opens : OpenedStoreHoldsArchive dev.pages dev.databases) (closes : ClosedDatabaseHoldsArchive dev.pages dev.databases)
+  pub published_over_restarts : (stays : StaysAsIfItNeverCame) (opens : OpenedStoreHoldsArchive dev.archive dev.databases) (closes : ClosedDatabaseHoldsArchive dev.archive dev.databases)
       (unopened_holds : UnopenedDatabaseHoldsArchive dev.databases)
-      → (old one two between new : Environment Y S F D C P T R O E I L K A B M) (it : RestartedPublishing) (first second : ℕ)
+      → (old one two between new : Environment Y S F D C P T R O E W I L K A B M) (it : RestartedPublishing) (first second : ℕ)
       → RunsOrder dev old one (Import (import_args_of it.publishing)) (Ok tt) → RunsOrderOnArchive dev old one (Import (import_args_of it.publishing))
       → RunsOrder dev one two (Table (withdraw_args_of it.publishing)) (Ok tt) → RunsOrderOnArchive dev one two (Table (withdraw_args_of it.publishing))
       → between.files ≡ two.files → ServerEnds dev two between (serve_args_of it.publishing) first → ServerEnds dev between new (second_serve_args_of it) second
@@ -116,7 +115,7 @@ module _ {Y S F D C P T R O E I L K A B M : Type 0} (dev : DeviceContracts S F I
         withdraws = outcome;
         first_ends = ends_first;
         second_ends = ends_second;
-        leaves_devices = same_two ∙ ap (λ (w : Environment Y S F D C P T R O E I L K A B M). record w { databases = two.databases; output = two.output }) same_one;
+        leaves_devices = same_two ∙ ap (λ (w : Environment Y S F D C P T R O E W I L K A B M). record w { databases = two.databases; output = two.output }) same_one;
         leaves_files = files;
         hides_in_both = λ clean_one clean_two trusted_first up_first trusted_second before held right.
             let made = archive_made dev old one two new it.publishing taken outcome clean_one clean_two before held right in

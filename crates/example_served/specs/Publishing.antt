@@ -6,7 +6,7 @@ use Rattle.archive_model.specs.Records.{Archive}
 use Rattle.archive_model.specs.Commands.{done, withdraw as withdrawal}
 use Rattle.archive_model.specs.Machine.{step}
 use Rattle.archive_model.specs.Sound.{IsIndexedCorrectly}
-use Rattle.archive_store.specs.Told.{StoreHasCleanDisk, IsOpen}
+use Rattle.archive_port.specs.Told.{StoreHasCleanDisk, IsOpen}
 use Rattle.archive_desk.specs.Importing.{IsImported}
 use Rattle.archive_desk.specs.declared.importing.Report.{Report}
 use Rattle.archive_serve.specs.Runs.{ExchangesAreAnsweredWithCause}
@@ -52,10 +52,10 @@ pub record AreCommandLinesOf (first second third : List (List ℕ)) (it : Publis
   pub withdraws : ParseAsOrder second (Table (withdraw_args_of it))
   pub serves : ParseAsOrder third (Serve (serve_args_of it))
 
-module _ {Y S F D C P T R O E I L K A B M : Type 0} (dev : DeviceContracts S F I D C P L T R O E) where
+module _ {Y S F D C P T R O E W I L K A B M : Type 0} (dev : DeviceContracts S W F I D C P L T R O E) where
   -- ---- the theorem
 
-  module _ (old new : Environment Y S F D C P T R O E I L K A B M) (it : Publishing) where
+  module _ (old new : Environment Y S F D C P T R O E W I L K A B M) (it : Publishing) where
     -- What the import and the withdrawal make of an archive, by the machine's own functions: the messages of the mbox were added to the
     -- list one after the other, and then this one was withdrawn.
     pub record MakesPublishedArchive (before after : Archive) : Type 0 where
@@ -72,34 +72,34 @@ module _ {Y S F D C P T R O E I L K A B M : Type 0} (dev : DeviceContracts S F I
     -- begin with, or 503, or a beginning of it; each 503 and each mbox that broke off has its cause; and the database holds this archive
     -- behind it all, unless a fault of the disk had shut it.
     pub record ImportsWithdrawsAndServes : Type 0 where
-      pub after_import : Environment Y S F D C P T R O E I L K A B M
-      pub after_withdrawal : Environment Y S F D C P T R O E I L K A B M
+      pub after_import : Environment Y S F D C P T R O E W I L K A B M
+      pub after_withdrawal : Environment Y S F D C P T R O E W I L K A B M
       pub imports : HasImportedMbox dev old after_import (import_args_of it)
       pub withdraws : HasRunStoreCommand dev after_import after_withdrawal (withdraw_args_of it)
       pub runs_serve : RunsOrder dev after_withdrawal new (Serve (serve_args_of it)) (Ok tt)
       pub serves_all : HasServedAll dev after_withdrawal new (serve_args_of it)
       pub rules_are_of_policy : AreRulesOfPolicyFile dev.gives old.files (Some it.policy) serves_all.rules
       pub day_is : IsReadingDay dev.clock it.day true old.clock serves_all.clock (Some serves_all.day)
-      pub served_from_one_archive : StoreHasCleanDisk dev.pages imports.2.store_after → StoreHasCleanDisk dev.pages withdraws.2.store_after → StoreHasCleanDisk dev.pages serves_all.later
+      pub served_from_one_archive : StoreHasCleanDisk dev.archive imports.2.store_after → StoreHasCleanDisk dev.archive withdraws.2.store_after → StoreHasCleanDisk dev.archive serves_all.later
           → (before : Archive) → dev.databases.holds old.databases it.file before → IsIndexedCorrectly before
           → (archive : Archive) × MakesPublishedArchive before archive
-          × ExchangesAreAnsweredWithCause dev.pages archive serves_all.rules serves_all.day serves_all.store serves_all.store serves_all.later serves_all.outcomes serves_all.exchanges
-          × (IsOpen dev.pages serves_all.later → dev.databases.holds new.databases it.file archive)
+          × ExchangesAreAnsweredWithCause dev.archive archive serves_all.rules serves_all.day serves_all.store serves_all.store serves_all.later serves_all.outcomes serves_all.exchanges
+          × (IsOpen dev.archive serves_all.later → dev.databases.holds new.databases it.file archive)
 
   -- ---- where one of them was not carried out
 
   -- What these words order was carried out; or they order nothing, which ends with 0 where they ask for help, or for the version.
-  abbrev pub CommandLineSucceeds : (old new : Environment Y S F D C P T R O E I L K A B M) → (words : List (List ℕ)) → Type 0
+  abbrev pub CommandLineSucceeds : (old new : Environment Y S F D C P T R O E W I L K A B M) → (words : List (List ℕ)) → Type 0
   CommandLineSucceeds old new words = ((order : Order) × ParseAsOrder words order × RunsOrder dev old new order (Ok tt))
       ⊎ ((stop : OrderStop) × IsOrderStopOf words stop × RunReportsOrderStop dev old new stop 0)
 
   -- What these words order was refused, at 1, for a reason that holds; or they order nothing, which has a cause.
-  abbrev pub CommandLineFails : (old new : Environment Y S F D C P T R O E I L K A B M) → (words : List (List ℕ)) → (status : ℕ) → Type 0
+  abbrev pub CommandLineFails : (old new : Environment Y S F D C P T R O E W I L K A B M) → (words : List (List ℕ)) → (status : ℕ) → Type 0
   CommandLineFails old new words status = ((order : Order) × ParseAsOrder words order × (status ≡ 1) × OrderIsRefused dev old new order)
       ⊎ ((stop : OrderStop) × IsOrderStopOf words stop × RunReportsOrderStop dev old new stop status)
 
   -- The first of these words that were not carried out ended with this status, behind those that were; nothing else was begun.
-  abbrev pub StopsAtFirstFailure : (old new : Environment Y S F D C P T R O E I L K A B M) → List (List (List ℕ)) → (status : ℕ) → Type 0
+  abbrev pub StopsAtFirstFailure : (old new : Environment Y S F D C P T R O E W I L K A B M) → List (List (List ℕ)) → (status : ℕ) → Type 0
   StopsAtFirstFailure old new [] status = ⊥
   StopsAtFirstFailure old new (words ∷ others) status = CommandLineFails old new words status
-      ⊎ ((between : Environment Y S F D C P T R O E I L K A B M) × CommandLineSucceeds old between words × StopsAtFirstFailure between new others status)
+      ⊎ ((between : Environment Y S F D C P T R O E W I L K A B M) × CommandLineSucceeds old between words × StopsAtFirstFailure between new others status)

@@ -18,13 +18,13 @@ pub fn import_withdraw_and_serve<Y: Platform>(
     // Where they order an import, a withdrawal and a server over one database: it is all of one archive.
     ensures published { result ≡ 0 → (it : Publishing)
         → AreCommandLinesOf (map (λ w. w.now) import.now) (map (λ w. w.now) withdrawal.now) (map (λ w. w.now) service.now) it
-        → ImportsWithdrawsAndServes (devices Y.Storage.Store Y.Files.ReadFiles Y.Files.StreamedFiles Y.Files.Input.Source Y.Databases.Databases Y.Clock.DayClock
+        → ImportsWithdrawsAndServes (devices Y.Archive.ArchiveState Y.Files.ReadFiles Y.Files.StreamedFiles Y.Files.Input.Source Y.Databases.Databases Y.Clock.DayClock
         Y.Ports.listens Y.Ports.Listener.accepts Y.Ports.Listener.closes Y.Ports.Listener.over Y.Ports.went Y.Threaders.makes Y.Input.Source Y.Output.Sink Y.Output.BufferedSink.own Y.Faults.Sink)
         world.old world.new it }
 
     // Whatever they order: at another status one of them was refused, or orders nothing.
     ensures stopped { result ≢ 0
-        → StopsAtFirstFailure (devices Y.Storage.Store Y.Files.ReadFiles Y.Files.StreamedFiles Y.Files.Input.Source Y.Databases.Databases Y.Clock.DayClock
+        → StopsAtFirstFailure (devices Y.Archive.ArchiveState Y.Files.ReadFiles Y.Files.StreamedFiles Y.Files.Input.Source Y.Databases.Databases Y.Clock.DayClock
         Y.Ports.listens Y.Ports.Listener.accepts Y.Ports.Listener.closes Y.Ports.Listener.over Y.Ports.went Y.Threaders.makes Y.Input.Source Y.Output.Sink Y.Output.BufferedSink.own Y.Faults.Sink)
         world.old world.new
         (map (λ w. w.now) import.now ∷ map (λ w. w.now) withdrawal.now ∷ map (λ w. w.now) service.now ∷ []) result }

@@ -32,20 +32,20 @@ pub fn publish_over_restarts<Y: Platform>(
     ensures published { IfOk result (λ statuses. (it : RestartedPublishing)
         → AreRestartedCommandLinesOf (map (λ w. w.now) import.now) (map (λ w. w.now) withdrawal.now)
         (map (λ w. w.now) first_service.now) (map (λ w. w.now) second_service.now) it
-        → PublishesOverRestarts (devices Y.Storage.Store Y.Files.ReadFiles Y.Files.StreamedFiles Y.Files.Input.Source Y.Databases.Databases Y.Clock.DayClock
+        → PublishesOverRestarts (devices Y.Archive.ArchiveState Y.Files.ReadFiles Y.Files.StreamedFiles Y.Files.Input.Source Y.Databases.Databases Y.Clock.DayClock
         Y.Ports.listens Y.Ports.Listener.accepts Y.Ports.Listener.closes Y.Ports.Listener.over Y.Ports.went Y.Threaders.makes Y.Input.Source Y.Output.Sink Y.Output.BufferedSink.own Y.Faults.Sink)
         world.old world.new it statuses.first statuses.second) }
 
     // Whatever they order: each of the last two ended with its status, after two that were carried out.
     ensures ended { IfOk result (λ statuses.
-        TwoSucceedAndTwoEnd (devices Y.Storage.Store Y.Files.ReadFiles Y.Files.StreamedFiles Y.Files.Input.Source Y.Databases.Databases Y.Clock.DayClock
+        TwoSucceedAndTwoEnd (devices Y.Archive.ArchiveState Y.Files.ReadFiles Y.Files.StreamedFiles Y.Files.Input.Source Y.Databases.Databases Y.Clock.DayClock
         Y.Ports.listens Y.Ports.Listener.accepts Y.Ports.Listener.closes Y.Ports.Listener.over Y.Ports.went Y.Threaders.makes Y.Input.Source Y.Output.Sink Y.Output.BufferedSink.own Y.Faults.Sink)
         world.old world.new (map (λ w. w.now) import.now) (map (λ w. w.now) withdrawal.now)
         (map (λ w. w.now) first_service.now) (map (λ w. w.now) second_service.now) statuses.first statuses.second) }
 
     // Else one of the first two was refused, or orders nothing, and nothing was begun after it.
     ensures stopped { IfErr result (λ status. (status ≢ 0)
-        × StopsAtFirstFailure (devices Y.Storage.Store Y.Files.ReadFiles Y.Files.StreamedFiles Y.Files.Input.Source Y.Databases.Databases Y.Clock.DayClock
+        × StopsAtFirstFailure (devices Y.Archive.ArchiveState Y.Files.ReadFiles Y.Files.StreamedFiles Y.Files.Input.Source Y.Databases.Databases Y.Clock.DayClock
         Y.Ports.listens Y.Ports.Listener.accepts Y.Ports.Listener.closes Y.Ports.Listener.over Y.Ports.went Y.Threaders.makes Y.Input.Source Y.Output.Sink Y.Output.BufferedSink.own Y.Faults.Sink)
         world.old world.new (map (λ w. w.now) import.now ∷ map (λ w. w.now) withdrawal.now ∷ []) status) }
 {

@@ -8,12 +8,13 @@ use crate::short_files::FailingFiles;
 use archive_listen::{
     AcceptError, BoundListener, Connection, ListenError, Listener, Ports, ROOM, WriteBuffer,
 };
-use archive_run::{Platform, Threaders};
+use archive_run::{Databases, Platform, Threaders};
+use archive_store::Store;
 use civil_time::Day;
 use http_server::Log;
 use mbox_core::device::Tap;
 use sift_run::DayClock;
-use sqlite::FileStore;
+use sqlite::{Alter, FileStore};
 use sqlite_disk::Memory;
 use std::alloc::AllocGlobal;
 use std::marker::PhantomData;
@@ -113,17 +114,39 @@ impl Ports for NoPorts {
     }
 }
 
-/// The kinds of devices that the runs are over.
-pub struct TestPlatform<'a, RT> {
-    of: PhantomData<&'a RT>,
+/// Databases that hold what the stores which were opened from them remembered when they were closed. `T` is what a store's pages lie in.
+pub trait TestedDatabases<T: Alter>: Databases<Store<T>> {
+    ghost use Rattle.archive_run.specs.Remembering.{ClosedDatabaseHoldsArchive, OpenedStoreHoldsArchive, UnopenedDatabaseHoldsArchive};
+    ghost use Rattle.archive_store.specs.State.{state_of};
+
+    ghost opens_held: { OpenedStoreHoldsArchive (state_of T.Store) Self.Databases };
+
+    ghost closes_held: { ClosedDatabaseHoldsArchive (state_of T.Store) Self.Databases };
+
+    ghost unopened_held: { UnopenedDatabaseHoldsArchive Self.Databases };
 }
 
-impl<'a, RT: Files + AllocGlobal> Platform for TestPlatform<'a, RT> {
-    type Storage = FileStore<Memory>;
+// Of these it is not said what they hold.
+impl TestedDatabases<FileStore<Memory>> for TestDatabases {
+    ghost opens_held = { λ old new file store archive held. absurd held };
+
+    ghost closes_held = { λ old device new file before after archive held. absurd held };
+
+    ghost unopened_held = { λ old new file fault archive held. absurd held };
+}
+
+/// The kinds of devices that the runs are over, with databases `B` whose pages lie in `T`.
+pub struct TestPlatform<'a, RT, T, B> {
+    of: PhantomData<(&'a RT, T, B)>,
+}
+
+impl<'a, RT: Files + AllocGlobal, T: Alter + Drop, B: TestedDatabases<T> + Drop> Platform
+    for TestPlatform<'a, RT, T, B> {
+    type Archive = Store<T>;
 
     type Files = FailingFiles<'a, RT>;
 
-    type Databases = TestDatabases;
+    type Databases = B;
 
     type Clock = FixedClock;
 
@@ -137,9 +160,9 @@ impl<'a, RT: Files + AllocGlobal> Platform for TestPlatform<'a, RT> {
 
     type Faults = Tap;
 
-    ghost opens_held = { λ old new file store archive held. absurd held };
+    ghost opens_held = { B.opens_held };
 
-    ghost closes_held = { λ old device new file before after archive held. absurd held };
+    ghost closes_held = { B.closes_held };
 
-    ghost unopened_held = { λ old new file fault archive held. absurd held };
+    ghost unopened_held = { B.unopened_held };
 }

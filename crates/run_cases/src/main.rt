@@ -25,11 +25,13 @@ use anyhow::{Context, bail};
 use archive_listen::{BufferedSink, WriteBuffer};
 use archive_run::{Environment, run};
 use civil_time::Day;
-use devices::{FixedClock, NoPorts, NoThreaders, TestPlatform};
+use devices::{FixedClock, NoPorts, NoThreaders, TestPlatform, TestedDatabases};
 use mbox_core::device::{Counted, Tap, read_all, write_bytes};
 use shelf::TestDatabases;
 use short_files::FailingFiles;
 use sift_run::SystemFiles;
+use sqlite::{Alter, FileStore};
+use sqlite_disk::Memory;
 use std::alloc::{AllocError, AllocGlobal, Global};
 use std::rt::Files;
 use std::{fs, io, mem};
@@ -60,6 +62,54 @@ struct Wrote {
     bytes: usize,
 }
 
+/// What a run reads and writes.
+#[derive(Drop)]
+struct Streams {
+    input: Tap,
+    output: Tap,
+    faults: Tap,
+}
+
+/// A run over these devices: the databases as it left them, and what came of it.
+fn run_over<'a, RT: Files + AllocGlobal, T: Alter + Drop, B: TestedDatabases<T> + Drop>(
+    alloc: Global,
+    words: &[&str],
+    databases: B,
+    files: FailingFiles<'a, RT>,
+    clock: FixedClock,
+    streams: Streams,
+) -> (B, Ran) {
+    let Streams {
+        input,
+        output,
+        faults,
+    } = streams;
+    let mut world: Environment<TestPlatform<'a, RT, T, B>> = Environment {
+        files,
+        databases,
+        clock,
+        ports: NoPorts::new(),
+        threaders: NoThreaders,
+        input,
+        output: WriteBuffer::new(output),
+        faults,
+    };
+    let status = run(alloc, &mut world, words);
+    let _ = world.output.flush();
+    let Environment {
+        databases,
+        output,
+        faults,
+        ..
+    } = world;
+    let ran = Ran {
+        status,
+        output: output.into_inner(),
+        faults,
+    };
+    (databases, ran)
+}
+
 impl Stage {
     /// A run over an input and an mbox that pass `passes` bytes, and an output that passes `room`.
     fn run<RT: Files + AllocGlobal>(
@@ -70,37 +120,27 @@ impl Stage {
         room: usize,
     ) -> anyhow::Result<Ran> {
         let alloc = rt.alloc();
-        let input = Tap::new(alloc, &self.input, passes)?;
-        let output = WriteBuffer::new(Tap::new(alloc, b"", room)?);
-        let faults = Tap::new(alloc, b"", ROOM)?;
-        let databases = mem::replace(&mut self.databases, TestDatabases::new(alloc));
-        let mut world: Environment<TestPlatform<'_, RT>> = Environment {
-            files: FailingFiles {
-                files: SystemFiles { rt },
-                passes,
-            },
-            databases,
-            clock: FixedClock(self.today),
-            ports: NoPorts::new(),
-            threaders: NoThreaders,
-            input,
-            output,
-            faults,
+        let streams = Streams {
+            input: Tap::new(alloc, &self.input, passes)?,
+            output: Tap::new(alloc, b"", room)?,
+            faults: Tap::new(alloc, b"", ROOM)?,
         };
-        let status = run(alloc, &mut world, words);
-        let _ = world.output.flush();
-        let Environment {
+        let databases = mem::replace(&mut self.databases, TestDatabases::new(alloc));
+        let files = FailingFiles {
+            files: SystemFiles { rt },
+            passes,
+        };
+        let clock = FixedClock(self.today);
+        let (databases, ran) = run_over::<RT, FileStore<Memory>, _>(
+            rt.alloc(),
+            words,
             databases,
-            output,
-            faults,
-            ..
-        } = world;
+            files,
+            clock,
+            streams,
+        );
         self.databases = databases;
-        Ok(Ran {
-            status,
-            output: output.into_inner(),
-            faults,
-        })
+        Ok(ran)
     }
 
     /// The runs whose input fails, after each number of bytes, that wrote a beginning of what the whole run writes and said

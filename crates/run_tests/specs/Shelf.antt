@@ -13,6 +13,7 @@ use Rattle.archive_store.specs.Adopting.{IsAdopted, IsNotAdopted}
 use Rattle.archive_store.specs.Held.{store_connection}
 use Rattle.archive_store.specs.Told.{HasNoStepLimit, HoldsTables, archive_in}
 use Rattle.archive_store.specs.declared.adopting.AdoptStop.{AdoptStop}
+use Rattle.archive_store.specs.State.{state_of}
 use Rattle.archive_store.specs.declared.store.Store.{Store}
 use Rattle.archive_run.specs.Remembering.{StoreHoldsArchive}
 
@@ -23,7 +24,7 @@ KeptDatabaseHoldsArchive kept archive = MatchOption kept (archive ≡ empty_arch
 
 -- What is opened is the database that was kept, whose connection was taken over again; or an empty one if there was none.
 abbrev pub OpensKeptOrEmptyDatabase : Option (Held MemStore) → Store MemStore → Type 0
-OpensKeptOrEmptyDatabase kept store = MatchOption kept (StoreHoldsArchive over_memory store empty_archive × HasNoStepLimit over_memory store)
+OpensKeptOrEmptyDatabase kept store = MatchOption kept (StoreHoldsArchive (state_of over_memory) store empty_archive × HasNoStepLimit over_memory store)
     (λ was. IsAdopted over_memory was store)
 
 -- Nothing was opened: the same is kept, or the connection that was not taken over.
@@ -34,7 +35,7 @@ KeepsUnopenedDatabase kept left =
 -- ---- the laws of the shelf
 
 pub reopened_test_store_remembers : (kept : Option (Held MemStore)) (store : Store MemStore) (archive : Archive) → KeptDatabaseHoldsArchive kept archive → OpensKeptOrEmptyDatabase kept store
-    → StoreHoldsArchive over_memory store archive × HasNoStepLimit over_memory store
+    → StoreHoldsArchive (state_of over_memory) store archive × HasNoStepLimit over_memory store
 reopened_test_store_remembers None store archive empty made = (λ returned. (let it = made.0 returned in (it.0, it.1 ∙ sym empty)), made.1)
 reopened_test_store_remembers (Some was) store archive remembers adopted = (
   λ returned.

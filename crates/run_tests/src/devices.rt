@@ -310,7 +310,7 @@ pub struct Desk;
 impl Platform for Desk {
     ghost use Rattle.run_tests.specs.Shelf.{closed_store_holds_its_archive, reopened_test_store_remembers, unopened_database_is_kept};
 
-    type Storage = MemStore;
+    type Archive = Store<MemStore>;
 
     type Files = KnownFiles;
 

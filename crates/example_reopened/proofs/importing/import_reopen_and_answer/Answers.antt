@@ -1,4 +1,5 @@
 use Rattle.sqlite.specs.Files.{over_files}
+use Rattle.archive_store.specs.State.{state_of}
 use Rattle.archive_desk.specs.Importing.{IsImported}
 use Rattle.archive_pages.specs.Headline.{AnswersRequestFromArchive}
 use Rattle.archive_pages.proofs.RunningLemmas.{answers_first}
@@ -13,7 +14,7 @@ returns-clause-answered g c =
     (g.R.Source.ends c.args.input.now) (g.R.Source.ends c.answer-answered.new.input) (g.W.Sink.told c.args.output.now)
     (g.W.Sink.told c.answer-answered.new.output) c.answer-answered.result)
     c.in-Ok.ensures.imported c.answer-answered.ensures.ends.stays.archive_is_same
-    (λ returned held. answers_first over_files c.in-Ok.done.0 c.answer-answered.new.store returned held c.args.policy.now c.args.day c.answer-answered.result
+    (λ returned held. answers_first (state_of over_files) c.in-Ok.done.0 c.answer-answered.new.store returned held c.args.policy.now c.args.day c.answer-answered.result
     (g.R.Source.told c.args.input.now) (g.R.Source.told c.answer-answered.new.input) (g.R.Source.ends c.args.input.now)
     (g.R.Source.ends c.answer-answered.new.input) (g.W.Sink.told c.args.output.now) (g.W.Sink.told c.answer-answered.new.output)
     c.answer-answered.ensures.answered)

@@ -1,6 +1,5 @@
 use Rattle.std.proofs.Common.{map, subst, sym}
 use Rattle.sqlite.proofs.Callers.{memory_is_clean}
-use Rattle.archive_model.specs.Runs.{run}
 use Rattle.archive_tables.specs.Making.{empty_archive}
 use Rattle.archive_store.specs.Held.{store_connection}
 use Rattle.archive_port.specs.Commands.{spec_command}
@@ -25,5 +24,5 @@ returns-in-Ok-import_withdraw_and_answer-clause-caused g c =
     c.args.first.now c.import_withdraw_and_answer.new.first c.args.second.now c.import_withdraw_and_answer.new.second
     c.in-Ok-import_withdraw_and_answer.report c.in-Ok-import_withdraw_and_answer.answered c.in-Ok.ensures.is_ready c.in-Ok.ensures.has_no_step_limit
     (subst CanBeRead (sym c.in-Ok.ensures.archive_is)
-    (write.run empty_archive (map spec_command c.args.commands.now) c.commands_of_a_run_are_well_formed.ensures write.empty))
+    (write.run empty_archive (map spec_command c.args.commands.now) c.commands_of_a_run_are_well_formed.ensures c.an_empty_archive_can_be_read.ensures))
     c.in-Ok-import_withdraw_and_answer.ensures.ends

@@ -2,6 +2,7 @@ use Rattle.std.proofs.Common.{◌≡◌}
 use Rattle.archive_pages.specs.Headline.{AnswersRequestFromArchive}
 use Rattle.archive_pages.proofs.RunningLemmas.{answers_first}
 use Rattle.sqlite.specs.Files.{over_files}
+use Rattle.archive_store.specs.State.{state_of}
 use Rattle.example_reopened.proofs.OpenLemmas.{caused_since, serves_held_archive, of_run}
 use Rattle.example_reopened.proofs.ReopenLemmas.{leads_still, leads_to}
 use Rattle.example_reopened.proofs.opening.open_and_answer.Goals as goal
@@ -12,7 +13,7 @@ returns-clause-answered g c =
     (λ archive. AnswersRequestFromArchive archive c.args.policy.now c.args.day (g.R.Source.told c.args.peer.now.input) (g.R.Source.told c.answer-answered.new.input)
     (g.R.Source.ends c.args.peer.now.input) (g.R.Source.ends c.answer-answered.new.input) (g.W.Sink.told c.args.peer.now.output)
     (g.W.Sink.told c.answer-answered.new.output) c.answer-answered.result)
-    (λ returned held. answers_first over_files c.in_ok-store.store c.answer-answered.new.store returned held c.args.policy.now c.args.day c.answer-answered.result
+    (λ returned held. answers_first (state_of over_files) c.in_ok-store.store c.answer-answered.new.store returned held c.args.policy.now c.args.day c.answer-answered.result
     (g.R.Source.told c.args.peer.now.input) (g.R.Source.told c.answer-answered.new.input) (g.R.Source.ends c.args.peer.now.input)
     (g.R.Source.ends c.answer-answered.new.input) (g.W.Sink.told c.args.peer.now.output) (g.W.Sink.told c.answer-answered.new.output)
     c.answer-answered.ensures.answered)

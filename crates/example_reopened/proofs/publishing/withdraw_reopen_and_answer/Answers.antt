@@ -1,5 +1,6 @@
 use Rattle.sqlite.specs.Files.{over_files}
-use Rattle.archive_store.specs.Told.{archive_in}
+use Rattle.archive_port.specs.Told.{archive_in}
+use Rattle.archive_store.specs.State.{state_of}
 use Rattle.example_reopened.specs.Withdrawing.{ImportsAndWithdraws}
 use Rattle.archive_pages.proofs.ServingLemmas.{same_after}
 use Rattle.example_reopened.proofs.PublishLemmas.{caused_behind}
@@ -12,7 +13,7 @@ returns-clause-answered g c = λ returned archive held.
     let was = ends.first_ends.stays.archive_is_same.0.disk_was_clean (ends.second_ends.stays.archive_is_same.0.disk_was_clean returned) in
     let it = c.in-Ok.ensures.withdrawn was archive held in
     record {
-      archive = archive_in over_files c.in-Ok.done.0;
+      archive = archive_in (state_of over_files) c.in-Ok.done.0;
       made = it.1;
       first_sent = c.answer_both-answered.ensures.first returned it.0.is_archive_at_rest;
       second_sent = c.answer_both-answered.ensures.second returned it.0.is_archive_at_rest;
@@ -22,7 +23,7 @@ pub returns-clause-stays : goal.returns-clause-stays
 returns-clause-stays g c =
     leads_still c.args.files c.in-Ok.done.0 c.answer_both-answered.new.store (λ a b. ImportsAndWithdraws c.args.withdrawal.now a b c.in-Ok.done.1)
     c.in-Ok.ensures.withdrawn
-    (same_after over_files c.in-Ok.done.0 c.answer_both-answered.ensures.ends.store_between c.answer_both-answered.new.store
+    (same_after (state_of over_files) c.in-Ok.done.0 c.answer_both-answered.ensures.ends.store_between c.answer_both-answered.new.store
     c.answer_both-answered.ensures.ends.first_ends.stays.archive_is_same c.answer_both-answered.ensures.ends.second_ends.stays.archive_is_same)
 
 pub returns-clause-caused : goal.returns-clause-caused

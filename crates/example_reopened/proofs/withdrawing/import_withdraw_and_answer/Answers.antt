@@ -1,5 +1,6 @@
 use Rattle.std.proofs.Common.{arith}
-use Rattle.archive_store.specs.Told.{archive_in}
+use Rattle.archive_port.specs.Told.{archive_in}
+use Rattle.archive_store.specs.State.{state_of}
 use Rattle.example_reopened.proofs.withdrawing.import_withdraw_and_answer.Goals as goal
 
 pub returns-clause-answered : goal.returns-clause-answered
@@ -9,7 +10,7 @@ returns-clause-answered g c = λ returned ready.
     let was = ends.first_ends.stays.archive_is_same.0.disk_was_clean (ends.second_ends.stays.archive_is_same.0.disk_was_clean returned) in
     let it = c.in_ok-report.ensures.done.1 was ready in
     record {
-      archive = archive_in g.S.Store found;
+      archive = archive_in (state_of g.S.Store) found;
       made = it.1;
       first_sent = c.answer_both-answered.ensures.first returned it.0.is_archive_at_rest;
       second_sent = c.answer_both-answered.ensures.second returned it.0.is_archive_at_rest;

@@ -8,7 +8,7 @@ use Rattle.example_served.proofs.publishing.import_withdraw_and_serve.Goals as g
 pub returns-clause-published : goal.returns-clause-published
 returns-clause-published g c =
     λ zero it words.
-    let dev = devices g.Y.Storage.Store g.Y.Files.ReadFiles g.Y.Files.StreamedFiles g.Y.Files.Input.Source g.Y-Databases-Databases g.Y.Clock.DayClock
+    let dev = devices g.Y.Archive.ArchiveState g.Y.Files.ReadFiles g.Y.Files.StreamedFiles g.Y.Files.Input.Source g.Y.Databases.Databases g.Y.Clock.DayClock
     g.Y.Ports.Ports.listens g.Y.Ports.Listener.Listener.accepts g.Y.Ports.Listener.Listener.closes g.Y.Ports.Listener.Listener.over g.Y.Ports.Ports.went
     g.Y.Threaders.Threaders.makes g.Y.Input.Source g.Y.Output.Sink g.Y.Output.BufferedSink g.Y.Faults.Sink in
     let one = c.run-imported.ensures in
@@ -23,7 +23,7 @@ returns-clause-published g c =
 pub returns-then-withdrawn-ne0-clause-stopped : goal.returns-then-withdrawn-ne0-clause-stopped
 returns-then-withdrawn-ne0-clause-stopped g c =
     λ some.
-    let dev = devices g.Y.Storage.Store g.Y.Files.ReadFiles g.Y.Files.StreamedFiles g.Y.Files.Input.Source g.Y-Databases-Databases g.Y.Clock.DayClock
+    let dev = devices g.Y.Archive.ArchiveState g.Y.Files.ReadFiles g.Y.Files.StreamedFiles g.Y.Files.Input.Source g.Y.Databases.Databases g.Y.Clock.DayClock
     g.Y.Ports.Ports.listens g.Y.Ports.Listener.Listener.accepts g.Y.Ports.Listener.Listener.closes g.Y.Ports.Listener.Listener.over g.Y.Ports.Ports.went
     g.Y.Threaders.Threaders.makes g.Y.Input.Source g.Y.Output.Sink g.Y.Output.BufferedSink g.Y.Faults.Sink in
     let first = c.run-imported.new.world in
@@ -38,7 +38,7 @@ returns-then-withdrawn-ne0-clause-stopped g c =
 pub returns-clause-stopped : goal.returns-clause-stopped
 returns-clause-stopped g c =
     λ some.
-    let dev = devices g.Y.Storage.Store g.Y.Files.ReadFiles g.Y.Files.StreamedFiles g.Y.Files.Input.Source g.Y-Databases-Databases g.Y.Clock.DayClock
+    let dev = devices g.Y.Archive.ArchiveState g.Y.Files.ReadFiles g.Y.Files.StreamedFiles g.Y.Files.Input.Source g.Y.Databases.Databases g.Y.Clock.DayClock
     g.Y.Ports.Ports.listens g.Y.Ports.Listener.Listener.accepts g.Y.Ports.Listener.Listener.closes g.Y.Ports.Listener.Listener.over g.Y.Ports.Ports.went
     g.Y.Threaders.Threaders.makes g.Y.Input.Source g.Y.Output.Sink g.Y.Output.BufferedSink g.Y.Faults.Sink in
     let first = c.run-imported.new.world in

@@ -11,7 +11,7 @@ use Rattle.example_served.proofs.restarting.publish_over_restarts.Goals as goal
 pub returns-clause-published : goal.returns-clause-published
 returns-clause-published g c =
     λ it words.
-    let dev = devices g.Y.Storage.Store g.Y.Files.ReadFiles g.Y.Files.StreamedFiles g.Y.Files.Input.Source g.Y-Databases-Databases g.Y.Clock.DayClock
+    let dev = devices g.Y.Archive.ArchiveState g.Y.Files.ReadFiles g.Y.Files.StreamedFiles g.Y.Files.Input.Source g.Y.Databases.Databases g.Y.Clock.DayClock
     g.Y.Ports.Ports.listens g.Y.Ports.Listener.Listener.accepts g.Y.Ports.Listener.Listener.closes g.Y.Ports.Listener.Listener.over g.Y.Ports.Ports.went
     g.Y.Threaders.Threaders.makes g.Y.Input.Source g.Y.Output.Sink g.Y.Output.BufferedSink g.Y.Faults.Sink in
     let opens = g.met.Y.Platform.opens_held in
@@ -32,18 +32,18 @@ returns-clause-published g c =
     let second_args = second_serve_args_of it in
     let imports = one.done (Import (import_args_of it.publishing)) words.publish.imports c.if-imported-ne0.false in
     let withdraws = two.done (Table (withdraw_args_of it.publishing)) words.publish.withdraws c.if-withdrawn-ne0.false in
-    let first = server_ends dev opens closes accepts_none shuts_one listens_none after_two after_three first_words first_args c.run-first.result
+    let first = server_ends dev opens closes accepts_none shuts_one listens_none g.met.Y.Archive.ArchiveStore.at_rest_is_open after_two after_three first_words first_args c.run-first.result
     words.publish.serves three.done three.refused three.bad three.stopped in
-    let second = server_ends dev opens closes accepts_none shuts_one listens_none after_three after_four second_words second_args c.run-second.result
+    let second = server_ends dev opens closes accepts_none shuts_one listens_none g.met.Y.Archive.ArchiveStore.at_rest_is_open after_three after_four second_words second_args c.run-second.result
     words.serves_again four.done four.refused four.bad four.stopped in
     published_over_restarts dev c.a_hidden_message_reaches_no_peer.ensures c.a_withheld_message_leaves_no_trace.ensures.withdrawn opens closes g.met.Y.Platform.unopened_held
     c.args.world.now c.run-imported.new.world after_two after_three after_four it c.run-first.result c.run-second.result
     imports.runs_order imports.runs_on_archive withdraws.runs_order withdraws.runs_on_archive
-    (leaves_files dev opens closes accepts_none shuts_one listens_none after_two after_three first_args c.run-first.result first) first second
+    (leaves_files dev opens closes accepts_none shuts_one listens_none g.met.Y.Archive.ArchiveStore.at_rest_is_open after_two after_three first_args c.run-first.result first) first second
 
 pub returns-clause-ended : goal.returns-clause-ended
 returns-clause-ended g c =
-    let dev = devices g.Y.Storage.Store g.Y.Files.ReadFiles g.Y.Files.StreamedFiles g.Y.Files.Input.Source g.Y-Databases-Databases g.Y.Clock.DayClock
+    let dev = devices g.Y.Archive.ArchiveState g.Y.Files.ReadFiles g.Y.Files.StreamedFiles g.Y.Files.Input.Source g.Y.Databases.Databases g.Y.Clock.DayClock
     g.Y.Ports.Ports.listens g.Y.Ports.Listener.Listener.accepts g.Y.Ports.Listener.Listener.closes g.Y.Ports.Listener.Listener.over g.Y.Ports.Ports.went
     g.Y.Threaders.Threaders.makes g.Y.Input.Source g.Y.Output.Sink g.Y.Output.BufferedSink g.Y.Faults.Sink in
     let one = c.run-imported.ensures in
@@ -65,7 +65,7 @@ returns-clause-ended g c =
 
 pub returns-then-imported-ne0-clause-stopped : goal.returns-then-imported-ne0-clause-stopped
 returns-then-imported-ne0-clause-stopped g c =
-    let dev = devices g.Y.Storage.Store g.Y.Files.ReadFiles g.Y.Files.StreamedFiles g.Y.Files.Input.Source g.Y-Databases-Databases g.Y.Clock.DayClock
+    let dev = devices g.Y.Archive.ArchiveState g.Y.Files.ReadFiles g.Y.Files.StreamedFiles g.Y.Files.Input.Source g.Y.Databases.Databases g.Y.Clock.DayClock
     g.Y.Ports.Ports.listens g.Y.Ports.Listener.Listener.accepts g.Y.Ports.Listener.Listener.closes g.Y.Ports.Listener.Listener.over g.Y.Ports.Ports.went
     g.Y.Threaders.Threaders.makes g.Y.Input.Source g.Y.Output.Sink g.Y.Output.BufferedSink g.Y.Faults.Sink in
     let one = c.run-imported.ensures in
@@ -73,7 +73,7 @@ returns-then-imported-ne0-clause-stopped g c =
 
 pub returns-then-withdrawn-ne0-clause-stopped : goal.returns-then-withdrawn-ne0-clause-stopped
 returns-then-withdrawn-ne0-clause-stopped g c =
-    let dev = devices g.Y.Storage.Store g.Y.Files.ReadFiles g.Y.Files.StreamedFiles g.Y.Files.Input.Source g.Y-Databases-Databases g.Y.Clock.DayClock
+    let dev = devices g.Y.Archive.ArchiveState g.Y.Files.ReadFiles g.Y.Files.StreamedFiles g.Y.Files.Input.Source g.Y.Databases.Databases g.Y.Clock.DayClock
     g.Y.Ports.Ports.listens g.Y.Ports.Listener.Listener.accepts g.Y.Ports.Listener.Listener.closes g.Y.Ports.Listener.Listener.over g.Y.Ports.Ports.went
     g.Y.Threaders.Threaders.makes g.Y.Input.Source g.Y.Output.Sink g.Y.Output.BufferedSink g.Y.Faults.Sink in
     let first = c.run-imported.new.world in
