@@ -23,7 +23,7 @@ SHOWN = re.compile(r"^\*\*`(\w+)::([\w.]+)::([^`]+)`\*\*[^\n]*\n\n((?: {4}[^\n]*
 HEADER = re.compile(r'^\s*pub (?:extern "C" )?fn (\w+).*?^\s*\{', re.M | re.S)
 CLAUSE = re.compile(r"\b(?:requires|ensures)\b.*?(?=\b(?:requires|ensures)\b|\Z)", re.S)
 # What the page is about: a clause of one call, and laws, by file, function and clause.
-HEADLINE = (("archive_pages/src/running.rt", "run_and_answer_in_memory", "answered"),)
+HEADLINE = (("archive_stored/src/running.rt", "run_and_answer_in_memory", "answered"),)
 LAWS = tuple(("archive_pages/src/laws.rt", it, "") for it in (
     "an_allowed_message_is_served", "a_denied_message_gets_403_by_its_rule", "results_depend_on_allowed_messages_only", "a_withdrawn_message_might_never_have_arrived")) + (
     ("archive_pages/src/laws.rt", "a_withheld_message_leaves_no_trace", "always"),)

@@ -18,11 +18,11 @@ LIST = part.ROOT / "tools" / "reached.txt"
 PROGRAMS, LIBRARY = ("archive", "sift"), "luvazhimba_c"
 # (file, name): the files whose calls of this name are calls of this method, by the type on which they are made.
 SHARED = {
-    ("archive_store/src/running.rt", "run"): {"archive_pages/src/running.rt"},
+    ("archive_store/src/running.rt", "run"): {"archive_stored/src/running.rt"},
     ("archive_store/src/running.rt", "carry_out"): {"archive_store/src/running.rt"},
     ("archive_store/src/messages.rt", "add"): {"archive_store/src/running.rt"},
     ("archive_store/src/walking.rt", "rows"): {"archive_desk/src/viewing.rt"},
-    ("archive_store/src/adopting.rt", "open_in_memory"): {"archive_pages/src/running.rt"},
+    ("archive_store/src/adopting.rt", "open_in_memory"): {"archive_stored/src/running.rt"},
 }
 BLANK = re.compile(r"//[^\n]*|\"(?:\\.|[^\"\\])*\"|'(?:\\.[^']*|[^\\'])'", re.S)
 OWNER = re.compile(r"^(?:pub(?:\(crate\))? )?(impl|trait)\b([^{;]*)\{", re.M)
@@ -99,6 +99,10 @@ class Product:
         self.named = collections.defaultdict(list)
         for it in self.functions:
             self.named[it.name].append(it)
+        self.traits = collections.defaultdict(set)
+        for name, text in self.texts.items():
+            for trait in re.findall(r"^pub trait (\w+)", text, re.M):
+                self.traits[trait].add(name.split("/")[0])
 
     @functools.cache
     def below(self, crate):
@@ -106,8 +110,10 @@ class Product:
         return own.union(*(self.below(it) for it in own))
 
     def is_near(self, one, other):
-        """Whether a function could call another one, by their crates."""
-        return other.crate == one.crate or other.crate in self.below(one.crate) or other.is_of_trait and one.crate in self.below(other.crate)
+        """Whether a function could call another one, by their crates, or by the trait that the other's `impl` is of."""
+        seen = {one.crate} | self.below(one.crate)
+        trait = re.search(r"(\w+)(?:<.*>)? for ", other.owner)
+        return other.crate in seen or other.is_of_trait and one.crate in self.below(other.crate) or bool(trait and self.traits[trait[1]] & seen)
 
     def is_used(self, one, name, other):
         """Whether a free name in a function is this one, by the `use` lines of its file."""
