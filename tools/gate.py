@@ -1,27 +1,28 @@
 #!/usr/bin/env python3
 """The gate: the toolchain's own `rt ci`, on a copy of the repository without wrong bodies; then those that are due (`due.py`), as many in one
-check as can be (`joined.py`), and each other one by `rt ci`. Of crates whose wrong bodies are due it takes one after the other, in an order
-that the commit draws, until it has MOST; it says which it put off, and these stay due.
+check as can be, and each other one in a check of its own (`joined.py`). Of crates whose wrong bodies are due it takes one after the other, in an
+order that the commit draws, until it has MOST, or the run has taken MINUTES; it says which it put off, and these stay due.
 
-  gate.py [--all] [--anew] [--record]
+  gate.py [--all] [--anew] [--record] [--minutes N]
 
-  --all      every wrong body is due, and none is put off
-  --anew     nothing counts that an earlier run on this machine passed, and each wrong body is tried by itself
-  --record   puts none off, and writes tools/refused.txt: of which crates all wrong bodies were refused, over which text; and
-             tools/minutes.txt: how long each crate took that was proved from nothing, with the tables of docs/GATE.md that are made of it
+  --all        every wrong body is due, and none is put off
+  --anew       nothing counts that an earlier run on this machine passed, and `rt ci` tries each wrong body by itself
+  --record     puts none off, and writes tools/refused.txt: of which crates all wrong bodies were refused, over which text; and
+               tools/minutes.txt: how long each crate took that was proved from nothing, with the tables of docs/GATE.md that are made of it
+  --minutes N  after so many minutes (120) it begins the wrong bodies of no other crate
 
 The last line is 'N passed, M failed', as `rt ci` counts, but that a wrong body that cannot be applied has failed; and the
 worked calls under refused growths of memory (refused.py) are one more that passed or failed, and so are the callers of the
 library (callers.py). Where something failed, the lines that say why stand together before it.
 """
-import filecmp, re, resource, subprocess, sys, tempfile, time
+import filecmp, math, re, resource, subprocess, sys, tempfile, time
 
 import build, callers, due, joined, minutes, part, refused, why
 
 COUNT = re.compile(r"(\d+) passed, (\d+) failed")
 EDIT = re.compile(r"rt: must-fail (\w+)/(\S+\.edit): (refused, as it must be.*|[A-Z]+.*)")
-# From how many wrong bodies on one run puts the next crate off: so many fit CI's time on two processors, beside tests and programs.
-MOST = 200
+# From how many wrong bodies and minutes on one run puts the next crate off: so many fit CI's time on two processors, beside tests and programs.
+MOST, MINUTES = 200, 120
 # What a refused edit says where the prover did not refuse what it does.
 SHOWS_LITTLE = re.compile(r"borrow checker does not cover|says (little|less) of the contract")
 
@@ -50,12 +51,6 @@ class Heard:
             self.passed, self.failed = int(found[1]), max(int(found[2]), status != 0)
         elif self.last is not None:
             print(self.last)
-
-    def add(self, other):
-        """Adds what came of the wrong bodies of another run, and what failed there."""
-        self.edits |= other.edits
-        self.failed += other.failed
-        self.why.lines += other.why.lines
 
     def count(self, is_right, what):
         """Counts a step of our own."""
@@ -103,22 +98,17 @@ def callers_answered(top):
     return bool(passed) and not failed
 
 
-def try_wrong_bodies(top, names, heard):
-    """Tries the wrong bodies of these crates of a copy that passed: many in one check where that can be, and each other one by `rt ci`."""
-    for name, found in joined.refused_in(top, names).items():
-        print(f"check: {len(found)} of the {len(edits_of(name))} wrong bodies of {name} were refused, many in one check", flush=True)
-        heard.edits |= {(name, edit): f"refused: {why}" for edit, why in found.items()}
-    rest = {it: [edit for edit in edits_of(it) if (it, edit.name) not in heard.edits] for it in names}
-    below = [it for it in part.lines() if any(it in part.with_those_below(name) for name in rest if rest[name])]
-    if below:
-        with part.copied(below, {*rest}) as other:
-            for name, edits in rest.items():
-                for it in (other / "crates" / name / "must-fail").glob("*.edit"):
-                    if it.name not in {edit.name for edit in edits}:
-                        it.unlink()
-            alone = Heard(below)
-            alone.end(part.run_ci(other, [], alone.hear))
-        heard.add(alone)
+def try_wrong_bodies(top, names, heard, minutes_left):
+    """Tries the wrong bodies of these crates of a copy that passed, and returns the crates that it put off for want of time."""
+    begun, tried = time.monotonic(), []
+    for name, (found, together) in joined.tried_in(top, names, lambda: time.monotonic() - begun <= 60 * minutes_left).items():
+        tried.append(name)
+        print(f"check: {together} of the {len(found)} wrong bodies of {name} were refused, many in one check", flush=True)
+        for edit, said in found.items():
+            heard.edits[name, edit] = said
+            if said.startswith("NOT"):
+                heard.count(False, f"must-fail {name}/{edit}: {said}")
+    return [it for it in names if it not in tried]
 
 
 def put_off(names, counts):
@@ -137,7 +127,7 @@ def tell(heard, left, rest, due_count):
     for name, count in left.items():
         print(f"check: left the {count} wrong bodies of {name}, whose text is as recorded")
     for name, count in rest.items():
-        print(f"check: put off the {count} wrong bodies of {name}, which stay due: one run takes no more crates after {MOST} wrong bodies")
+        print(f"check: put off the {count} wrong bodies of {name}, which stay due: one run takes no more crates after {MOST} wrong bodies, or where it has taken long")
     used = resource.getrusage(resource.RUSAGE_CHILDREN)
     for it in heard.that_say(SHOWS_LITTLE):
         print(f"check: {it} shows little of a contract: change a value, and keep the names")
@@ -153,16 +143,27 @@ def tell(heard, left, rest, due_count):
     return 1 if heard.failed + len(bad) else 0
 
 
-def main(words):
+def read(words):
+    """Returns the options that are named, and after how many minutes the run puts crates off."""
+    words, minutes_given = [*words], MINUTES
+    if "--minutes" in words[:-1]:
+        at = words.index("--minutes")
+        minutes_given = int(words[at + 1]) if words[at + 1].isdigit() else sys.exit(f"check: --minutes takes a number, not {words[at + 1]}")
+        del words[at:at + 2]
     if unknown := {*words} - {"--all", "--anew", "--record"}:
         sys.exit(f"check: unknown: {' '.join(sorted(unknown))}\n{__doc__}")
+    return {*words}, math.inf if {*words} & {"--all", "--record"} else minutes_given
+
+
+def main(words):
+    words, minutes_given = read(words)
     record, names = due.Record(), [*part.lines()]
     heard = Heard(names)
     counts = {it: len(edits_of(it)) for it in names if edits_of(it)}
     left = {} if "--all" in words else {it: count for it, count in counts.items() if not record.is_due(it)}
-    is_whole = bool({*words} & {"--all", "--record"})
-    rest = {} if is_whole else {it: counts[it] for it in put_off(record.in_turn(it for it in counts if it not in left), counts)}
-    tried = [it for it in counts if it not in left and it not in rest]
+    due_now = record.in_turn(it for it in counts if it not in left)
+    rest = [] if minutes_given == math.inf else put_off(due_now, counts)
+    tried = [it for it in due_now if it not in rest]
     by_rounds = "--anew" not in words and joined.toolchain()
     with part.copied(names, () if by_rounds else tried) as top:
         if wanting := out_of_layout(top, names):
@@ -171,7 +172,7 @@ def main(words):
         heard.end(part.run_ci(top, ["--anew"] if "--anew" in words else [], heard.hear))
         heard.count(rows_hold(top), "worked calls under refused growths of memory: refused_rows was not built, or did not come to its answers")
         if by_rounds and not heard.failed:
-            try_wrong_bodies(top, tried, heard)
+            rest += try_wrong_bodies(top, tried, heard, minutes_given - (time.monotonic() - heard.begun) / 60)
         # (last, since it builds the crates below the library anew: no round can stand on them then)
         if callers.CRATE in names:
             heard.count(callers_answered(top), "callers of the library in C, Python and Rust did not get what they have to, or it was not built")
@@ -181,7 +182,7 @@ def main(words):
         record.write()
         minutes.write(heard.work.proved())
         minutes.main(["--write"])
-    return tell(heard, left, rest, sum(counts.values()) - sum(left.values()) - sum(rest.values()))
+    return tell(heard, left, {it: counts[it] for it in rest}, sum(counts.values()) - sum(left.values()) - sum(counts[it] for it in rest))
 
 
 if __name__ == "__main__":

@@ -4,7 +4,8 @@ Most of what the check of one wrong body takes is the reading of what was proved
 function has two in one round, each round over a copy of the sources with all its mistakes. One is refused if the prover says of its own
 function that a goal of it is not proved: that it calls a function that is not proved does not count. A round in which that is said of a
 function without a mistake counts for nothing. What is not refused so (a mistake in a definition or a constant, a limit of the prover, a proof
-that names what was taken away, and of course a mistake that is proved) is left to `rt ci`, which tries it by itself.
+that names what was taken away, and of course a mistake that is proved) is tried by itself, in a check of its own, and then the crate without a
+mistake, which has to pass.
 """
 import concurrent.futures, os, pathlib, re, shutil, subprocess, sys, tempfile
 
@@ -34,26 +35,36 @@ def toolchain():
 
 
 class Mistake:
-    """A wrong body: its file of must-fail/, the one source that it changes, and in which function, if it is in one."""
+    """A wrong body: what it changes in which sources, and in which function, if it is in one."""
 
     def __init__(self, edit):
-        lines = edit.read_text(encoding="utf-8").split("\n")
-        files = {it.removeprefix("file: ") for it in lines if it.startswith("file: ")}
-        self.edit, self.file, self.function, self.type, self.of = edit, files.pop() if len(files) == 1 else "", None, "", ""
-        self.pairs = [(old.removeprefix("old: "), new.removeprefix("new:").removeprefix(" "))
-                      for old, new in zip([it for it in lines if it.startswith("old: ")], [it for it in lines if it.startswith("new:")])]
+        self.edit, self.changes, old = edit, {}, ""
+        for line in edit.read_text(encoding="utf-8").split("\n"):
+            if line.startswith("file: "):
+                pairs = self.changes.setdefault(line.removeprefix("file: "), [])
+            elif line.startswith("old: "):
+                old = line.removeprefix("old: ")
+            elif line.startswith("new:"):
+                pairs.append((old, line.removeprefix("new:").removeprefix(" ")))
+        self.file, self.function, self.type, self.of = "", None, "", ""
+        if len(self.changes) == 1:
+            [(self.file, pairs)] = self.changes.items()
         if self.file.startswith("src/"):
             text = (edit.parent.parent / self.file).read_text(encoding="utf-8")
-            found = {function_at(text, text.find(old)) for old, _ in self.pairs}
+            found = {function_at(text, text.find(old)) for old, _ in pairs}
             self.function, self.type, self.of = found.pop() if len(found) == 1 else (None, "", "")
 
-    def applied(self, text):
-        """Returns the text with this mistake, or None where what it takes away does not stand there once."""
-        for old, new in self.pairs:
-            if text.count(old) != 1:
-                return None
-            text = text.replace(old, new)
-        return text
+    def apply(self, folder):
+        """Makes the mistake in the sources of a folder, and returns whether all that it takes away stood there once."""
+        for name, pairs in self.changes.items():
+            file = pathlib.Path(folder, name)
+            text = file.read_text(encoding="utf-8") if file.is_file() else ""
+            for old, new in pairs:
+                if text.count(old) != 1:
+                    return False
+                text = text.replace(old, new)
+            file.write_text(text, encoding="utf-8")
+        return bool(self.changes)
 
     def is_of(self, path):
         """Returns whether the prover's path of a function is that of this one: its module, or that of its type, the type with the trait, its name."""
@@ -106,37 +117,56 @@ def refused_by(said, mistakes):
 
 
 def checked(words, crate, mistakes, kept):
-    """Returns what the prover says of a copy of a crate with these mistakes, over what it kept in a folder."""
+    """Returns what the prover says of a copy of a crate with these mistakes, over what it kept in a folder, and its status. None where one of
+    them cannot be made."""
     with tempfile.TemporaryDirectory(prefix="archive-joined-") as room:
         for it in ("src", "specs", "proofs"):
             if (crate / it).is_dir():
                 shutil.copytree(crate / it, f"{room}/{it}")
-        for it in mistakes:
-            file = pathlib.Path(room, it.file)
-            text = it.applied(file.read_text(encoding="utf-8"))
-            if text is not None:
-                file.write_text(text, encoding="utf-8")
+        if not all([it.apply(room) for it in mistakes]):
+            return None
         how = {"cwd": room, "stdin": subprocess.DEVNULL, "stdout": subprocess.PIPE, "stderr": subprocess.STDOUT, "text": True, "errors": "replace"}
-        return subprocess.run([*words, "--incremental", kept], check=False, **how).stdout.splitlines()
+        ran = subprocess.run([*words, "--incremental", kept], check=False, **how)
+        return ran.stdout.splitlines(), ran.returncode
 
 
-def refused_of(rtlib, top, name):
-    """Returns which wrong bodies of a crate were refused with others: for each the name of its file, and what the prover said."""
+def alone(words, crate, mistake, kept):
+    """Returns what came of a wrong body by itself, in the words of `rt ci`."""
+    found = checked(words, crate, [mistake], kept)
+    if not found:
+        return "BAD EDIT: what it takes away does not stand there once"
+    said, status = found
+    if not status:
+        return "NOT REFUSED: the crate is still proved with this edit"
+    if not said or not said[-1].startswith("logic=not-proved"):
+        return f"BAD EDIT: it did not reach the prover: {' '.join(said)[:200]}"
+    told = [it for it in said if ": error" in it or TOLD.match(it)]
+    first = next((it for it in told if not NAMES.search(it)), None)
+    return f"refused: {first[:160]}" if first else f"refused, but says little of the contract, as a proof names what it takes away: {' '.join(told)[:160]}"
+
+
+def tried_of(rtlib, top, name):
+    """Returns what came of each wrong body of a crate, by the name of its file; and how many were refused with others."""
     crate, found = top / "crates" / name, {}
     words = [rtlib.RATTLE, "check", *rtlib.Crate(str(crate), str(top), {}).words(["--jobs", "1"], keeps=False)]
     mistakes = [Mistake(it) for it in sorted((part.CRATES / name / "must-fail").glob("*.edit"))]
     with tempfile.TemporaryDirectory(prefix="archive-joined-") as kept:
         for made in rounds_of(mistakes):
-            found |= {it.edit.name: why for it, why in refused_by(checked(words, crate, made, kept), made).items()}
-    return found
+            if ran := checked(words, crate, made, kept):
+                found |= {it.edit.name: f"refused: {why}" for it, why in refused_by(ran[0], made).items()}
+        together, rest = len(found), [it for it in mistakes if it.edit.name not in found]
+        found |= {it.edit.name: alone(words, crate, it, kept) for it in rest}
+        if rest and checked(words, crate, [], kept)[1]:
+            found |= {it.edit.name: "BAD EDIT: the crate itself is not proved" for it in rest}
+    return found, together
 
 
-def refused_in(top, names):
-    """Returns the same of these crates of a repository that `rt ci` passed, by the names of the crates: several at a time, as memory allows."""
+def tried_in(top, names, may_begin):
+    """Returns the same of these crates of a repository that `rt ci` passed, by the names of the crates, several at a time, as memory allows; but
+    for those that may not begin any more when it is their turn."""
     rtlib = toolchain()
-    if not rtlib:
-        return {}
     with open("/proc/meminfo", encoding="ascii") as it:
         free = int(re.search(r"MemAvailable:\s+(\d+)", it.read())[1]) // 1024
     with concurrent.futures.ThreadPoolExecutor(max(1, min(os.cpu_count() or 1, free // NEED))) as pool:
-        return dict(zip(names, pool.map(lambda it: refused_of(rtlib, top, it), names)))
+        found = pool.map(lambda it: tried_of(rtlib, top, it) if may_begin() else None, names)
+        return {name: it for name, it in zip(names, found) if it}

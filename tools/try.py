@@ -180,18 +180,6 @@ def takes_an_early_program(writes, wanted):
     return holds
 
 
-def proves_in_two_runs():
-    """What stands on the first crate of the long chain is proved in a run of its own, behind one of all others; no crate is told of twice."""
-    files = {**MADE, "crates.txt": "low: memchr\narchive_store: low\nmiddle: archive_store\n", "crates/archive_store/src/lib.rt": "\n"}
-    says_of = "rt: low proved\nrt: archive_store proved\nrt: middle proved\n3 passed, 0 failed\n"
-    with repository(files, **{**BUILT, "says": says_of}) as (top, stand_in), tools() as build:
-        ended, _, errors = run(top, stand_in, "build.py", TO_BUILD)
-        build.part.ROOT = top
-        known = [*build.part.lines()]
-        return equal((ended, (top / "log").read_text(), errors.count("proved low"), build.runs(known), build.runs(["low"])),
-                     (0, says_of * 2, 1, [["low"], known], [["low"]]))
-
-
 def schedule(takes, below, lanes, wanted):
     """A case of how long crates take, so many side by side."""
     def holds():
@@ -232,7 +220,6 @@ BUILD = {
     "the program is taken": takes_the_program,
     "a gate that fails leaves the old one": leaves_the_old_program,
     "a program that is named first is there before": takes_an_early_program("cat", (1, True, True, True)),
-    "in two runs": proves_in_two_runs,
     "unless it writes something else": takes_an_early_program("echo out", (1, False, False, False)),
     "why it fails is said": says("build.py", TO_BUILD, MADE, 1, faults="archive: what failed, and why (what was said before says more):\n"
         "  low: src/lib.rt:3:1: error: not so\n  rt: low NOT PROVED\n",
@@ -331,6 +318,27 @@ def ends(script, files, wanted, edits=0, **told):
     return holds
 
 
+# A module on crates beside the stand-in, and a prover that notes the source that it gets and says what `proves` holds, of a source that was changed
+# and comes after so many rounds what `alone` holds.
+CRATES_MODULE = """import os
+RATTLE = os.environ["STAND_IN"] + "/rattle"
+class Crate:
+    def __init__(self, folder, root, known): pass
+    def words(self, flags, keeps): return flags
+"""
+PROVER = """#!/bin/sh
+{ echo ==; cat src/lib.rt; } >> "$STAND_IN/tried"
+if [ "$(grep -c == "$STAND_IN/tried")" -le "$(cat "$STAND_IN/rounds")" ]; then cat "$STAND_IN/proves"; exit 1; fi
+if cmp -s src/lib.rt "$STAND_IN/whole"; then exit "$(cat "$STAND_IN/sound")"; fi
+cat "$STAND_IN/alone"
+! grep -q logic=not-proved "$STAND_IN/alone"
+"""
+BODIES = {
+    **CHAIN,
+    "crates/low/src/lib.rt": "fn f() -> u8\n ensures { IsOne result }\n{\n 1\n}\n\npub fn g() -> u8 {\n f() + 2\n}\n\nconst MOST: u8 = 9;\n",
+    "crates/low/must-fail/f.is_three.edit": "file: src/lib.rt\nold:  1\nnew:  3\n",
+    "crates/low/must-fail/g.adds_four.edit": "file: src/lib.rt\nold: f() + 2\nnew: f() + 4\n",
+}
 EDITS = ["crates/low/must-fail/f.turns_it.edit", "crates/low/must-fail/g.drops_it.edit"]
 OTHER_EDIT = "crates/middle/must-fail/h.counts_one_more.edit"
 LITTLE = "rt: must-fail low/f.turns_it.edit: refused, as it must be, but it says little of the contract\n"
@@ -383,7 +391,11 @@ GATE = {
     "after 200 wrong bodies a crate is put off": asks("gate.py", [], MANY, [f"crates/{it}/must-fail/f.is7.edit" for it in in_turn(["low", "middle", "beside"])[:2]],
         [f"crates/{in_turn(['low', 'middle', 'beside'])[2]}/must-fail/f.is7.edit"]),
     "it says which": says("gate.py", [], MANY, 1, f"check: put off the 150 wrong bodies of {in_turn(['low', 'middle', 'beside'])[2]}, which stay due: "
-        "one run takes no more crates after 200 wrong bodies"),
+        "one run takes no more crates after 200 wrong bodies, or where it has taken long"),
+    "after some minutes all are put off": says("gate.py", ["--minutes", "0"], BODIES, 0, "10 passed, 0 failed",
+        *(f"check: put off the {n} wrong bodies of {it}, which stay due: one run takes no more crates after 200 wrong bodies, or where it has taken long" for it, n in (("low", 2),)),
+        says="9 passed, 0 failed\n", **{"rtlib.py": CRATES_MODULE, "rattle": PROVER}),
+    "minutes that are no number": says("gate.py", ["--minutes", "x"], CHAIN, 1, faults="check: --minutes takes a number, not x"),
     "--all puts none off": asks("gate.py", ["--all"], MANY, [f"crates/{it}/must-fail/f.is7.edit" for it in ("low", "middle", "beside")], []),
     "a crate whose code changed is due": asks("gate.py", [], recorded(["low"], **{"crates/low/src/lib.rt": "// low\nfn f() {}\n"}), EDITS, []),
     "a clause of a crate below makes a crate due": asks("gate.py", [], recorded(["low", "middle"], **{"crates/low/src/lib.rt": "fn f()\n ensures { IsOne result }\n{\n}\n"}), [*EDITS, OTHER_EDIT], []),
@@ -412,39 +424,26 @@ GATE = {
 
 # ---- joined.py, as gate.py calls it
 
-# A module on crates beside the stand-in, and a prover that notes the source that it gets and says what `proves` holds.
-CRATES_MODULE = """import os
-RATTLE = os.environ["STAND_IN"] + "/rattle"
-class Crate:
-    def __init__(self, folder, root, known): pass
-    def words(self, flags, keeps): return flags
-"""
-PROVER = """#!/bin/sh
-{ echo ==; cat src/lib.rt; } >> "$STAND_IN/tried"
-cat "$STAND_IN/proves"
-"""
-BODIES = {
-    **CHAIN,
-    "crates/low/src/lib.rt": "fn f() -> u8\n ensures { IsOne result }\n{\n 1\n}\n\npub fn g() -> u8 {\n f() + 2\n}\n\nconst MOST: u8 = 9;\n",
-    "crates/low/must-fail/f.is_three.edit": "file: src/lib.rt\nold:  1\nnew:  3\n",
-    "crates/low/must-fail/g.adds_four.edit": "file: src/lib.rt\nold: f() + 2\nnew: f() + 4\n",
-}
 F_FAILS = "fn low::f: no proof: expected answers in ./proofs/lib/f/Answers.antt; `search` did not prove `returns`\n"
 G_FAILS = "./proofs/g/Answers.antt:3:1: error: `returns`: expected type\nfn low::g: not proved; it calls `low::f`, which is not proved\n"
 
 
-def tries(proves, refused_together, alone, files=BODIES, words=(), sources=None):
-    """A case of wrong bodies in one check, in which the prover says this: how many count as refused, and which `rt ci` is given; and what the
-    prover got of the source, if that is told."""
+def tries(proves, refused_together, alone, files=BODIES, words=(), sources=None, rounds=1, says_of="f: error: not so\nlogic=not-proved\n", fails=0, sound="0"):
+    """A case of wrong bodies in one check, in which the prover says this: how many count as refused, and which are tried by themselves, of which
+    it says this; what the prover got of the source, if that is told; and how many failed. With --anew `rt ci` is given them."""
     def holds():
-        says_of = "".join(REFUSED.format(f"low/{it}") for it in alone)
-        with repository(files, says=f"{says_of}9 passed, 0 failed\n", **{"rtlib.py": CRATES_MODULE, "rattle": PROVER, "proves": proves}) as (top, stand_in):
+        said = "".join(REFUSED.format(f"low/{it}") for it in alone) if words else ""
+        told = {"rtlib.py": CRATES_MODULE, "rattle": PROVER, "proves": proves, "rounds": str(rounds), "alone": says_of, "sound": sound, "whole": files["crates/low/src/lib.rt"]}
+        with repository(files, says=f"{said}9 passed, 0 failed\n", **told) as (top, stand_in):
             _, output, _ = run(top, stand_in, "gate.py", words)
             asked = (stand_in / "asked").read_text(encoding="utf-8").splitlines()
             given = sorted(it.rpartition("/")[2] for it in asked if it.endswith(".edit"))
             found = re.findall(r"check: (\d+) of the \d+ wrong bodies of low", output)
-            got = (stand_in / "tried").read_text(encoding="utf-8").split("==\n")[1:] if sources is not None else None
-            return equal((found, given, got), ([str(refused_together)] if found else [], sorted(alone), sources))
+            got = (stand_in / "tried").read_text(encoding="utf-8").split("==\n")[1:] if not words else []
+            # (behind those that were tried by themselves the crate without a mistake is tried)
+            by_itself = max(0, len(got) - rounds - 1)
+            return equal((found, given, by_itself, got[:rounds] if sources is not None else None, re.findall(r"\d+ failed", output)),
+                         ([] if words else [str(refused_together)], sorted(alone) if words else [], 0 if words else len(alone), sources, [f"{fails} failed"]))
     return holds
 
 
@@ -467,13 +466,16 @@ IN_ONE_CHECK = {
     "an impl of another argument is another": tries(F_FAILS + G_FAILS + FROM_FAILS.format("LowFromError"), 0, ["from.is_high.edit", F_EDIT, G_EDIT], files=FROM),
     "two functions are tried in one check": tries(F_FAILS + G_FAILS, 2, [], sources=[with_mistakes(f=("\n 1\n", "\n 3\n"), g=("+ 2", "+ 4"))]),
     "one that is proved is tried by itself": tries(F_FAILS + "fn low::g: proved\n", 1, [G_EDIT]),
+    "and where it is proved, that has failed": tries(F_FAILS + "fn low::g: proved\n", 1, [G_EDIT], says_of="logic=proved\n", fails=1),
+    "so has one that the prover cannot read": tries(F_FAILS + "fn low::g: proved\n", 1, [G_EDIT], says_of="error: no such word\n", fails=1, sound="0"),
+    "so have those of a crate that is not proved without them": tries(F_FAILS + "fn low::g: proved\n", 1, [G_EDIT], fails=1, sound="1"),
     "so is one that only calls what is not proved": tries(F_FAILS + "fn low::g: no proof: it calls `low::f`, which is not proved\n", 1, [G_EDIT]),
     "a function without a mistake that fails": tries(F_FAILS + G_FAILS + F_FAILS.replace("::f", "::h"), 0, [F_EDIT, G_EDIT]),
     "a check that says nothing of functions": tries("error[x]: no such thing\nlogic=not-proved\n", 0, [F_EDIT, G_EDIT]),
     "a proof that names what was taken away": tries(F_FAILS + G_FAILS.replace("expected type", "`c.f` has no field 0"), 1, [G_EDIT]),
     "a limit of the prover": tries(F_FAILS + G_FAILS.replace("expected type", "antt ran out of memory"), 1, [G_EDIT]),
     "a constant is tried by itself": tries(F_FAILS + G_FAILS, 2, ["MOST.is_ten.edit"], files=TOO_HIGH),
-    "two mistakes of one function take two checks": tries(F_FAILS, 2, [G_EDIT], files=TWICE_F,
+    "two mistakes of one function take two checks": tries(F_FAILS, 2, [G_EDIT], files=TWICE_F, rounds=2,
         sources=[with_mistakes(f=("\n 1\n", "\n 3\n"), g=("+ 2", "+ 4")), with_mistakes(f=("\n 1\n", "\n 0\n"))]),
     "--anew tries each by itself": tries(F_FAILS + G_FAILS, 0, [F_EDIT, G_EDIT], words=["--anew"]),
 }
@@ -732,7 +734,7 @@ CASES = {
 # on; its model cites seen, which is made of Moon, declared in the code, and of an operator, which is made of digest, of the toolchain; one law
 # cites Goes.
 DEFINED = {
-    "crates.txt": "low: memchr\narchive_pages: low\n",
+    "crates.txt": "low: memchr\narchive_pages: low\narchive_stored: low\n",
     "crates/low/specs/Days.antt": "-- Days.\nuse Rattle.std.specs.Prelude.{List}\n\n-- a day\nabbrev pub is_day : Type 0\nis_day = T\n",
     "crates/low/specs/Rules.antt": "use Rattle.low.specs.Days.{is_day as day}\n\n-- ---- rules\n\n-- One rule.\n-- It has a day.\npub record Rule where\n  pub on : day\n\n"
                                    "abbrev pub Fits : Rule → Type 0\nFits r = T\n\n-- by steps\npub data Step where\n  up : Step\n",
@@ -746,7 +748,7 @@ DEFINED = {
     "crates/high/specs/Lib.antt": "pub use Rattle.low.specs.Days\n",
     "crates/low/src/lib.rt": "ghost use Rattle.low.specs.Rules.{up as rises};\n\npub fn f(a: u8) -> u8\n    ensures { rises result }\n{\n    a\n}\n",
     "crates/archive_pages/specs/Laws.antt": "-- it goes\nabbrev pub Goes : Type 0\nGoes = T\n",
-    "crates/archive_pages/src/running.rt": "ghost use Rattle.low.specs.Other.{Fits};\nghost use Rattle.high.specs.Days.{is_day};\n\n"
+    "crates/archive_stored/src/running.rt": "ghost use Rattle.low.specs.Other.{Fits};\nghost use Rattle.high.specs.Days.{is_day};\n\n"
                                            "pub fn run_and_answer_in_memory()\n    ensures quiet { is_day }\n    ensures answered { Fits result }\n{\n}\n",
     "crates/archive_pages/src/laws.rt": "ghost use Rattle.archive_pages.specs.Laws.{Goes};\n\npub fn an_allowed_message_is_served()\n    ensures { Goes }\n{}\n",
     "docs/BELIEVE.md": "Of 5 definitions, 11 lines, in 3 modules, `Moon` and `digest`.\n| | Read | Lines | With |\n|---|---|---|---|\n| 1 | `low`: `Rules` (`Fits`), `Days`, `Views` | 11 | a; b |\n"
@@ -771,7 +773,7 @@ Days.
 - `Goes`+: it goes
 """
 TOLD = """# the headline
-crates/archive_pages/src/running.rt:6: run_and_answer_in_memory: answered
+crates/archive_stored/src/running.rt:6: run_and_answer_in_memory: answered
 # the models by which it reads what it is given
 crates/policy_core/src/rules.rt: Policy
 crates/policy_core/src/rules.rt: Rule
