@@ -16,9 +16,6 @@ PROVED = re.compile(r"rt: (\w+) (proved|is kept: .*)")
 # What each crate took in minutes, as the gate wrote it down (minutes.py); what it took in the last build here, a file beside the log; and
 # what a crate takes of which neither knows.
 MEASURED, SEEN, UNKNOWN = part.ROOT / "tools" / "minutes.txt", "minutes.txt", 2.0
-# The first crate of a chain that has little beside it. It and what stands on it are proved in a second run, in which the toolchain gives
-# each all processors: in one run with the rest it would begin with one, as others wait for theirs, and keep to it.
-CHAIN = "archive_store"
 
 
 def took(*files):
@@ -41,12 +38,6 @@ def span(below, takes, lanes):
         first = min(running, key=running.get)
         now = running.pop(first)
     return now
-
-
-def runs(names):
-    """Returns the crates of each run of the toolchain's gate. The later one holds those of the earlier, which are kept then."""
-    first = [it for it in names if CHAIN not in part.with_those_below(it)]
-    return [first, names] if 0 < len(first) < len(names) else [names]
 
 
 class Work:
@@ -151,11 +142,11 @@ def take(top, name, made):
     os.replace(made, out / "built-by-the-front-door")
 
 
-def proves(told, names, program=None, made=None):
-    """Runs the toolchain's gate over a copy of these crates, takes the program that is named, and returns whether all passed."""
+def proves(told, names, program, made):
+    """Runs the toolchain's gate over a copy of these crates, takes the program that is named if all passed, and returns whether it did."""
     with part.copied(names, ()) as told.top:
         passed = part.run_ci(told.top, [], told.hear) == 0
-        if passed and program:
+        if passed:
             take(told.top, program, made)
     return passed
 
@@ -172,8 +163,7 @@ def main(words):
     with open(words[0], "a", encoding="utf-8") as log:
         told = Told({name: file for name, file in made.items() if name != last}, work, log)
         threading.Thread(target=told.go_on, daemon=True).start()
-        *earlier, whole = runs(names)
-        passed = all(proves(told, it) for it in earlier) and proves(told, whole, last, made[last])
+        passed = proves(told, names, last, made[last])
         told.ended.set()
         if not passed:
             told.why.tell("archive", sys.stderr)
