@@ -18,14 +18,13 @@ answers to the reader of withdrawals. The last line is 'N passed, N failed, N sk
 import hashlib, pathlib, re, shutil, socket, stat, sys, tempfile, threading, time
 
 from trial import ROOT, SAMPLES, Trial, begun, free_ports, output, words_of
-from keeper import Keeper
+from keeper import OPEN, Keeper
 from serving import get, heard
 import mbox, subprocess
 
 TOKEN = "0123456789abcdef"
 IN_A_FILE, MOST_WAIT = 10, 0.1  # withdrawals in a file of commands, and seconds without an answer
 POLICY = '[[rule]]\nname = "members"\neffect = "deny"\nstandings = ["public"]\n\n[[rule]]\nname = "all"\neffect = "allow"\n'
-OPEN = '[[rule]]\nname = "all"\neffect = "allow"\n'
 # A program that serves 503 where the file `ill` is there when it begins, and is the real one else.
 STAND_IN = """#!/usr/bin/env python3
 import os, pathlib, socket, sys
