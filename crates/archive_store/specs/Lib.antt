@@ -10,5 +10,4 @@ pub mod Replies
 pub mod State
 pub mod StateLaws
 pub mod Told
-pub mod Uncounted
 pub mod Walking

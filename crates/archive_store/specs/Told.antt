@@ -1,4 +1,4 @@
--- The words in which the layers above speak of a store: they name neither its tables nor its database.
+-- What a store is and what its calls do, in words of its own: they name a connection, and the tables that it is over.
 use Rattle.std.specs.Prelude.{◌≡◌, ◌⊎◌, ◌<◌, ℕ, ⊤, IsTrue, List, Option, None, Some, Result, IfErr, OnOk, MatchResult, MatchOption}
 use Rattle.sqlite_disk.specs.Disk.{MoreFaults}
 use Rattle.sqlite.specs.Effect.{Database}

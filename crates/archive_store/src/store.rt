@@ -8,8 +8,8 @@ use sqlite::{Alter, Connection};
 #[derive(Drop)]
 pub struct Store<S: Alter> {
     pub(crate) conn: Connection<S>,
-    /// How often memory was refused: each call counts its E14, and the layers above theirs.
-    pub wants: RefusalCounter,
+    /// How often memory was refused: each call counts its E14, and the layers above theirs (`count_refusal`).
+    pub(crate) wants: RefusalCounter,
 }
 
 impl<S: Alter> Store<S> {
