@@ -84,7 +84,7 @@ module _ {S W : Type 0} (g : Ghosts S W) (old new : S) where
     pub no_disk_failure : ¬ DiskHasFailed g old new
     pub disk_is_clean : StoreHasCleanDisk g new
 
-  -- Whatever the call was, if this is its answer and E15 comes of nothing but what its clause `caused` says: a question on the messages
+  -- Whatever the call was, if this is its answer and E15 comes of nothing but what its field `fault_has_cause` says: a question on the messages
   -- of a list, of a month or of an author, on the message of a key, or on who asks.
   pub record QuestionHasNoDatabaseFault {A : Type 0} (result : Result A DeskError) (ask : Ask) : Type 0 where
     pub list : DeskFaultMeansDiskFailedOr g old new result (λ a. IsQuestionUnreadable a ask (messages_in a ask.list)) → HasNoDatabaseFault result

@@ -60,7 +60,7 @@ module _ {S W : Type 0} (g : Ghosts S W) (old new : S) where
   ImportErrorHasCause = ErrorHasCause IsReadWanting IsImportDatabaseFault
 
 module _ {S W : Type 0} (g : Ghosts S W) (old new : S) where
-  -- a command: E1 to E15; E15 only where the disk failed, or the rows refuse what the machine carries out
+  -- a command: E1 to E15; E15 only where the disk failed, or what is held refuses what the machine carries out
   abbrev pub RefusesCommand : StoreCommand → RunError → Type 0
   RefusesCommand command (Store fault) = CarriesOutCommand g old new command (Err fault) × StoreFaultHasCause g old new fault (HasCommandErrorCause g old new command)
   RefusesCommand command _ = ⊥

@@ -17,7 +17,7 @@ use thread_core::Threader;
 /// where its tables are an archive's: all out of the archive that it remembers, which stays as it is. What is read of a list for its
 /// threads, of a month and of an author is kept for the connections behind, and let go behind the last. A connection that fails is
 /// told in one line, S1 to S3, and the next one follows. F4: after fewer, the listener gave no more. F5: the memory of the routes
-/// was refused, which the store counts, and nothing else was touched.
+/// was refused, which the store counts; the archive is as it was, and nothing was written.
 pub fn serve_on<T: Threader, S: ArchiveStore, L: Listener, E: Sink>(
     store: &mut S,
     terms: &ServingContext<'_, T>,
