@@ -9,7 +9,7 @@ order that the commit draws, until it has MOST, or the run has taken MINUTES; it
   --anew       nothing counts that an earlier run on this machine passed, and `rt ci` tries each wrong body by itself
   --record     puts none off, and writes tools/refused.txt: of which crates all wrong bodies were refused, over which text; and
                tools/minutes.txt: how long each crate took that was proved from nothing, with the tables of docs/GATE.md that are made of it
-  --minutes N  after so many minutes (120) it begins the wrong bodies of no other crate
+  --minutes N  after so many minutes (100) it tries no other wrong body, and puts off the crates that it is not done with
 
 The last line is 'N passed, M failed', as `rt ci` counts, but that a wrong body that cannot be applied has failed; and the
 worked calls under refused growths of memory (refused.py) are one more that passed or failed, and so are the callers of the
@@ -22,7 +22,7 @@ import build, callers, due, joined, minutes, part, refused, why
 COUNT = re.compile(r"(\d+) passed, (\d+) failed")
 EDIT = re.compile(r"rt: must-fail (\w+)/(\S+\.edit): (refused, as it must be.*|[A-Z]+.*)")
 # From how many wrong bodies and minutes on one run puts the next crate off: so many fit CI's time on two processors, beside tests and programs.
-MOST, MINUTES = 200, 120
+MOST, MINUTES = 200, 100
 # What a refused edit says where the prover did not refuse what it does.
 SHOWS_LITTLE = re.compile(r"borrow checker does not cover|says (little|less) of the contract")
 

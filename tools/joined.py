@@ -145,17 +145,23 @@ def alone(words, crate, mistake, kept):
     return f"refused: {first[:160]}" if first else f"refused, but says little of the contract, as a proof names what it takes away: {' '.join(told)[:160]}"
 
 
-def tried_of(rtlib, top, name):
-    """Returns what came of each wrong body of a crate, by the name of its file; and how many were refused with others."""
+def tried_of(rtlib, top, name, may_begin):
+    """Returns what came of each wrong body of a crate, by the name of its file; and how many were refused with others. None where one more
+    check may not begin."""
     crate, found = top / "crates" / name, {}
     words = [rtlib.RATTLE, "check", *rtlib.Crate(str(crate), str(top), {}).words(["--jobs", "1"], keeps=False)]
     mistakes = [Mistake(it) for it in sorted((part.CRATES / name / "must-fail").glob("*.edit"))]
     with tempfile.TemporaryDirectory(prefix="archive-joined-") as kept:
         for made in rounds_of(mistakes):
+            if not may_begin():
+                return None
             if ran := checked(words, crate, made, kept):
                 found |= {it.edit.name: f"refused: {why}" for it, why in refused_by(ran[0], made).items()}
         together, rest = len(found), [it for it in mistakes if it.edit.name not in found]
-        found |= {it.edit.name: alone(words, crate, it, kept) for it in rest}
+        for it in rest:
+            if not may_begin():
+                return None
+            found[it.edit.name] = alone(words, crate, it, kept)
         if rest and checked(words, crate, [], kept)[1]:
             found |= {it.edit.name: "BAD EDIT: the crate itself is not proved" for it in rest}
     return found, together
@@ -163,10 +169,10 @@ def tried_of(rtlib, top, name):
 
 def tried_in(top, names, may_begin):
     """Returns the same of these crates of a repository that `rt ci` passed, by the names of the crates, several at a time, as memory allows; but
-    for those that may not begin any more when it is their turn."""
+    for those of which a check may not begin any more."""
     rtlib = toolchain()
     with open("/proc/meminfo", encoding="ascii") as it:
         free = int(re.search(r"MemAvailable:\s+(\d+)", it.read())[1]) // 1024
     with concurrent.futures.ThreadPoolExecutor(max(1, min(os.cpu_count() or 1, free // NEED))) as pool:
-        found = pool.map(lambda it: tried_of(rtlib, top, it) if may_begin() else None, names)
+        found = pool.map(lambda it: tried_of(rtlib, top, it, may_begin), names)
         return {name: it for name, it in zip(names, found) if it}

@@ -18,10 +18,11 @@ import part
 LARGE, SMALL, SECONDS = 3500, 1500, "900"
 # An interpreter of the toolchain goes first, for some seconds of each test: it gets one step, and what is compiled with checks runs whole.
 STEPS = "1"
-# Which crates of tests are tried together: each of these trials is compiled once.
+# Which crates of tests are tried together: each of these trials is compiled once. Those that take longest come first.
 TOGETHER = (
+    ("stored_tests",),
     ("store_tests", "run_tests"),
-    ("desk_tests", "pages_tests"),
+    ("memory_tests",),
     ("mail_tests", "mbox_tests", "thread_tests", "policy_tests", "results_tests", "html_tests", "stream_tests", "request_tests", "listen_tests"),
 )
 # The crate that is made of several.
@@ -92,8 +93,8 @@ def try_tests(names):
 
 
 def join(top, names):
-    """Makes one crate of these crates of tests, each a module, in a copy of the repository. What it takes of another of them, as the tests of
-    pages do of those of the desk, it takes of its module."""
+    """Makes one crate of these crates of tests, each a module, in a copy of the repository. What it takes of another of them it takes of
+    its module."""
     known, source = part.lines(), top / "crates" / JOINED / "src"
     own = re.compile(rf"(?<![\w:])({'|'.join(names)})::")
     for name in names:

@@ -551,16 +551,22 @@ TESTED = {
 PASSES = {"writes": "test a::b ... ok\n", "tells": "run=ended status=3 runners=1 proved=no\n"}
 # Two crates of tests that are tried together, the second of which uses the first.
 TOGETHER = {
-    "crates.txt": "low: memchr\ndesk_tests: low\npages_tests: desk_tests low\n",
+    "crates.txt": "low: memchr\nstore_tests: low\nrun_tests: store_tests low\n",
     "HANDLES": "Handles allowed: none.\n",
     "crates/low/src/lib.rt": "fn f() {}\n",
-    "crates/desk_tests/src/lib.rt": "//! The desk.\n#![tactic(auto)]\n\npub mod made;\n",
-    "crates/desk_tests/src/made.rt": "#[test]\nfn a() {}\n",
-    "crates/pages_tests/src/lib.rt": "//! Pages.\n#![tactic(auto)]\n\nmod b;\nmod c;\n",
-    "crates/pages_tests/src/b.rt": "use crate::c::d;\nuse desk_tests::made::a;\nuse low::f;\n\n#[test]\nfn b() {}\n",
-    "crates/pages_tests/src/c.rt": "pub fn d() {}\n",
+    "crates/store_tests/src/lib.rt": "//! The store.\n#![tactic(auto)]\n\npub mod made;\n",
+    "crates/store_tests/src/made.rt": "#[test]\nfn a() {}\n",
+    "crates/run_tests/src/lib.rt": "//! Runs.\n#![tactic(auto)]\n\nmod b;\nmod c;\n",
+    "crates/run_tests/src/b.rt": "use crate::c::d;\nuse store_tests::made::a;\nuse low::f;\n\n#[test]\nfn b() {}\n",
+    "crates/run_tests/src/c.rt": "pub fn d() {}\n",
 }
-BOTH = {"writes": "test desk_tests::a ... ok\ntest pages_tests::b ... ok\n", "tells": "run=ended status=3 runners=1 proved=no\n"}
+# A third, which uses both and is tried alone.
+ABOVE = {
+    **TOGETHER,
+    "crates.txt": "low: memchr\nstore_tests: low\nrun_tests: store_tests low\nstored_tests: run_tests store_tests low\n",
+    "crates/stored_tests/src/lib.rt": "use store_tests::made::a;\n\n#[test]\nfn c() {}\n",
+}
+BOTH = {"writes": "test store_tests::a ... ok\ntest run_tests::b ... ok\n", "tells": "run=ended status=3 runners=1 proved=no\n"}
 
 
 def is_joined():
@@ -569,17 +575,17 @@ def is_joined():
     with repository({**TOGETHER, "tools/joins.py": joins}) as (top, stand_in), tempfile.TemporaryDirectory() as room:
         at = pathlib.Path(room)
         (at / "crates.txt").write_text("low: memchr\n", encoding="utf-8")
-        run(top, stand_in, "joins.py", [room, "desk_tests", "pages_tests"])
+        run(top, stand_in, "joins.py", [room, "store_tests", "run_tests"])
         texts = {str(it.relative_to(at)): it.read_text(encoding="utf-8") for it in at.glob("**/*") if it.is_file()}
         source = "crates/joined_tests/src"
         return equal(texts, {
-            "crates.txt": "low: memchr\njoined_tests: low desk_tests pages_tests\n",
-            f"{source}/lib.rt": "#[cfg(test)]\npub mod desk_tests;\n#[cfg(test)]\npub mod pages_tests;\n",
-            f"{source}/desk_tests.rt": "//! The desk.\n\npub mod made;\n",
-            f"{source}/desk_tests/made.rt": "#[test]\nfn a() {}\n",
-            f"{source}/pages_tests.rt": "//! Pages.\n\nmod b;\nmod c;\n",
-            f"{source}/pages_tests/b.rt": "use crate::pages_tests::c::d;\nuse crate::desk_tests::made::a;\nuse low::f;\n\n#[test]\nfn b() {}\n",
-            f"{source}/pages_tests/c.rt": "pub fn d() {}\n",
+            "crates.txt": "low: memchr\njoined_tests: low store_tests run_tests\n",
+            f"{source}/lib.rt": "#[cfg(test)]\npub mod store_tests;\n#[cfg(test)]\npub mod run_tests;\n",
+            f"{source}/store_tests.rt": "//! The store.\n\npub mod made;\n",
+            f"{source}/store_tests/made.rt": "#[test]\nfn a() {}\n",
+            f"{source}/run_tests.rt": "//! Runs.\n\nmod b;\nmod c;\n",
+            f"{source}/run_tests/b.rt": "use crate::run_tests::c::d;\nuse crate::store_tests::made::a;\nuse low::f;\n\n#[test]\nfn b() {}\n",
+            f"{source}/run_tests/c.rt": "pub fn d() {}\n",
         })
 
 
@@ -597,10 +603,11 @@ QUICK = {
     "a test that is not tried": says("quick.py", ["low_tests"], {**TESTED, "crates/low_tests/src/lib.rt": "#[test]\nfn f() {}\n\n#[test]\nfn g() {}\n"}, 1,
         "quick: low_tests: of its 2 tests 1 were tried: run=ended status=3 runners=1 proved=no", "1 passed, 1 failed", **PASSES),
     "two crates together": says("quick.py", [], TOGETHER, 0, "2 passed, 0 failed", **BOTH),
-    "one of two": asks("quick.py", ["pages_tests"], TOGETHER, ["--test", "in pages_tests"], ["in joined_tests"], **PASSES),
-    "two that are one crate": asks("quick.py", [], TOGETHER, ["--test", "in joined_tests"], ["in desk_tests"], **BOTH),
-    "a test of the second that is not tried": says("quick.py", [], TOGETHER, 1, "quick: pages_tests: of its 1 tests 0 were tried: run=ended status=3 runners=1 proved=no",
-        "1 passed, 1 failed", **{**BOTH, "writes": "test desk_tests::a ... ok\n"}),
+    "one of two": asks("quick.py", ["run_tests"], TOGETHER, ["--test", "in run_tests"], ["in joined_tests"], **PASSES),
+    "two that are one crate": asks("quick.py", [], TOGETHER, ["--test", "in joined_tests"], ["in store_tests"], **BOTH),
+    "one that is tried alone, by its name": asks("quick.py", [], ABOVE, ["in stored_tests", "in joined_tests"], ["in store_tests", "in run_tests"], **BOTH),
+    "a test of the second that is not tried": says("quick.py", [], TOGETHER, 1, "quick: run_tests: of its 1 tests 0 were tried: run=ended status=3 runners=1 proved=no",
+        "1 passed, 1 failed", **{**BOTH, "writes": "test store_tests::a ... ok\n"}),
     "each is a module": is_joined,
     "a program that writes something else": says("quick.py", ["shown"], TESTED, 1, "quick: shown: it wrote something else than its file stdout",
         "0 passed, 1 failed", **{**PASSES, "writes": "other\n"}),
