@@ -1,0 +1,11 @@
+pub mod AddLemmas
+pub mod AskLemmas
+pub mod ChangeLemmas
+pub mod DecideLemmas
+pub mod MapLemmas
+pub mod RunLemmas
+pub mod SelectLemmas
+pub mod SentLemmas
+pub mod SortLemmas
+pub mod StateLemmas
+pub mod WalkLemmas
