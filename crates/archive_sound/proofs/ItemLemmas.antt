@@ -1,0 +1,121 @@
+-- No message of many that come one after the other is refused.
+use Rattle.std.proofs.Common.{◌≡◌, ◌≤◌, ◌+ℤ◌, ◌+◌, ℕ, suc, pos, List, [], ◌∷◌, ◌++◌, map, length, Bool, true, false, refl, sym, subst, ◌∙◌, arith, nat_lt, nat_le}
+use Rattle.std.specs.Prelude.{not, if◌then◌else◌}
+use Rattle.std.specs.List.{AllByRecursion}
+use Rattle.std.proofs.lemmas.Int.{ints}
+use Rattle.sqlite.specs.Edit.{next_rowid}
+use Rattle.sqlite.specs.Effect.{Database}
+use Rattle.sqlite.specs.Tree.{Trees}
+use Rattle.mbox_items.specs.Division.{Item, whole}
+use Rattle.archive_model.specs.Commands.{CommandReply, add, done, was_there, taken_in, already_known, refused, no_list, list_full, too_large}
+use Rattle.archive_model.specs.Filing.{item_index_columns}
+use Rattle.archive_model.specs.Keys.{item_key}
+use Rattle.archive_model.specs.Machine.{refuse, add_within_limit, longest_text, message_limit, new_message, with_message}
+use Rattle.archive_model.specs.Questions.{has_list, has_message, is_message_at_key, messages_in}
+use Rattle.archive_model.specs.Records.{Archive}
+use Rattle.archive_tables.specs.Statements.{StatementExecutesTo}
+use Rattle.archive_tables.specs.Tables.{archive_in_trees, message_from_row}
+use Rattle.archive_database.specs.Taking.{insert_item_statement}
+use Rattle.archive_store.specs.Refusals.{IsCommandRefused, MakeRows, WritesMessageIfAdded, RowsRefuseAnItem}
+use Rattle.archive_store.proofs.StepEquations.{is_some-find}
+use Rattle.archive_sound.specs.Room.{IsSoundArchive, HasNumbersFor, HasCountedNumber, HasRoomForMessages, longest_sender, message_count}
+use Rattle.archive_sound.proofs.AddStatements.{message_added}
+use Rattle.archive_sound.proofs.CommandLemmas.{never_refused, list_there, short_message}
+use Rattle.archive_sound.proofs.CountLemmas.{in_64_bits}
+use Rattle.archive_sound.proofs.MessageTable.{none_alike}
+
+-- ---- numbers
+
+one_more : (more : ℕ) (trees : Trees) → HasNumbersFor (suc more) trees → HasCountedNumber trees
+one_more more trees has =
+    let last = has.last in
+    let last_low = has.last_is_positive in
+    let count = has.count in
+    let count_low = has.count_is_positive in
+    record {
+      after_last = in_64_bits (next_rowid (trees 8)) last_low (omega (arith, ints, last));
+      after_count = in_64_bits (message_count trees +ℤ pos 1) (omega (arith, ints, count_low)) (omega (arith, ints, count));
+      sequence = has.sequence;
+      numbers = has.numbers;
+      number = has.number;
+    }
+
+fewer : (more : ℕ) (trees : Trees) → HasNumbersFor (suc more) trees → HasNumbersFor more trees
+fewer more trees has =
+    let last = has.last in
+    let count = has.count in
+    record {
+      last_is_positive = has.last_is_positive;
+      last = omega (arith, ints, last);
+      count_is_positive = has.count_is_positive;
+      count = omega (arith, ints, count);
+      sequence = has.sequence;
+      numbers = has.numbers;
+      number = has.number;
+    }
+
+-- ---- a message that the machine takes in
+
+record IsTakenIn (a : Archive) (list : List ℕ) (item : Item) : Type 0 where
+  list_is_there : has_list a list ≡ true
+  text_is_short : nat_lt longest_text (length (whole item.text)) ≡ false
+  key_is_new : has_message a list (item_key item) ≡ false
+
+taken : (limit : ℕ) (a : Archive) (list : List ℕ) (item : Item) → (add_within_limit limit a list item).1 ≡ taken_in → IsTakenIn a list item
+taken limit a list item is =
+    by_tests (has_list a list) (nat_lt longest_text (length (whole item.text))) (has_message a list (item_key item)) (nat_le limit (length (messages_in a list))) refl refl refl is
+  where
+    by_tests : (there long known full : Bool) → has_list a list ≡ there → nat_lt longest_text (length (whole item.text)) ≡ long → has_message a list (item_key item) ≡ known
+        → (if not there then refuse a no_list else if long then refuse a too_large else if known then (a, already_known) else if full then refuse a list_full else
+        (with_message a list item, taken_in)).1 ≡ taken_in
+        → IsTakenIn a list item
+    by_tests false long known full p q r is = absurd (let bad = is in cc)
+    by_tests true true known full p q r is = absurd (let bad = is in cc)
+    by_tests true false true full p q r is = absurd (let bad = is in cc)
+    by_tests true false false full p q r is = record { list_is_there = p; text_is_short = q; key_is_new = r }
+
+module _ (list : List ℕ) (item : Item) (db : Database) (sound : IsSoundArchive db) (short : length list + length item.envelope.sender ≤ longest_sender) (more : ℕ)
+    (numbers : HasNumbersFor (suc more) db.trees) where
+  abbrev LeavesRoom : Database → Type 0
+  LeavesRoom next = IsSoundArchive next × HasNumbersFor more next.trees
+
+  executed : IsTakenIn (archive_in_trees db.trees) list item → (next : Database) → StatementExecutesTo (insert_item_statement list (item_key item) item) db next → LeavesRoom next
+  executed it next executes =
+      let key = item_key item in
+      let none = sym (is_some-find (is_message_at_key list key) (map message_from_row (db.trees 8))) ∙ it.key_is_new in
+      let left = message_added db sound list key item.envelope.sender item.envelope.arrival (whole item.text) (item_index_columns item) (short_message list item short it.text_is_short)
+      (one_more more db.trees numbers) (list_there message_limit db sound list it.list_is_there) (none_alike (new_message list item) (db.trees 8) ∙ none) next executes in
+      (left.0, left.1 more numbers)
+
+  stays : (next : Database) → next ≡ db → LeavesRoom next
+  stays next same = subst LeavesRoom (sym same) (sound, fewer more db.trees numbers)
+
+  leaves_room : (reply : CommandReply) → (add_within_limit message_limit (archive_in_trees db.trees) list item).1 ≡ reply → (next : Database) → WritesMessageIfAdded list item reply db next
+      → LeavesRoom next
+  leaves_room taken_in is next writes = executed (taken message_limit (archive_in_trees db.trees) list item is) next writes
+  leaves_room done is next writes = stays next writes
+  leaves_room (was_there b) is next writes = stays next writes
+  leaves_room already_known is next writes = stays next writes
+  leaves_room (refused why) is next writes = stays next writes
+
+-- ---- one after the other
+
+module _ (list : List ℕ) where
+  abbrev IsShortSender : Item → Type 0
+  IsShortSender item = length list + length item.envelope.sender ≤ longest_sender
+
+  never_in_turn : (before : List Item) (item : Item) (after : List Item) (db : Database) → IsSoundArchive db → AllByRecursion IsShortSender (before ++ item ∷ after)
+      → HasNumbersFor (length (before ++ item ∷ after)) db.trees → (database : Database) → MakeRows list before db database → ¬ IsCommandRefused (add list item) database
+  unfolding MakeRows
+  never_in_turn [] item after db sound senders numbers database same =
+      subst (λ d. ¬ IsCommandRefused (add list item) d) (sym same)
+      (never_refused message_limit (add list item) db sound tt (record { short = senders.0; number = one_more (length after) db.trees numbers }))
+  never_in_turn (i ∷ before) item after db sound senders numbers database makes =
+      let left = leaves_room list i db sound senders.0 (length (before ++ item ∷ after)) numbers _ refl makes.0 makes.1 in
+      never_in_turn before item after makes.0 left.0 senders.1 left.1 database makes.2
+
+  pub never_an_item : (items : List Item) (db : Database) → IsSoundArchive db → HasRoomForMessages list items db → ¬ RowsRefuseAnItem list items db
+  never_an_item items db sound room why =
+      let are = why.items_are in
+      never_in_turn why.items_before why.item why.items_after db sound (subst (AllByRecursion IsShortSender) (sym are) room.senders)
+      (subst (λ l. HasNumbersFor (length l) db.trees) (sym are) room.numbers) why.database why.makes_rows why.is_refused
