@@ -19,6 +19,7 @@ mod ListStatements
 mod SequenceTable
 mod AddStatements
 mod CommandLemmas
+mod CauseLemmas
 mod RoomExamples
 mod LengthLemmas
 mod CountLemmas

@@ -5,17 +5,26 @@
 //! They do not say that a disk works, that memory is enough, or that a file holds an archive. That `sqlite_sequence` has rows under rising
 //! numbers is among the room, since no clause says it of an open file. That a command leaves room for the next one is proved of messages
 //! that are added one after the other, and of no other command.
-ghost use Rattle.std.specs.Prelude.{◌≡◌, ◌+◌, ℕ, ℤ, Bool, List, length};
+ghost use Rattle.std.specs.Prelude.{◌≡◌, ◌+◌, ℕ, ℤ, Bool, List, Result, length};
 ghost use Rattle.std.specs.List.{AllByRecursion};
 ghost use Rattle.sqlite.specs.Effect.{Database, IsDatabase};
 ghost use Rattle.mbox_items.specs.Division.{Item};
 ghost use Rattle.archive_model.specs.Addresses.{normalize_address};
 ghost use Rattle.archive_model.specs.Commands.{Command, list_add, person_add, grant, revoke, add, withdraw, restore, embargo, lift, merge_set, address_set};
+ghost use Rattle.archive_model.specs.declared.found.CommandFacts.{CommandFacts};
+ghost use Rattle.archive_port.specs.Commands.{ExecutesCommand};
+ghost use Rattle.archive_port.specs.Told.{E15MeansDiskFailed};
+ghost use Rattle.archive_port.specs.declared.faults.StoreFault.{StoreFault};
 ghost use Rattle.archive_tables.specs.Schema.{archive_schema};
 ghost use Rattle.archive_tables.specs.Tables.{AreArchiveTables};
 ghost use Rattle.archive_store.specs.Refusals.{IsCommandRefused, IsCommandRefusedWithin, RowsRefuseAnItem, RowsRefuseNextCommand};
+ghost use Rattle.archive_store.specs.State.{state_of};
+ghost use Rattle.archive_store.specs.declared.store.Store.{Store};
+ghost use Rattle.archive_sound.specs.Causes.{HasRoomInStore};
 ghost use Rattle.archive_sound.specs.Room.{IsSoundArchive, HasRoom, HasRoomForMarks, HasRoomForChange, HasRoomForUpsert, HasRoomForList, HasRoomForMessage, HasRoomForMessages};
 ghost use Rattle.archive_sound.specs.Room.{HasFreeNumber, IsCommandInRange, IsGrantInRange, IsDay, IsParty};
+
+use sqlite::Alter;
 
 /// A mark on a message is never refused: who withdrew it, that nobody did, the day of its embargo, and that it has none.
 pub fn a_mark_is_never_refused()
@@ -52,12 +61,18 @@ pub fn no_item_is_refused()
 {}
 
 /// The rows of an archive that has room for a command never refuse it if the machine carries it out, however many messages a list may
-/// hold. An open connection over the tables of an archive shows such rows, since its database obeys its schema (`IsDatabase`). If a
-/// command ends with E15 there, the disk failed. The same holds of the next of many commands.
+/// hold. An open connection over the tables of an archive shows such rows, since its database obeys its schema (`IsDatabase`). The
+/// same holds of the next of many commands.
 pub fn no_command_is_refused()
     ensures any { (limit : ℕ) (command : Command) (db : Database) → IsSoundArchive db → IsCommandInRange command → HasRoom command db → ¬ IsCommandRefusedWithin limit command db }
     ensures live { (limit : ℕ) (command : Command) (db : Database) → db.schema ≡ archive_schema → AreArchiveTables db.trees → IsDatabase db → IsCommandInRange command → HasRoom command db
         → ¬ IsCommandRefusedWithin limit command db }
     ensures next { (commands : List Command) (done : ℕ) (db : Database) → IsSoundArchive db → AllByRecursion (λ command. IsCommandInRange command × HasRoom command db) commands
         → ¬ RowsRefuseNextCommand commands done db }
+{}
+
+/// E15 of a command means that the disk failed in that call, if the database of the store has room for what the command writes.
+pub fn only_the_disk_fails_a_command<S: Alter>()
+    ensures { (old new : Store S) (command : Command) (result : Result CommandFacts StoreFault) → ExecutesCommand (state_of S.Store) old new command result
+        → HasRoomInStore S.Store old command → E15MeansDiskFailed (state_of S.Store) old new result }
 {}
