@@ -1,15 +1,15 @@
 //! What the questions on threads ask a threader: once, and of the messages of the view alone.
 use crate::cases::{WITHDRAWN, day};
+use crate::checks::{expect, expect_equal};
+use crate::commands::{grant, list_add, person_add, withdraw};
 use crate::noting::Noting;
 use archive_desk::{DeskError, import, thread, threads};
+use archive_port::{ArchiveStore, Key};
 use archive_results::{Ask, Reader, TreeLine};
-use archive_store::{Key, Store};
 use civil_time::Day;
 use mbox_core::cut;
 use policy_core::{GrantKind, Policy, WithdrawnBy};
-use sqlite::Alter;
 use std::alloc::Global;
-use std::process::Abort;
 use std::test::Fail;
 use thread_core::{NodeThreader, Threader};
 
@@ -50,9 +50,9 @@ fn shape_of(alloc: Global, rows: &[TreeLine]) -> Result<Shape, Fail> {
 }
 
 /// All threads, or the thread of the message at a place: none where the view does not hold it.
-fn shape<T: Threader, S: Alter>(
+fn shape<T: Threader, A: ArchiveStore>(
     alloc: Global,
-    store: &mut Store<S>,
+    store: &mut A,
     ask: &Ask<'_>,
     threader: &T,
     place: Option<usize>,
@@ -69,10 +69,9 @@ fn shape<T: Threader, S: Alter>(
 }
 
 /// A case: what the threader is asked, and that the threader of nodes gives the same rows.
-fn ask_once<S: Alter>(
-    rt: &impl Abort,
+fn ask_once<A: ArchiveStore>(
     alloc: Global,
-    store: &mut Store<S>,
+    store: &mut A,
     policy: &Policy,
     nodes: &NodeThreader,
     case: &Case,
@@ -82,12 +81,14 @@ fn ask_once<S: Alter>(
     let noting = Noting::new(alloc);
     let rows = shape(alloc, store, &ask, &noting, place)?;
     let noted = noting.into_noted();
-    assert_eq!(rt; (noted.joins, noted.rows), (times, times));
-    assert_eq!(rt; noted.entries.as_slice(), entries);
+    expect_equal((noted.joins, noted.rows), (times, times))?;
+    expect_equal(noted.entries.as_slice(), entries)?;
     let by_nodes = shape(alloc, store, &ask, nodes, place)?;
-    assert!(rt; rows.as_slice() == by_nodes.as_slice());
-    assert_eq!(rt; rows.is_empty(), times == 0);
-    Ok(())
+    expect(
+        rows.as_slice() == by_nodes.as_slice(),
+        "other rows by nodes",
+    )?;
+    expect_equal(rows.is_empty(), times == 0)
 }
 
 fn asked_by<'a>(policy: &'a Policy, reader: Reader<'a>, day: Day) -> Ask<'a> {
@@ -100,28 +101,27 @@ fn asked_by<'a>(policy: &'a Policy, reader: Reader<'a>, day: Day) -> Ask<'a> {
 }
 
 /// The list of the messages, of which the first is withdrawn; `mo` is a moderator.
-fn fill<S: Alter>(alloc: Global, store: &mut Store<S>) -> Result<(), Fail> {
+fn fill<A: ArchiveStore>(alloc: Global, store: &mut A) -> Result<(), Fail> {
     let today = day("2003-03-20")?;
-    store.list_add("soc")?;
-    store.person_add("mo", "0123456789abcdef")?;
-    store.grant("mo", "soc", GrantKind::Moderator, today, today)?;
+    list_add(store, "soc")?;
+    person_add(store, "mo", "0123456789abcdef")?;
+    grant(store, "mo", "soc", GrantKind::Moderator, today, today)?;
     import(store, alloc, "soc", MBOX)?;
     let first = Key::of(&cut(MBOX)?.next().ok_or("a message")?);
-    store.withdraw("soc", &first, WithdrawnBy::Author)?;
+    withdraw(store, "soc", &first, WithdrawnBy::Author)?;
     Ok(())
 }
 
 /// Questions on threads, where a message is withdrawn.
-pub fn asking<S: Alter>(
-    rt: &impl Abort,
+pub fn asking<A: ArchiveStore>(
     alloc: Global,
-    store: &mut Store<S>,
+    store: &mut A,
     nodes: &NodeThreader,
 ) -> Result<(), Fail> {
     fill(alloc, store)?;
     let policy = Policy::read(alloc, WITHDRAWN)?;
     for case in CASES.iter() {
-        ask_once(rt, alloc, store, &policy, nodes, case)?;
+        ask_once(alloc, store, &policy, nodes, case)?;
     }
     Ok(())
 }

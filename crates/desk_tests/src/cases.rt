@@ -1,16 +1,10 @@
-//! The worked cases for any store, and the stores that are told them.
-use crate::files::few_pages;
-use crate::{asking, exports, imports, listings, messages, shown};
+//! The worked cases for any archive.
+use crate::{asking, exports, imports, listings, messages, shown, streams};
+use archive_port::ArchiveStore;
 use archive_results::{Ask, Reader};
-use archive_store::Store;
 use civil_time::Day;
 use policy_core::Policy;
-use sqlite::{Alter, Connection, Files};
-use sqlite_disk::Memory;
 use std::alloc::Global;
-use std::hash::RandomState;
-use std::process::Abort;
-use std::random::RandomSource;
 use std::test::Fail;
 use thread_core::NodeThreader;
 
@@ -46,7 +40,7 @@ pub fn by_nobody<'a>(policy: &'a Policy) -> Result<Ask<'a>, Fail> {
     })
 }
 
-/// What a store is told and asked.
+/// What an archive is told and asked.
 #[derive(Clone, Copy, Debug, PartialEq, Eq)]
 pub enum Case {
     Imports,
@@ -57,71 +51,41 @@ pub enum Case {
     Shown,
     Asking,
     Chain,
+    Pieces,
+    Batches,
 }
 
-/// Tells an empty store a case.
-fn tell<S: Alter>(
-    rt: &impl Abort,
+/// All cases.
+pub const CASES: [Case; 10] = [
+    Case::Imports,
+    Case::Large,
+    Case::Messages,
+    Case::Exports,
+    Case::Listings,
+    Case::Shown,
+    Case::Asking,
+    Case::Chain,
+    Case::Pieces,
+    Case::Batches,
+];
+
+/// Tells an empty archive a case.
+pub fn tell<A: ArchiveStore>(
     alloc: Global,
-    store: &mut Store<S>,
+    store: &mut A,
     nodes: &NodeThreader,
     case: Case,
 ) -> Result<(), Fail> {
     match case {
-        Case::Imports => imports::imports(rt, alloc, store),
-        Case::Large => imports::large(rt, alloc, store),
-        Case::Messages => messages::messages(rt, alloc, store),
-        Case::Exports => exports::exports(rt, alloc, store),
-        Case::Listings => listings::listings(rt, alloc, store),
-        Case::Shown => shown::shown(rt, alloc, store),
-        Case::Asking => asking::asking(rt, alloc, store, nodes),
-        Case::Chain => exports::chain(rt, alloc, store),
+        Case::Imports => imports::imports(alloc, store),
+        Case::Large => imports::large(alloc, store),
+        Case::Messages => messages::messages(alloc, store),
+        Case::Exports => exports::exports(alloc, store),
+        Case::Listings => listings::listings(alloc, store),
+        Case::Shown => shown::shown(alloc, store),
+        Case::Asking => asking::asking(alloc, store, nodes),
+        Case::Chain => exports::chain(alloc, store),
+        Case::Pieces => streams::pieces(alloc, store),
+        Case::Batches => streams::batches(alloc, store),
     }
-}
-
-/// Tells a new store over memory a case.
-fn tell_new(rt: &(impl Abort + RandomSource), alloc: Global, case: Case) -> Result<(), Fail> {
-    let nodes = NodeThreader::new(RandomState::new(rt)?);
-    let mut store = Store::open_in_memory(alloc)?;
-    tell(rt, alloc, &mut store, &nodes, case)
-}
-
-#[test]
-fn stores_over_memory(rt: HostRuntime) -> Result<(), Fail> {
-    for case in [
-        Case::Imports,
-        Case::Large,
-        Case::Messages,
-        Case::Exports,
-        Case::Listings,
-        Case::Shown,
-        Case::Chain,
-    ] {
-        tell_new(&rt, rt.alloc(), case)?;
-    }
-    Ok(())
-}
-
-#[test]
-fn each_question_asks_the_threader_once_of_the_view_alone(rt: HostRuntime) -> Result<(), Fail> {
-    tell_new(&rt, rt.alloc(), Case::Asking)
-}
-
-#[test]
-fn a_store_over_a_file(rt: HostRuntime) -> Result<(), Fail> {
-    let files = Files {
-        log: Memory::new(rt.alloc()),
-        db: Memory::new(rt.alloc()),
-    };
-    if !files.may_be_used() {
-        return Err(Fail::from("files that may be used"));
-    }
-    let Ok(connection) = Connection::open_files(rt.alloc(), files, few_pages()) else {
-        return Err(Fail::from("an open file"));
-    };
-    let Ok(mut store) = Store::adopt(connection) else {
-        return Err(Fail::from("a store"));
-    };
-    let nodes = NodeThreader::new(RandomState::new(&rt)?);
-    tell(&rt, rt.alloc(), &mut store, &nodes, Case::Imports)
 }

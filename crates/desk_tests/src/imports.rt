@@ -1,11 +1,11 @@
 //! Files that are taken into a list.
 use crate::cases::TWO;
+use crate::checks::{expect, expect_equal};
+use crate::commands::list_add;
 use archive_desk::{ImportError, ImportStop, Report, import};
-use archive_store::{Key, Store, StoreFault};
+use archive_port::{ArchiveStore, Key, StoreFault};
 use mbox_core::{MboxFault, cut};
-use sqlite::Alter;
 use std::alloc::Global;
-use std::process::Abort;
 use std::test::Fail;
 
 /// The second of the two messages under another separator line, and a third.
@@ -28,8 +28,8 @@ fn stopped(fault: ImportError) -> Result<Report, ImportStop> {
 }
 
 /// Imports that follow one another on an empty archive.
-pub fn imports<S: Alter>(rt: &impl Abort, alloc: Global, store: &mut Store<S>) -> Result<(), Fail> {
-    store.list_add("soc")?;
+pub fn imports<A: ArchiveStore>(alloc: Global, store: &mut A) -> Result<(), Fail> {
+    list_add(store, "soc")?;
     let no_list = stopped(ImportError::Store(StoreFault::NoList));
     let no_mbox = stopped(ImportError::Mbox(MboxFault::Preamble(1)));
     for (list, mbox, wanted) in [
@@ -42,13 +42,13 @@ pub fn imports<S: Alter>(rt: &impl Abort, alloc: Global, store: &mut Store<S>) -
         ("xyz", TWO, no_list),
         ("xyz", BROKEN, no_list),
     ] {
-        assert_eq!(rt; import(store, alloc, list, mbox), wanted);
+        expect_equal(import(store, alloc, list, mbox), wanted)?;
     }
-    holds_three(rt, alloc, store)
+    holds_three(alloc, store)
 }
 
 /// The list holds the first, the second and the third message, the second as it came first.
-fn holds_three<S: Alter>(rt: &impl Abort, alloc: Global, store: &mut Store<S>) -> Result<(), Fail> {
+fn holds_three<A: ArchiveStore>(alloc: Global, store: &mut A) -> Result<(), Fail> {
     let rows = store.rows(alloc, "soc")?;
     let [first, second, third] = rows.as_slice() else {
         return Err(Fail::from("three messages"));
@@ -61,19 +61,19 @@ fn holds_three<S: Alter>(rt: &impl Abort, alloc: Global, store: &mut Store<S>) -
         (second, b"Subject: Re: Hello\n\nTwo.\n".as_slice()),
         (third, b"\nThree.\n".as_slice()),
     ] {
-        assert_eq!(rt; message.item.as_item().text, text);
+        expect_equal(message.item.as_item().text, text)?;
     }
     let came = cut(TWO)?.nth(1).ok_or("a second message")?;
     let item = second.item.as_item();
-    assert_eq!(rt; item.envelope.sender, came.envelope.sender);
-    assert_eq!(rt; item.envelope.arrival, came.envelope.arrival);
-    assert!(rt; second.key == Key::of(&came));
-    Ok(())
+    let (found, wanted) = (&item.envelope, &came.envelope);
+    expect_equal(found.sender, wanted.sender)?;
+    expect_equal(found.arrival, wanted.arrival)?;
+    expect(second.key == Key::of(&came), "another key")
 }
 
 /// A whole text of 16,777,216 bytes is kept, one byte more is too large, and the import goes on behind it.
-pub fn large<S: Alter>(rt: &impl Abort, alloc: Global, store: &mut Store<S>) -> Result<(), Fail> {
-    store.list_add("soc")?;
+pub fn large<A: ArchiveStore>(alloc: Global, store: &mut A) -> Result<(), Fail> {
+    list_add(store, "soc")?;
     let mut mbox = Vec::new(alloc);
     for extra in [0, 1] {
         mbox.extend_from_slice(b"From a@b Tue Mar  4 10:00:00 2003\n")?;
@@ -81,6 +81,6 @@ pub fn large<S: Alter>(rt: &impl Abort, alloc: Global, store: &mut Store<S>) -> 
         mbox.extend_from_slice(b"\n\n")?;
     }
     mbox.extend_from_slice(b"From a@b Tue Mar  4 10:00:00 2003\nsmall\n")?;
-    assert_eq!(rt; import(store, alloc, "soc", &mbox), counted(2, 0, 1));
+    expect_equal(import(store, alloc, "soc", &mbox), counted(2, 0, 1))?;
     Ok(())
 }

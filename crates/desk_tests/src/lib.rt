@@ -1,29 +1,17 @@
-//! What the desk answers, by worked cases over memory and over a file, and of rows that another program changed; mboxes that are
-//! read piece by piece into a list, by readers that give one byte at once, and by readers that fail; and imports over disks that
-//! stop, made again over what is left.
+//! What the desk answers, by worked cases for any archive: mboxes that are imported, whole and read piece by piece, by readers that give
+//! one byte at once and by readers that fail; and questions on what was imported. `memory_tests` and `stored_tests` run them. They are no
+//! tests here, because a crate with tests is proved twice.
 #![tactic(auto)]
 
-#[cfg(test)]
-mod asking;
-#[cfg(test)]
-mod cases;
+pub mod asking;
+pub mod cases;
 pub mod chain;
-#[cfg(test)]
-mod damage;
-#[cfg(test)]
-mod exports;
-#[cfg(test)]
-mod files;
-#[cfg(test)]
-mod imports;
-#[cfg(test)]
-mod listings;
-#[cfg(test)]
-mod messages;
+pub mod checks;
+pub mod commands;
+pub mod exports;
+pub mod imports;
+pub mod listings;
+pub mod messages;
 pub mod noting;
-#[cfg(test)]
-mod shown;
-#[cfg(test)]
-mod stops;
-#[cfg(test)]
-mod streams;
+pub mod shown;
+pub mod streams;

@@ -1,14 +1,14 @@
 //! Lists of months and of authors, and threads.
 use crate::cases::{TWO, WITHDRAWN, by_nobody, day};
+use crate::checks::expect_equal;
+use crate::commands::{list_add, withdraw};
 use archive_desk::{DeskError, author, import, month, thread, threads};
+use archive_port::{ArchiveStore, Key};
 use archive_results::{Ask, Line, Reader, TreeLine};
-use archive_store::{Key, Store};
 use civil_time::Month;
 use mbox_core::cut;
 use policy_core::{Policy, WithdrawnBy};
-use sqlite::Alter;
 use std::alloc::Global;
-use std::process::Abort;
 use std::test::Fail;
 use thread_core::PlainThreader;
 
@@ -66,15 +66,11 @@ const LATE: &[u8] =
     b"From a@b Sat Mar  1 00:30:00 2003\nDate: 28 Feb 2003 23:50:00 +0000\nSubject: late\n\n";
 
 /// Threads, months and authors on an empty archive.
-pub fn listings<S: Alter>(
-    rt: &impl Abort,
-    alloc: Global,
-    store: &mut Store<S>,
-) -> Result<(), Fail> {
+pub fn listings<A: ArchiveStore>(alloc: Global, store: &mut A) -> Result<(), Fail> {
     let policy = Policy::open();
     let ask = by_nobody(&policy)?;
     for (list, mbox, wanted) in THREADS.iter() {
-        store.list_add(list)?;
+        list_add(store, list)?;
         import(store, alloc, list, mbox)?;
         let ask = Ask {
             policy: &policy,
@@ -83,25 +79,20 @@ pub fn listings<S: Alter>(
             day: ask.day,
         };
         let rows = threads(store, alloc, &ask, &PlainThreader)?;
-        are_rows(rt, &rows, wanted)?;
+        are_rows(&rows, wanted)?;
     }
-    store.list_add("soc")?;
+    list_add(store, "soc")?;
     import(store, alloc, "soc", TWO)?;
-    by_month(rt, alloc, store, &ask)?;
-    by_author(rt, alloc, store, &ask)?;
-    ties(rt, alloc, store, &policy)?;
-    late(rt, alloc, store, &policy)?;
-    withheld(rt, alloc, store)
+    by_month(alloc, store, &ask)?;
+    by_author(alloc, store, &ask)?;
+    ties(alloc, store, &policy)?;
+    late(alloc, store, &policy)?;
+    withheld(alloc, store)
 }
 
 /// A month is that of the sent date.
-fn late<S: Alter>(
-    rt: &impl Abort,
-    alloc: Global,
-    store: &mut Store<S>,
-    policy: &Policy,
-) -> Result<(), Fail> {
-    store.list_add("late")?;
+fn late<A: ArchiveStore>(alloc: Global, store: &mut A, policy: &Policy) -> Result<(), Fail> {
+    list_add(store, "late")?;
     import(store, alloc, "late", LATE)?;
     let ask = Ask {
         policy,
@@ -111,22 +102,13 @@ fn late<S: Alter>(
     };
     let february = Month::read(b"2003-02").ok_or("a month")?;
     let march = Month::read(b"2003-03").ok_or("a month")?;
-    are_subjects(
-        rt,
-        &month(store, alloc, &ask, february)?,
-        &[b"late".as_slice()],
-    )?;
-    are_subjects(rt, &month(store, alloc, &ask, march)?, &[])
+    are_subjects(&month(store, alloc, &ask, february)?, &[b"late".as_slice()])?;
+    are_subjects(&month(store, alloc, &ask, march)?, &[])
 }
 
 /// Messages of one sent date stand in the order in which they came: in a month, of an author, and as threads of their own.
-fn ties<S: Alter>(
-    rt: &impl Abort,
-    alloc: Global,
-    store: &mut Store<S>,
-    policy: &Policy,
-) -> Result<(), Fail> {
-    store.list_add("ties")?;
+fn ties<A: ArchiveStore>(alloc: Global, store: &mut A, policy: &Policy) -> Result<(), Fail> {
+    list_add(store, "ties")?;
     import(store, alloc, "ties", TIES)?;
     let ask = Ask {
         policy,
@@ -136,98 +118,82 @@ fn ties<S: Alter>(
     };
     let wanted = [b"1".as_slice(), b"2", b"3", b"5", b"4"];
     let march = Month::read(b"2003-03").ok_or("a month")?;
-    are_subjects(rt, &month(store, alloc, &ask, march)?, &wanted)?;
-    are_subjects(rt, &author(store, alloc, &ask, b"a@b")?, &wanted)?;
+    are_subjects(&month(store, alloc, &ask, march)?, &wanted)?;
+    are_subjects(&author(store, alloc, &ask, b"a@b")?, &wanted)?;
     let rows = threads(store, alloc, &ask, &PlainThreader)?;
-    assert_eq!(rt; rows.len(), wanted.len());
+    expect_equal(rows.len(), wanted.len())?;
     for (row, want) in rows.iter().zip(wanted.iter()) {
         let shown = row.line.as_ref().map(|line| line.subject.as_slice());
-        assert_eq!(rt; (row.depth, shown), (0, Some(*want)));
+        expect_equal((row.depth, shown), (0, Some(*want)))?;
     }
     Ok(())
 }
 
-fn are_rows(rt: &impl Abort, rows: &[TreeLine], wanted: &[Row]) -> Result<(), Fail> {
-    assert_eq!(rt; rows.len(), wanted.len());
+fn are_rows(rows: &[TreeLine], wanted: &[Row]) -> Result<(), Fail> {
+    expect_equal(rows.len(), wanted.len())?;
     for (row, want) in rows.iter().zip(wanted.iter()) {
         let shown = row
             .line
             .as_ref()
             .and_then(|line| line.author.first().copied());
-        assert_eq!(rt; (row.depth, shown), *want);
+        expect_equal((row.depth, shown), *want)?;
     }
     Ok(())
 }
 
 /// The lines have these subjects, in this order.
-pub fn are_subjects(rt: &impl Abort, lines: &[Line], wanted: &[&[u8]]) -> Result<(), Fail> {
-    assert_eq!(rt; lines.len(), wanted.len());
+pub fn are_subjects(lines: &[Line], wanted: &[&[u8]]) -> Result<(), Fail> {
+    expect_equal(lines.len(), wanted.len())?;
     for (line, want) in lines.iter().zip(wanted.iter()) {
-        assert_eq!(rt; line.subject.as_slice(), *want);
+        expect_equal(line.subject.as_slice(), *want)?;
     }
     Ok(())
 }
 
 /// Two messages are of March 2003, and none of April; an unknown list has no month.
-fn by_month<S: Alter>(
-    rt: &impl Abort,
-    alloc: Global,
-    store: &mut Store<S>,
-    ask: &Ask<'_>,
-) -> Result<(), Fail> {
+fn by_month<A: ArchiveStore>(alloc: Global, store: &mut A, ask: &Ask<'_>) -> Result<(), Fail> {
     let march = Month::read(b"2003-03").ok_or("a month")?;
     let april = Month::read(b"2003-04").ok_or("a month")?;
     are_subjects(
-        rt,
         &month(store, alloc, ask, march)?,
         &[b"Hello".as_slice(), b"Re: Hello".as_slice()],
     )?;
-    are_subjects(rt, &month(store, alloc, ask, april)?, &[])?;
+    are_subjects(&month(store, alloc, ask, april)?, &[])?;
     let unknown = Ask {
         policy: ask.policy,
         reader: Reader::Nobody,
         list: "xyz",
         day: ask.day,
     };
-    assert!(rt; matches!(month(store, alloc, &unknown, march), Err(DeskError::NoList)));
-    Ok(())
-}
-
-/// The author is compared as the key that it is; the second message has no author.
-fn by_author<S: Alter>(
-    rt: &impl Abort,
-    alloc: Global,
-    store: &mut Store<S>,
-    ask: &Ask<'_>,
-) -> Result<(), Fail> {
-    are_subjects(
-        rt,
-        &author(store, alloc, ask, b"anna@example.org")?,
-        &[b"Hello".as_slice()],
-    )?;
-    are_subjects(rt, &author(store, alloc, ask, b"Anna@example.org")?, &[])?;
-    are_subjects(
-        rt,
-        &author(store, alloc, ask, b"")?,
-        &[b"Re: Hello".as_slice()],
+    expect_equal(
+        month(store, alloc, &unknown, march).err(),
+        Some(DeskError::NoList),
     )
 }
 
+/// The author is compared as the key that it is; the second message has no author.
+fn by_author<A: ArchiveStore>(alloc: Global, store: &mut A, ask: &Ask<'_>) -> Result<(), Fail> {
+    are_subjects(
+        &author(store, alloc, ask, b"anna@example.org")?,
+        &[b"Hello".as_slice()],
+    )?;
+    are_subjects(&author(store, alloc, ask, b"Anna@example.org")?, &[])?;
+    are_subjects(&author(store, alloc, ask, b"")?, &[b"Re: Hello".as_slice()])
+}
+
 /// The thread of a message, and none of one that the policy withholds; it is withdrawn, and the other is as if it were alone.
-fn withheld<S: Alter>(rt: &impl Abort, alloc: Global, store: &mut Store<S>) -> Result<(), Fail> {
+fn withheld<A: ArchiveStore>(alloc: Global, store: &mut A) -> Result<(), Fail> {
     let policy = Policy::read(alloc, WITHDRAWN)?;
     let ask = by_nobody(&policy)?;
     let first = Key::of(&cut(TWO)?.next().ok_or("a first message")?);
     let second = Key::of(&cut(TWO)?.nth(1).ok_or("a second message")?);
     let rows = thread(store, alloc, &ask, &PlainThreader, &second)?;
-    are_rows(rt, &rows, &[(0, Some(b'a')), (1, None)])?;
-    store.withdraw("soc", &first, WithdrawnBy::Board)?;
-    assert!(rt;
-        matches!(
-            thread(store, alloc, &ask, &PlainThreader, &first),
-            Err(DeskError::NotInView)
-        )
-    );
+    are_rows(&rows, &[(0, Some(b'a')), (1, None)])?;
+    withdraw(store, "soc", &first, WithdrawnBy::Board)?;
+    expect_equal(
+        thread(store, alloc, &ask, &PlainThreader, &first).err(),
+        Some(DeskError::NotInView),
+    )?;
     let rows = thread(store, alloc, &ask, &PlainThreader, &second)?;
-    are_rows(rt, &rows, &[(0, None)])
+    are_rows(&rows, &[(0, None)])
 }

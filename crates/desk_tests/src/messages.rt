@@ -1,14 +1,14 @@
 //! Messages that are asked for by their keys, and views.
 use crate::cases::{TWO, WITHDRAWN, day};
+use crate::checks::expect_equal;
+use crate::commands::{embargo, grant, list_add, person_add, withdraw};
 use archive_desk::{DeskError, import, message, view};
+use archive_port::{ArchiveStore, Key};
 use archive_results::{Ask, Asked, Reader};
-use archive_store::{Key, Store};
 use civil_time::Day;
-use mbox_core::{Item, cut};
+use mbox_core::cut;
 use policy_core::{GrantKind, Policy, WithdrawnBy};
-use sqlite::Alter;
 use std::alloc::Global;
-use std::process::Abort;
 use std::test::Fail;
 
 /// What is held back is denied by the first rule.
@@ -149,12 +149,13 @@ const CASES: [Case; 12] = [
 ];
 
 /// The first message is withdrawn by its author and held back until 1 April 2003; `mo` is a moderator in March.
-fn held_back<S: Alter>(alloc: Global, store: &mut Store<S>) -> Result<Key, Fail> {
+fn held_back<A: ArchiveStore>(alloc: Global, store: &mut A) -> Result<Key, Fail> {
     let key = Key::of(&cut(TWO)?.next().ok_or("a first message")?);
-    store.list_add("soc")?;
-    store.list_add("other")?;
-    store.person_add("mo", "0123456789abcdef")?;
-    store.grant(
+    list_add(store, "soc")?;
+    list_add(store, "other")?;
+    person_add(store, "mo", "0123456789abcdef")?;
+    grant(
+        store,
         "mo",
         "soc",
         GrantKind::Moderator,
@@ -162,36 +163,26 @@ fn held_back<S: Alter>(alloc: Global, store: &mut Store<S>) -> Result<Key, Fail>
         day("2003-03-31")?,
     )?;
     import(store, alloc, "soc", TWO)?;
-    store.withdraw("soc", &key, WithdrawnBy::Author)?;
-    store.embargo("soc", &key, day("2003-04-01")?)?;
+    withdraw(store, "soc", &key, WithdrawnBy::Author)?;
+    embargo(store, "soc", &key, day("2003-04-01")?)?;
     Ok(key)
 }
 
 /// Asks for that message, and for the view.
-pub fn messages<S: Alter>(
-    rt: &impl Abort,
-    alloc: Global,
-    store: &mut Store<S>,
-) -> Result<(), Fail> {
+pub fn messages<A: ArchiveStore>(alloc: Global, store: &mut A) -> Result<(), Fail> {
     let key = held_back(alloc, store)?;
     for case in CASES.iter() {
-        told(rt, alloc, store, &key, case)?;
+        told(alloc, store, &key, case)?;
     }
     Ok(())
 }
 
-fn told<S: Alter>(
-    rt: &impl Abort,
-    alloc: Global,
-    store: &mut Store<S>,
-    key: &Key,
-    case: &Case,
-) -> Result<(), Fail> {
+fn told<A: ArchiveStore>(alloc: Global, store: &mut A, key: &Key, case: &Case) -> Result<(), Fail> {
     let (text, reader, list, on, wanted, count) = *case;
     let on = day(on)?;
     let policy = Policy::read(alloc, text)?;
     let ask = asking(&policy, reader, list, on);
-    asked(rt, alloc, store, &ask, key, wanted, count)
+    asked(alloc, store, &ask, key, wanted, count)
 }
 
 fn asking<'a>(policy: &'a Policy, reader: Reader<'a>, list: &'a str, day: Day) -> Ask<'a> {
@@ -203,25 +194,24 @@ fn asking<'a>(policy: &'a Policy, reader: Reader<'a>, list: &'a str, day: Day) -
     }
 }
 
-fn asked<S: Alter>(
-    rt: &impl Abort,
+fn asked<A: ArchiveStore>(
     alloc: Global,
-    store: &mut Store<S>,
+    store: &mut A,
     ask: &Ask<'_>,
     key: &Key,
     wanted: Wanted,
     count: Result<usize, DeskError>,
 ) -> Result<(), Fail> {
     match (message(store, alloc, ask, key), wanted) {
-        (Ok(Asked::Served(text)), Wanted::Text(want)) => assert_eq!(rt; text.as_slice(), want),
-        (Ok(Asked::Denied(rule)), Wanted::Rule(want)) => assert_eq!(rt; rule, want),
+        (Ok(Asked::Served(text)), Wanted::Text(want)) => expect_equal(text.as_slice(), want)?,
+        (Ok(Asked::Denied(rule)), Wanted::Rule(want)) => expect_equal(rule, want)?,
         (Ok(Asked::Absent), Wanted::Nothing) => {}
-        (Err(fault), Wanted::Fault(want)) => assert_eq!(rt; fault, want),
+        (Err(fault), Wanted::Fault(want)) => expect_equal(fault, want)?,
         _ => return Err(Fail::from("another answer")),
     }
-    assert_eq!(rt;
+    expect_equal(
         view(store, alloc, ask).map(|messages| messages.len()),
-        count
-    );
+        count,
+    )?;
     Ok(())
 }

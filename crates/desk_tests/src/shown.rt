@@ -1,15 +1,14 @@
 //! Months and authors of a list of four messages, of which the first is withdrawn: to the public, and to a moderator.
 use crate::cases::{WITHDRAWN, day};
+use crate::commands::{grant, list_add, person_add, withdraw};
 use crate::listings::are_subjects;
 use archive_desk::{author, import, month};
+use archive_port::{ArchiveStore, Key};
 use archive_results::{Ask, Reader};
-use archive_store::{Key, Store};
 use civil_time::Month;
 use mbox_core::cut;
 use policy_core::{GrantKind, Policy, WithdrawnBy};
-use sqlite::Alter;
 use std::alloc::Global;
-use std::process::Abort;
 use std::test::Fail;
 
 const FOUR: &[u8] = b"\
@@ -60,21 +59,20 @@ const CASES: [Case; 8] = [
 ];
 
 /// The list of the messages, of which the first is withdrawn; `mo` is a moderator.
-fn fill<S: Alter>(alloc: Global, store: &mut Store<S>) -> Result<(), Fail> {
+fn fill<A: ArchiveStore>(alloc: Global, store: &mut A) -> Result<(), Fail> {
     let today = day("2003-03-20")?;
-    store.list_add("soc")?;
-    store.person_add("mo", "0123456789abcdef")?;
-    store.grant("mo", "soc", GrantKind::Moderator, today, today)?;
+    list_add(store, "soc")?;
+    person_add(store, "mo", "0123456789abcdef")?;
+    grant(store, "mo", "soc", GrantKind::Moderator, today, today)?;
     import(store, alloc, "soc", FOUR)?;
     let first = Key::of(&cut(FOUR)?.next().ok_or("a message")?);
-    store.withdraw("soc", &first, WithdrawnBy::Author)?;
+    withdraw(store, "soc", &first, WithdrawnBy::Author)?;
     Ok(())
 }
 
-fn ask<S: Alter>(
-    rt: &impl Abort,
+fn ask<A: ArchiveStore>(
     alloc: Global,
-    store: &mut Store<S>,
+    store: &mut A,
     policy: &Policy,
     case: &Case,
 ) -> Result<(), Fail> {
@@ -92,15 +90,15 @@ fn ask<S: Alter>(
         }
         Asked::Author(key) => author(store, alloc, &ask, key)?,
     };
-    are_subjects(rt, &lines, subjects)
+    are_subjects(&lines, subjects)
 }
 
 /// Months and authors, where a message is withdrawn.
-pub fn shown<S: Alter>(rt: &impl Abort, alloc: Global, store: &mut Store<S>) -> Result<(), Fail> {
+pub fn shown<A: ArchiveStore>(alloc: Global, store: &mut A) -> Result<(), Fail> {
     fill(alloc, store)?;
     let policy = Policy::read(alloc, WITHDRAWN)?;
     for case in CASES.iter() {
-        ask(rt, alloc, store, &policy, case)?;
+        ask(alloc, store, &policy, case)?;
     }
     Ok(())
 }

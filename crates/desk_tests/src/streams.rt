@@ -1,19 +1,16 @@
 //! Mboxes that are read piece by piece into a list.
+use crate::cases::TWO;
+use crate::checks::expect_equal;
+use crate::commands::list_add;
 use archive_desk::{ImportError, ImportStop, Report, import};
 use archive_import::import_from;
-use archive_store::{Store, StoreFault};
+use archive_port::{ArchiveStore, StoreFault};
 use mbox_core::MboxFault;
 use mbox_core::device::{Counted, Tap};
-use sqlite::Alter;
 use std::alloc::Global;
 use std::fmt::Write;
 use std::io::{self, Read};
-use std::process::Abort;
 use std::test::Fail;
-
-/// Two messages, the second an answer to the first.
-const TWO: &[u8] =
-    b"From anna@example.org Tue Mar  4 10:00:00 2003\nFrom: Anna <anna@example.org>\nSubject: Hello\n\nOne.\n\nFrom bob@example.org Wed Mar 12 10:30:00 2003\nSubject: Re: Hello\n\nTwo.\n\n";
 
 /// Where the second separator line of the two messages ends.
 const SECOND: usize = 145;
@@ -45,73 +42,65 @@ fn report(new: u64, known: u64, too_large: u64) -> Report {
 }
 
 /// A reader that fails after so many bytes: the messages that were settled are on the list, and no other.
-fn stops<S: Alter>(
-    rt: &impl Abort,
-    alloc: Global,
-    store: &mut Store<S>,
-    passes: usize,
-) -> Result<(), Fail> {
+fn stops<A: ArchiveStore>(alloc: Global, store: &mut A, passes: usize) -> Result<(), Fail> {
     let mut input = Tap::new(alloc, TWO, passes)?;
     let done = if passes < SECOND { 0 } else { 1 };
     let stopped = ImportStop {
         done,
         fault: ImportError::Mbox(MboxFault::Read),
     };
-    assert_eq!(rt; import_from(store, alloc, "soc", &mut input), Err(stopped));
-    assert_eq!(rt; store.rows(alloc, "soc")?.len() as u64, done);
+    expect_equal(import_from(store, alloc, "soc", &mut input), Err(stopped))?;
+    expect_equal(store.rows(alloc, "soc")?.len() as u64, done)?;
     Ok(())
 }
 
 /// A reader that fails after each number of bytes, and then the whole input, twice, by large pieces and by single bytes.
-fn streams<S: Alter>(rt: &impl Abort, alloc: Global, store: &mut Store<S>) -> Result<(), Fail> {
-    store.list_add("soc")?;
+fn streams<A: ArchiveStore>(alloc: Global, store: &mut A) -> Result<(), Fail> {
+    list_add(store, "soc")?;
     for passes in 0..=TWO.len() {
-        stops(rt, alloc, store, passes)?;
+        stops(alloc, store, passes)?;
     }
     for wanted in [report(1, 1, 0), report(0, 2, 0)] {
         let mut input = Tap::new(alloc, TWO, TWO.len() + 1)?;
-        assert_eq!(rt; import_from(store, alloc, "soc", &mut input), Ok(wanted));
+        expect_equal(import_from(store, alloc, "soc", &mut input), Ok(wanted))?;
     }
-    store.list_add("slow")?;
+    list_add(store, "slow")?;
     for wanted in [report(2, 0, 0), report(0, 2, 0)] {
         let mut input = Counted::new(Slow { rest: TWO });
-        assert_eq!(rt; import_from(store, alloc, "slow", &mut input), Ok(wanted));
+        expect_equal(import_from(store, alloc, "slow", &mut input), Ok(wanted))?;
     }
     Ok(())
 }
 
 /// A stream that is no mbox, one of blank lines alone, and one for a list that is not there, which is not read.
-fn refused<S: Alter>(rt: &impl Abort, alloc: Global, store: &mut Store<S>) -> Result<(), Fail> {
-    store.list_add("bad")?;
+fn refused<A: ArchiveStore>(alloc: Global, store: &mut A) -> Result<(), Fail> {
+    list_add(store, "bad")?;
     for (list, fault) in [
         ("bad", ImportError::Mbox(MboxFault::Preamble(1))),
         ("xyz", ImportError::Store(StoreFault::NoList)),
     ] {
         let mut input = Tap::new(alloc, BROKEN, 1000)?;
         let stopped = ImportStop { done: 0, fault };
-        assert_eq!(rt; import_from(store, alloc, list, &mut input), Err(stopped));
+        expect_equal(import_from(store, alloc, list, &mut input), Err(stopped))?;
     }
     let mut failing = Tap::new(alloc, TWO, 0)?;
     let no_list = ImportStop {
         done: 0,
         fault: ImportError::Store(StoreFault::NoList),
     };
-    assert_eq!(rt;
-        import_from(store, alloc, "xyz", &mut failing),
-        Err(no_list)
-    );
+    expect_equal(import_from(store, alloc, "xyz", &mut failing), Err(no_list))?;
     let mut blank = Tap::new(alloc, b"\n\n", 1000)?;
-    assert_eq!(rt;
+    expect_equal(
         import_from(store, alloc, "bad", &mut blank),
-        Ok(report(0, 0, 0))
-    );
+        Ok(report(0, 0, 0)),
+    )?;
     Ok(())
 }
 
 /// More messages than are held at once, and than one transaction takes: all come in their order, as `import` takes them, and
 /// the same file brings none more.
-fn batches<S: Alter>(rt: &impl Abort, alloc: Global, store: &mut Store<S>) -> Result<(), Fail> {
-    store.list_add("many")?;
+pub fn batches<A: ArchiveStore>(alloc: Global, store: &mut A) -> Result<(), Fail> {
+    list_add(store, "many")?;
     let mut mbox = String::new(alloc);
     for number in 0..4100 {
         write!(
@@ -120,20 +109,20 @@ fn batches<S: Alter>(rt: &impl Abort, alloc: Global, store: &mut Store<S>) -> Re
         )?;
     }
     let mut input = Tap::new(alloc, mbox.as_bytes(), mbox.len() + 1)?;
-    assert_eq!(rt;
+    expect_equal(
         import_from(store, alloc, "many", &mut input),
-        Ok(report(4100, 0, 0))
-    );
-    assert_eq!(rt;
+        Ok(report(4100, 0, 0)),
+    )?;
+    expect_equal(
         import(store, alloc, "many", mbox.as_bytes()),
-        Ok(report(0, 4100, 0))
-    );
+        Ok(report(0, 4100, 0)),
+    )?;
     let rows = store.rows(alloc, "many")?;
     let last = rows.last().ok_or("a last message")?;
-    assert_eq!(rt;
+    expect_equal(
         last.item.as_item().text,
-        b"Subject: 4099\n\ntext\n".as_slice()
-    );
+        b"Subject: 4099\n\ntext\n".as_slice(),
+    )?;
     Ok(())
 }
 
@@ -148,8 +137,8 @@ fn long_line(alloc: Global) -> Result<String, Fail> {
 }
 
 /// A message that is too large to be taken in, and one of a megabyte after it.
-fn large<S: Alter>(rt: &impl Abort, alloc: Global, store: &mut Store<S>) -> Result<(), Fail> {
-    store.list_add("large")?;
+fn large<A: ArchiveStore>(alloc: Global, store: &mut A) -> Result<(), Fail> {
+    list_add(store, "large")?;
     let line = long_line(alloc)?;
     let mut mbox = String::new(alloc);
     for lines in [17_000, 1000] {
@@ -163,19 +152,16 @@ fn large<S: Alter>(rt: &impl Abort, alloc: Global, store: &mut Store<S>) -> Resu
         mbox.push_str("\n")?;
     }
     let mut input = Tap::new(alloc, mbox.as_bytes(), mbox.len() + 1)?;
-    assert_eq!(rt;
+    expect_equal(
         import_from(store, alloc, "large", &mut input),
-        Ok(report(1, 0, 1))
-    );
+        Ok(report(1, 0, 1)),
+    )?;
     Ok(())
 }
 
-#[test]
-fn an_mbox_is_read_in_pieces(rt: HostRuntime) -> Result<(), Fail> {
-    let alloc = rt.alloc();
-    let mut store = Store::open_in_memory(alloc)?;
-    streams(&rt, alloc, &mut store)?;
-    refused(&rt, alloc, &mut store)?;
-    batches(&rt, alloc, &mut store)?;
-    large(&rt, alloc, &mut store)
+/// Mboxes that are read piece by piece into an empty archive.
+pub fn pieces<A: ArchiveStore>(alloc: Global, store: &mut A) -> Result<(), Fail> {
+    streams(alloc, store)?;
+    refused(alloc, store)?;
+    large(alloc, store)
 }

@@ -2,13 +2,12 @@
 use crate::peers::{Peer, Peers};
 use crate::serving::{GETS, LISTS, MOST, fill, today};
 use archive_listen::{ROOM, WriteBuffer};
+use archive_port::ArchiveStore;
 use archive_serve::{ServingContext, ServingError, serve};
-use archive_store::Store;
+use desk_tests::checks::{expect, expect_equal};
 use mbox_core::device::Tap;
 use policy_core::Policy;
-use sqlite::Alter;
 use std::alloc::Global;
-use std::process::Abort;
 use std::test::Fail;
 use thread_core::PlainThreader;
 
@@ -67,12 +66,7 @@ const CASES: [Case; 5] = [
 
 const PEERS: [Peer; 1] = [GETS];
 
-fn says_where<S: Alter>(
-    rt: &impl Abort,
-    alloc: Global,
-    store: &mut Store<S>,
-    case: &Case,
-) -> Result<(), Fail> {
+fn says_where<A: ArchiveStore>(alloc: Global, store: &mut A, case: &Case) -> Result<(), Fail> {
     let mut listener = Peers::new(alloc, &PEERS);
     let mut output: WriteBuffer<Tap, ROOM> = WriteBuffer::new(Tap::new(alloc, b"", case.room)?);
     let mut faults = Tap::new(alloc, b"", 1000)?;
@@ -93,27 +87,17 @@ fn says_where<S: Alter>(
         &mut output,
         &mut faults,
     );
-    assert_eq!(rt; outcome, case.outcome);
-    assert_eq!(rt; output.into_inner().bytes(), case.said);
-    assert_eq!(rt; listener.got.as_slice(), case.got);
-    assert!(rt; faults.bytes().is_empty());
-    Ok(())
+    expect_equal(outcome, case.outcome)?;
+    expect_equal(output.into_inner().bytes(), case.said)?;
+    expect_equal(listener.got.as_slice(), case.got)?;
+    expect(faults.bytes().is_empty(), "a line of a fault")
 }
 
-fn all_say_where<S: Alter>(
-    rt: &impl Abort,
-    alloc: Global,
-    store: &mut Store<S>,
-) -> Result<(), Fail> {
+/// Each case in turn.
+pub fn all_say_where<A: ArchiveStore>(alloc: Global, store: &mut A) -> Result<(), Fail> {
     fill(alloc, store)?;
     for case in &CASES {
-        says_where(rt, alloc, store, case)?;
+        says_where(alloc, store, case)?;
     }
     Ok(())
-}
-
-#[test]
-fn where_it_listens_is_said_before_the_first_peer(rt: HostRuntime) -> Result<(), Fail> {
-    let mut store = Store::open_in_memory(rt.alloc())?;
-    all_say_where(&rt, rt.alloc(), &mut store)
 }

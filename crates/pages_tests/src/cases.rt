@@ -1,17 +1,15 @@
-//! The stores, and what they are told and asked.
+//! What an archive is told and asked.
+use crate::keeping::Reading;
 use crate::links::Past;
-use crate::{devices, hostile, keeping, links, own, pages, requests};
+use crate::{announced, devices, failing, hostile, keeping, links, own, pages, requests, serving};
 use archive_pages::answer;
-use archive_store::Store;
+use archive_port::ArchiveStore;
 use civil_time::Day;
+use desk_tests::commands::{list_add, person_add};
 use mbox_core::device::{Counted, Tap};
 use policy_core::Policy;
-use sqlite::Alter;
 use std::alloc::Global;
-use std::hash::RandomState;
 use std::io::{self, Read};
-use std::process::Abort;
-use std::random::RandomSource;
 use std::test::Fail;
 use thread_core::{NodeThreader, PlainThreader};
 
@@ -46,9 +44,9 @@ pub fn today() -> Result<Day, Fail> {
 }
 
 /// Whether a request that comes in pieces of at most so many bytes gets just this reply, and `answer` tells its status.
-pub fn gets<S: Alter>(
+pub fn gets<A: ArchiveStore>(
     alloc: Global,
-    store: &mut Store<S>,
+    store: &mut A,
     policy: &Policy,
     request: &[u8],
     most: usize,
@@ -74,9 +72,9 @@ pub fn gets<S: Alter>(
     Ok(output.bytes() == reply && reply.get(9..12) == Some(status.as_str().as_bytes()))
 }
 
-/// What a store is told and asked.
+/// What an archive with a list and a person is told and asked.
 #[derive(Clone, Copy, Debug, PartialEq, Eq)]
-enum Case {
+pub enum Case {
     Requests,
     Heads,
     Devices,
@@ -89,34 +87,43 @@ enum Case {
     Texts,
 }
 
-/// Tells an empty store a case.
-fn tell<S: Alter>(
-    rt: &impl Abort,
-    alloc: Global,
-    store: &mut Store<S>,
-    case: Case,
-) -> Result<(), Fail> {
-    store.list_add("soc")?;
-    store.person_add("mo", "0123456789abcdef")?;
+/// All cases.
+pub const CASES: [Case; 10] = [
+    Case::Requests,
+    Case::Heads,
+    Case::Devices,
+    Case::Pages,
+    Case::Withdrawn,
+    Case::Withheld,
+    Case::Alone,
+    Case::Apart,
+    Case::Own,
+    Case::Texts,
+];
+
+/// Tells an empty archive a case.
+fn tell<A: ArchiveStore>(alloc: Global, store: &mut A, case: Case) -> Result<(), Fail> {
+    list_add(store, "soc")?;
+    person_add(store, "mo", "0123456789abcdef")?;
     match case {
-        Case::Requests => requests::requests(rt, alloc, store),
-        Case::Heads => requests::heads(rt, alloc, store),
-        Case::Devices => devices::devices(rt, alloc, store),
-        Case::Pages => pages::pages(rt, alloc, store),
-        Case::Withdrawn => pages::withdrawn(rt, alloc, store),
-        Case::Withheld => pages::withheld(rt, alloc, store),
-        Case::Alone => pages::alone(rt, alloc, store),
-        Case::Apart => pages::apart(rt, alloc, store),
-        Case::Own => own::own(rt, alloc, store),
-        Case::Texts => hostile::texts(rt, alloc, store),
+        Case::Requests => requests::requests(alloc, store),
+        Case::Heads => requests::heads(alloc, store),
+        Case::Devices => devices::devices(alloc, store),
+        Case::Pages => pages::pages(alloc, store),
+        Case::Withdrawn => pages::withdrawn(alloc, store),
+        Case::Withheld => pages::withheld(alloc, store),
+        Case::Alone => pages::alone(alloc, store),
+        Case::Apart => pages::apart(alloc, store),
+        Case::Own => own::own(alloc, store),
+        Case::Texts => hostile::texts(alloc, store),
     }
 }
 
-/// What a store is told: a case, or an archive of which all links are followed, also by who wrote a withdrawn message, whose
+/// What an archive is told: a case, or an archive of which all links are followed, also by who wrote a withdrawn message, whose
 /// threads are asked for, once or again and again, whose pages are made by both threaders, or whose messages refer to each other
-/// in a ring.
-#[derive(Clone, Copy, Debug, PartialEq, Eq)]
-enum Order {
+/// in a ring; a reading of a list; or one that is served to peers, also to some that fail.
+#[derive(Clone, Copy)]
+pub enum Order {
     Case(Case),
     Links,
     OwnLinks,
@@ -125,101 +132,45 @@ enum Order {
     Keeping,
     ByBoth,
     Rings,
+    Reading(Reading),
+    Announced,
+    Failing,
+    Serving,
 }
 
-/// Tells a new store over memory an order. What nobody in particular is shown of an archive; else nothing.
-fn tell_new(
-    rt: &(impl Abort + RandomSource),
-    alloc: Global,
-    order: Order,
-) -> Result<Vec<u8>, Fail> {
-    let nodes = NodeThreader::new(RandomState::new(rt)?);
-    let mut store = Store::open_in_memory(alloc)?;
-    tell_order(rt, alloc, &mut store, &nodes, order)
-}
+/// All orders except cases, readings, and what is shown of an archive.
+pub const ORDERS: [Order; 9] = [
+    Order::Links,
+    Order::OwnLinks,
+    Order::Asking,
+    Order::Keeping,
+    Order::ByBoth,
+    Order::Rings,
+    Order::Announced,
+    Order::Failing,
+    Order::Serving,
+];
 
-fn tell_order<S: Alter>(
-    rt: &impl Abort,
+/// Tells an empty archive an order. What nobody in particular is shown of an archive; else nothing.
+pub fn tell_order<A: ArchiveStore>(
     alloc: Global,
-    store: &mut Store<S>,
+    store: &mut A,
     nodes: &NodeThreader,
     order: Order,
 ) -> Result<Vec<u8>, Fail> {
     match order {
-        Order::Case(case) => tell(rt, alloc, store, case)?,
-        Order::Links => links::links(rt, alloc, store)?,
-        Order::OwnLinks => links::own(rt, alloc, store)?,
-        Order::Shown(past) => return links::shown(rt, alloc, store, past),
-        Order::Asking => links::asking(rt, alloc, store)?,
-        Order::Keeping => keeping::keeping(rt, alloc, store)?,
-        Order::ByBoth => links::by_both(rt, alloc, store, nodes)?,
-        Order::Rings => hostile::rings(rt, alloc, store, nodes)?,
+        Order::Case(case) => tell(alloc, store, case)?,
+        Order::Links => links::links(alloc, store)?,
+        Order::OwnLinks => links::own(alloc, store)?,
+        Order::Shown(past) => return links::shown(alloc, store, past),
+        Order::Asking => links::asking(alloc, store)?,
+        Order::Keeping => keeping::keeping(alloc, store)?,
+        Order::ByBoth => links::by_both(alloc, store, nodes)?,
+        Order::Rings => hostile::rings(alloc, store, nodes)?,
+        Order::Reading(reading) => keeping::follow(alloc, store, &reading)?,
+        Order::Announced => announced::all_say_where(alloc, store)?,
+        Order::Failing => failing::all_fail(alloc, store)?,
+        Order::Serving => serving::all_come(alloc, store)?,
     }
     Ok(Vec::new(alloc))
-}
-
-#[test]
-fn each_request_gets_its_reply(rt: HostRuntime) -> Result<(), Fail> {
-    for case in [
-        Case::Requests,
-        Case::Heads,
-        Case::Devices,
-        Case::Pages,
-        Case::Withdrawn,
-        Case::Withheld,
-        Case::Alone,
-        Case::Apart,
-        Case::Own,
-        Case::Texts,
-    ] {
-        tell_new(&rt, rt.alloc(), Order::Case(case))?;
-    }
-    Ok(())
-}
-
-#[test]
-fn all_links_lead_to_pages(rt: HostRuntime) -> Result<(), Fail> {
-    tell_new(&rt, rt.alloc(), Order::Links)?;
-    Ok(())
-}
-
-#[test]
-fn who_wrote_a_withdrawn_message_finds_its_pages(rt: HostRuntime) -> Result<(), Fail> {
-    tell_new(&rt, rt.alloc(), Order::OwnLinks)?;
-    Ok(())
-}
-
-/// All pages that nobody in particular finds, and all that they say, are the same.
-#[test]
-fn a_withdrawn_message_leaves_no_trace(rt: HostRuntime) -> Result<(), Fail> {
-    let withdrawn = tell_new(&rt, rt.alloc(), Order::Shown(Past::Withdrawn))?;
-    let never_came = tell_new(&rt, rt.alloc(), Order::Shown(Past::NeverCame))?;
-    assert!(rt; !withdrawn.is_empty());
-    assert!(rt; withdrawn.as_slice() == never_came.as_slice());
-    Ok(())
-}
-
-#[test]
-fn a_page_of_threads_asks_the_threader_once_of_the_view_alone(rt: HostRuntime) -> Result<(), Fail> {
-    tell_new(&rt, rt.alloc(), Order::Asking)?;
-    Ok(())
-}
-
-/// What is kept changes no reply, and the threader is asked once for each list and reader.
-#[test]
-fn what_is_kept_changes_no_reply(rt: HostRuntime) -> Result<(), Fail> {
-    tell_new(&rt, rt.alloc(), Order::Keeping)?;
-    Ok(())
-}
-
-#[test]
-fn both_threaders_give_the_same_pages(rt: HostRuntime) -> Result<(), Fail> {
-    tell_new(&rt, rt.alloc(), Order::ByBoth)?;
-    Ok(())
-}
-
-#[test]
-fn a_ring_of_messages_is_one_thread(rt: HostRuntime) -> Result<(), Fail> {
-    tell_new(&rt, rt.alloc(), Order::Rings)?;
-    Ok(())
 }

@@ -2,12 +2,11 @@
 use crate::cases::{gets, today};
 use crate::requests::LISTS;
 use archive_pages::{ServeFault, answer};
-use archive_store::Store;
+use archive_port::ArchiveStore;
+use desk_tests::checks::{expect, expect_equal};
 use mbox_core::device::Tap;
 use policy_core::Policy;
-use sqlite::Alter;
 use std::alloc::Global;
-use std::process::Abort;
 use std::test::Fail;
 use thread_core::PlainThreader;
 
@@ -15,29 +14,30 @@ use thread_core::PlainThreader;
 const GET: &[u8] = b"GET / HTTP/1.1\r\n\r\n";
 
 /// An input and an output that fail after each number of bytes below the whole, and then the whole reply.
-pub fn devices<S: Alter>(rt: &impl Abort, alloc: Global, store: &mut Store<S>) -> Result<(), Fail> {
+pub fn devices<A: ArchiveStore>(alloc: Global, store: &mut A) -> Result<(), Fail> {
     let policy = Policy::open();
     for passes in 0..GET.len() {
-        input_fails(rt, alloc, store, &policy, passes)?;
+        input_fails(alloc, store, &policy, passes)?;
     }
     for passes in 0..LISTS.len() {
-        output_fails(rt, alloc, store, &policy, passes)?;
+        output_fails(alloc, store, &policy, passes)?;
     }
-    assert!(rt; gets(alloc, store, &policy, GET, 8192, LISTS)?);
-    Ok(())
+    expect(
+        gets(alloc, store, &policy, GET, 8192, LISTS)?,
+        "another whole reply",
+    )
 }
 
 /// Where the input fails after so many bytes, nothing is written.
-fn input_fails<S: Alter>(
-    rt: &impl Abort,
+fn input_fails<A: ArchiveStore>(
     alloc: Global,
-    store: &mut Store<S>,
+    store: &mut A,
     policy: &Policy,
     passes: usize,
 ) -> Result<(), Fail> {
     let mut input = Tap::new(alloc, GET, passes)?;
     let mut output = Tap::new(alloc, b"", 1000)?;
-    assert_eq!(rt;
+    expect_equal(
         answer(
             store,
             alloc,
@@ -45,19 +45,18 @@ fn input_fails<S: Alter>(
             &PlainThreader,
             today()?,
             &mut input,
-            &mut output
+            &mut output,
         ),
-        Err(ServeFault::Read)
-    );
-    assert!(rt; output.bytes().is_empty(), "after {passes}");
+        Err(ServeFault::Read),
+    )?;
+    expect(output.bytes().is_empty(), format_args!("after {passes}"))?;
     Ok(())
 }
 
 /// Where the output fails after so many bytes, these are the first of the reply.
-fn output_fails<S: Alter>(
-    rt: &impl Abort,
+fn output_fails<A: ArchiveStore>(
     alloc: Global,
-    store: &mut Store<S>,
+    store: &mut A,
     policy: &Policy,
     passes: usize,
 ) -> Result<(), Fail> {
@@ -66,7 +65,7 @@ fn output_fails<S: Alter>(
     let stopped = ServeFault::Write {
         written: passes as u64,
     };
-    assert_eq!(rt;
+    expect_equal(
         answer(
             store,
             alloc,
@@ -74,10 +73,10 @@ fn output_fails<S: Alter>(
             &PlainThreader,
             today()?,
             &mut input,
-            &mut output
+            &mut output,
         ),
-        Err(stopped)
-    );
-    assert_eq!(rt; Some(output.bytes()), LISTS.get(..passes));
+        Err(stopped),
+    )?;
+    expect_equal(Some(output.bytes()), LISTS.get(..passes))?;
     Ok(())
 }

@@ -1,21 +1,19 @@
 //! Peers that fail at each byte, and the next ones.
 use crate::peers::{ALL, Peer, Peers};
 use crate::serving::{GET, GETS, LISTS, MOST, fill, joined, today};
+use archive_port::ArchiveStore;
 use archive_serve::{ServingContext, serve_on};
-use archive_store::Store;
+use desk_tests::checks::expect_equal;
 use mbox_core::device::Tap;
 use policy_core::Policy;
-use sqlite::Alter;
 use std::alloc::Global;
-use std::process::Abort;
 use std::test::Fail;
 use thread_core::PlainThreader;
 
 /// A peer that fails is told in this line and gets this much, with `+` where its reply broke off, and the next one gets its page.
-fn is_followed<S: Alter>(
-    rt: &impl Abort,
+fn is_followed<A: ArchiveStore>(
     alloc: Global,
-    store: &mut Store<S>,
+    store: &mut A,
     peer: Peer,
     got: &[u8],
     line: &[u8],
@@ -32,17 +30,17 @@ fn is_followed<S: Alter>(
         most: MOST,
     };
     let outcome = serve_on(store, &terms, &mut listener, 2, &mut faults);
-    assert_eq!(rt; outcome, Ok(()));
-    assert_eq!(rt;
+    expect_equal(outcome, Ok(()))?;
+    expect_equal(
         listener.got.as_slice(),
-        joined(alloc, &[got, LISTS])?.as_slice()
-    );
-    assert_eq!(rt; faults.bytes(), line);
+        joined(alloc, &[got, LISTS])?.as_slice(),
+    )?;
+    expect_equal(faults.bytes(), line)?;
     Ok(())
 }
 
 /// One peer for each byte of the request and of the reply.
-fn all_fail<S: Alter>(rt: &impl Abort, alloc: Global, store: &mut Store<S>) -> Result<(), Fail> {
+pub fn all_fail<A: ArchiveStore>(alloc: Global, store: &mut A) -> Result<(), Fail> {
     fill(alloc, store)?;
     for reads in 0..GET.len() {
         let peer = Peer::Says {
@@ -50,7 +48,7 @@ fn all_fail<S: Alter>(rt: &impl Abort, alloc: Global, store: &mut Store<S>) -> R
             reads,
             writes: ALL,
         };
-        is_followed(rt, alloc, store, peer, b"", b"archive: S1 Read\n")?;
+        is_followed(alloc, store, peer, b"", b"archive: S1 Read\n")?;
     }
     for writes in 0..LISTS.len() {
         let peer = Peer::Says {
@@ -59,15 +57,7 @@ fn all_fail<S: Alter>(rt: &impl Abort, alloc: Global, store: &mut Store<S>) -> R
             writes,
         };
         let got = joined(alloc, &[&LISTS[..writes], b"+"])?;
-        is_followed(rt, alloc, store, peer, &got, b"archive: S2 Write\n")?;
+        is_followed(alloc, store, peer, &got, b"archive: S2 Write\n")?;
     }
     Ok(())
-}
-
-#[test]
-fn a_peer_that_fails_at_any_byte_is_told_in_a_line_and_the_next_gets_its_page(
-    rt: HostRuntime,
-) -> Result<(), Fail> {
-    let mut store = Store::open_in_memory(rt.alloc())?;
-    all_fail(&rt, rt.alloc(), &mut store)
 }

@@ -2,13 +2,13 @@
 use crate::cases::{gets, today};
 use archive_desk::import;
 use archive_pages::answer;
-use archive_store::{Key, Store};
+use archive_port::{ArchiveStore, Key};
+use desk_tests::checks::{expect, expect_equal};
+use desk_tests::commands::list_add;
 use mbox_core::cut;
 use mbox_core::device::Tap;
 use policy_core::Policy;
-use sqlite::Alter;
 use std::alloc::Global;
-use std::process::Abort;
 use std::test::Fail;
 use thread_core::NodeThreader;
 
@@ -27,11 +27,13 @@ const ESCAPED: &[u8] =
       </body></html>\n";
 
 /// What has to be escaped is, over a whole reply.
-pub fn texts<S: Alter>(rt: &impl Abort, alloc: Global, store: &mut Store<S>) -> Result<(), Fail> {
+pub fn texts<A: ArchiveStore>(alloc: Global, store: &mut A) -> Result<(), Fail> {
     import(store, alloc, "soc", TEXTS)?;
     let request = b"GET /l/soc/threads HTTP/1.1\r\n\r\n";
-    assert!(rt; gets(alloc, store, &Policy::open(), request, 8192, ESCAPED)?);
-    Ok(())
+    expect(
+        gets(alloc, store, &Policy::open(), request, 8192, ESCAPED)?,
+        "another page",
+    )
 }
 
 /// How many messages the ring has.
@@ -51,9 +53,9 @@ fn ring(alloc: Global) -> Result<Vec<u8>, Fail> {
 }
 
 /// The reply to a request for the thread of the first message of an mbox.
-fn thread_of<S: Alter>(
+fn thread_of<A: ArchiveStore>(
     alloc: Global,
-    store: &mut Store<S>,
+    store: &mut A,
     nodes: &NodeThreader,
     mbox: &[u8],
 ) -> Result<Tap, Fail> {
@@ -93,18 +95,17 @@ fn count_quoted(page: &[u8], word: &[u8]) -> usize {
 }
 
 /// A ring of messages is one thread, of which each row stands one deeper than the one before.
-pub fn rings<S: Alter>(
-    rt: &impl Abort,
+pub fn rings<A: ArchiveStore>(
     alloc: Global,
-    store: &mut Store<S>,
+    store: &mut A,
     nodes: &NodeThreader,
 ) -> Result<(), Fail> {
-    store.list_add("soc")?;
+    list_add(store, "soc")?;
     let mbox = ring(alloc)?;
     import(store, alloc, "soc", &mbox)?;
     let page = thread_of(alloc, store, nodes, &mbox)?;
     for (class, count) in &CLASSES {
-        assert_eq!(rt; count_quoted(page.bytes(), class), *count);
+        expect_equal(count_quoted(page.bytes(), class), *count)?;
     }
     Ok(())
 }

@@ -7,14 +7,14 @@ use crate::links::{
 use archive_cache::Cache;
 use archive_desk::import;
 use archive_pages::{Pages, answer_cached};
+use archive_port::ArchiveStore;
 use archive_requests::Routes;
-use archive_store::Store;
+use desk_tests::checks::{expect, expect_equal};
+use desk_tests::commands::{list_add, withdraw};
 use desk_tests::noting::Noting;
 use mbox_core::device::Tap;
 use policy_core::{Policy, WithdrawnBy};
-use sqlite::{Alter, MemStore};
 use std::alloc::Global;
-use std::process::Abort;
 use std::test::Fail;
 use thread_core::{PlainThreader, Threader};
 
@@ -69,8 +69,8 @@ pub fn pages_for<'a, T>(
 }
 
 /// The reply to a request for a path, out of what is kept.
-pub fn kept_reply<T: Threader, S: Alter>(
-    store: &mut Store<S>,
+pub fn kept_reply<T: Threader, A: ArchiveStore>(
+    store: &mut A,
     pages: &mut Pages<'_, T>,
     token: Option<&str>,
     path: &[u8],
@@ -83,9 +83,8 @@ pub fn kept_reply<T: Threader, S: Alter>(
 }
 
 /// Each reader asks for each path; the replies are those of `answer`.
-fn all_ask<T: Threader, S: Alter>(
-    rt: &impl Abort,
-    store: &mut Store<S>,
+fn all_ask<T: Threader, A: ArchiveStore>(
+    store: &mut A,
     pages: &mut Pages<'_, T>,
     paths: &[Vec<u8>],
 ) -> Result<(), Fail> {
@@ -100,17 +99,16 @@ fn all_ask<T: Threader, S: Alter>(
                 path,
             )?;
             let got = kept_reply(store, pages, token, path)?;
-            assert!(rt; got.bytes() == wanted.bytes(), "{token:?}");
+            expect(got.bytes() == wanted.bytes(), format_args!("{token:?}"))?;
         }
     }
     Ok(())
 }
 
 /// All ask twice, where so much may be kept: the threader is asked so often.
-fn asks_twice<S: Alter>(
-    rt: &impl Abort,
+fn asks_twice<A: ArchiveStore>(
     alloc: Global,
-    store: &mut Store<S>,
+    store: &mut A,
     most: usize,
     routes: Option<Routes>,
     joins: usize,
@@ -128,28 +126,28 @@ fn asks_twice<S: Alter>(
             kept: Cache::new(alloc, most),
         };
         for _ in 0..2 {
-            all_ask(rt, store, &mut pages, &paths)?;
+            all_ask(store, &mut pages, &paths)?;
         }
     }
-    assert_eq!(rt; noting.into_noted().joins, joins);
+    expect_equal(noting.into_noted().joins, joins)?;
     Ok(())
 }
 
 /// Where all has room, one list is threaded once for each of the four readers, and the other, where none of them is known, once
 /// in all. Where nothing has room, the last outline alone stays: it serves the thread behind a thread, and the month behind that.
-pub fn keeping<S: Alter>(rt: &impl Abort, alloc: Global, store: &mut Store<S>) -> Result<(), Fail> {
+pub fn keeping<A: ArchiveStore>(alloc: Global, store: &mut A) -> Result<(), Fail> {
     fill(alloc, store, Past::Withdrawn)?;
-    asks_twice(rt, alloc, store, 1 << 20, Some(Routes::new(alloc)?), 5)?;
-    asks_twice(rt, alloc, store, 0, None, 80)
+    asks_twice(alloc, store, 1 << 20, Some(Routes::new(alloc)?), 5)?;
+    asks_twice(alloc, store, 0, None, 80)
 }
 
-const THREADS: &[u8] = b"/l/soc/threads";
+pub const THREADS: &[u8] = b"/l/soc/threads";
 
-const MARCH: &[u8] = b"/l/soc/month/2003-03";
+pub const MARCH: &[u8] = b"/l/soc/month/2003-03";
 
-const APRIL: &[u8] = b"/l/soc/month/2003-04";
+pub const APRIL: &[u8] = b"/l/soc/month/2003-04";
 
-const ANNA: &[u8] = b"/l/soc/by/anna%40example.org";
+pub const ANNA: &[u8] = b"/l/soc/by/anna%40example.org";
 
 const NOBODY: &[u8] = b"/l/soc/by/nobody%40example.org";
 
@@ -172,84 +170,86 @@ const LIST_STAYS: [Step; 5] = [
     (ANNA, true),
 ];
 
-/// The list of two messages, one of which is withdrawn behind the back of what is kept, once these were asked for: then each step's
-/// reply is the one of before, or the one of now.
-fn steps(
-    rt: &impl Abort,
-    alloc: Global,
+/// How many bytes may be kept, what is asked for before a message is withdrawn, and the steps after that.
+#[derive(Clone, Copy)]
+pub struct Reading {
     most: usize,
-    before: &[&[u8]],
-    steps: &[Step],
-) -> Result<(), Fail> {
-    let policy = Policy::read(alloc, POLICY)?;
-    let mut store = Store::open_in_memory(alloc)?;
-    store.list_add("soc")?;
-    import(&mut store, alloc, "soc", TWO)?;
-    let mut pages = pages_for(alloc, &policy, &PlainThreader, most)?;
-    for path in before {
-        kept_reply(&mut store, &mut pages, None, path)?;
-    }
-    let mut old = Vec::new(alloc);
-    for (path, _kept) in steps {
-        old.push(reply(alloc, &mut store, &policy, &PlainThreader, None, path)?)?;
-    }
-    store.withdraw("soc", &first_key(TWO)?, WithdrawnBy::Author)?;
-    for ((path, kept), old) in steps.iter().zip(old.iter()) {
-        let new = reply(alloc, &mut store, &policy, &PlainThreader, None, path)?;
-        let got = kept_reply(&mut store, &mut pages, None, path)?;
-        let wanted = if *kept { old } else { &new };
-        assert!(rt; got.bytes() == wanted.bytes());
-        assert!(rt; !*kept || old.bytes() != new.bytes());
-    }
-    Ok(())
+    before: &'static [u8],
+    steps: &'static [Step],
 }
 
 /// A list is read once, whatever of it is asked for first; where there is no room, months and authors are let go before it; and where
 /// nothing has room, the last alone stays.
-#[test]
-fn one_reading_of_a_list_serves_all(rt: HostRuntime) -> Result<(), Fail> {
-    let alloc = rt.alloc();
-    for first in [THREADS, MARCH, ANNA, NOBODY] {
-        steps(&rt, alloc, 1 << 20, &[first], &KEPT)?;
+pub const READINGS: [Reading; 6] = [
+    Reading {
+        most: 1 << 20,
+        before: THREADS,
+        steps: &KEPT,
+    },
+    Reading {
+        most: 1 << 20,
+        before: MARCH,
+        steps: &KEPT,
+    },
+    Reading {
+        most: 1 << 20,
+        before: ANNA,
+        steps: &KEPT,
+    },
+    Reading {
+        most: 1 << 20,
+        before: NOBODY,
+        steps: &KEPT,
+    },
+    Reading {
+        most: ROOM_FOR_TWO,
+        before: MARCH,
+        steps: &LIST_STAYS,
+    },
+    Reading {
+        most: 0,
+        before: MARCH,
+        steps: &[(MARCH, true), (THREADS, false)],
+    },
+];
+
+/// The replies to the steps of a reading, without what is kept.
+fn replies<A: ArchiveStore>(
+    alloc: Global,
+    store: &mut A,
+    policy: &Policy,
+    steps: &[Step],
+) -> Result<Vec<Tap>, Fail> {
+    let mut replies = Vec::new(alloc);
+    for (path, _kept) in steps {
+        replies.push(reply(alloc, store, policy, &PlainThreader, None, path)?)?;
     }
-    steps(&rt, alloc, ROOM_FOR_TWO, &[MARCH], &LIST_STAYS)?;
-    steps(&rt, alloc, 0, &[MARCH], &[(MARCH, true), (THREADS, false)])
+    Ok(replies)
 }
 
-/// Another program filed the second message under another month, author and sent date.
-fn filed_otherwise(alloc: Global) -> Result<Store<MemStore>, Fail> {
-    let mut store = Store::open_in_memory(alloc)?;
-    store.list_add("soc")?;
-    import(&mut store, alloc, "soc", TWO)?;
-    let mut connection = store.into_connection();
-    connection.execute(
-        "UPDATE message SET sent = 1046700000, month = 24039, author = x'616e6e61406578616d706c652e6f7267' WHERE pos = 2",
-        &[],
-    )?;
-    match Store::adopt(connection) {
-        Ok(store) => Ok(store),
-        Err(_stop) => Err(Fail::from("a store")),
-    }
-}
-
-/// Months and authors go by the texts all the same, the first time and later, and by `answer` too.
-#[test]
-fn months_and_authors_go_by_the_texts(rt: HostRuntime) -> Result<(), Fail> {
-    let alloc = rt.alloc();
-    let mut store = filed_otherwise(alloc)?;
-    let policy = Policy::open();
-    let mut pages = pages_for(alloc, &policy, &PlainThreader, 1 << 20)?;
-    for _ in 0..2 {
-        for (path, rows) in [(MARCH, 2), (APRIL, 0), (ANNA, 1)] {
-            let wanted = reply(alloc, &mut store, &policy, &PlainThreader, None, path)?;
-            let got = kept_reply(&mut store, &mut pages, None, path)?;
-            assert!(rt; got.bytes() == wanted.bytes());
-            let links = got.bytes().split(|byte| *byte == b'"');
-            assert_eq!(rt;
-                links.filter(|link| link.starts_with(b"/l/soc/m/")).count(),
-                rows
-            );
-        }
+/// An empty archive gets the list of two messages, one of which is withdrawn behind the back of what is kept, once something was asked
+/// for: then each step's reply is the one of before, or the one of now.
+pub fn follow<A: ArchiveStore>(
+    alloc: Global,
+    store: &mut A,
+    reading: &Reading,
+) -> Result<(), Fail> {
+    let policy = Policy::read(alloc, POLICY)?;
+    list_add(store, "soc")?;
+    import(store, alloc, "soc", TWO)?;
+    let mut pages = pages_for(alloc, &policy, &PlainThreader, reading.most)?;
+    kept_reply(store, &mut pages, None, reading.before)?;
+    let old = replies(alloc, store, &policy, reading.steps)?;
+    withdraw(store, "soc", &first_key(TWO)?, WithdrawnBy::Author)?;
+    for ((path, kept), old) in reading.steps.iter().zip(old.iter()) {
+        let new = reply(alloc, store, &policy, &PlainThreader, None, path)?;
+        let got = kept_reply(store, &mut pages, None, path)?;
+        let wanted = if *kept { old } else { &new };
+        expect(got.bytes() == wanted.bytes(), format_args!("{path:?}"))?;
+        expect(
+            !*kept || old.bytes() != new.bytes(),
+            "the withdrawal shows nowhere",
+        )?;
     }
     Ok(())
 }

@@ -1,38 +1,16 @@
-//! The replies to known requests, byte for byte, and the archive's pages over connections: peers of memory, some of which fail,
-//! and one on the loopback interface.
+//! The replies to known requests, byte for byte, and an archive's pages over connections: peers of memory, some of which fail. The cases
+//! are for any archive: `memory_tests` and `stored_tests` run them.
 #![tactic(auto)]
 
-#[cfg(test)]
-mod announced;
-#[cfg(test)]
-mod breaking;
-#[cfg(test)]
-mod cases;
-#[cfg(test)]
-mod damaged;
-#[cfg(test)]
-mod devices;
-#[cfg(test)]
-mod failing;
-#[cfg(test)]
-mod hostile;
-#[cfg(test)]
-mod keeping;
-#[cfg(test)]
-mod links;
-#[cfg(test)]
-mod older;
-#[cfg(test)]
-mod own;
-#[cfg(test)]
-mod pages;
-#[cfg(test)]
-mod peers;
-#[cfg(test)]
-mod requests;
-#[cfg(test)]
-mod serving;
-#[cfg(test)]
-mod sockets;
-#[cfg(test)]
-mod standing;
+pub mod announced;
+pub mod cases;
+pub mod devices;
+pub mod failing;
+pub mod hostile;
+pub mod keeping;
+pub mod links;
+pub mod own;
+pub mod pages;
+pub mod peers;
+pub mod requests;
+pub mod serving;

@@ -2,15 +2,15 @@
 use crate::cases::today;
 use archive_desk::import;
 use archive_pages::answer;
-use archive_store::{Key, Store};
+use archive_port::{ArchiveStore, Key};
 use civil_time::Day;
+use desk_tests::checks::{expect, expect_equal};
+use desk_tests::commands::{address_set, embargo, grant, list_add, person_add, withdraw};
 use desk_tests::noting::Noting;
 use mbox_core::cut;
 use mbox_core::device::Tap;
 use policy_core::{GrantKind, Policy, WithdrawnBy};
-use sqlite::Alter;
 use std::alloc::Global;
-use std::process::Abort;
 use std::test::Fail;
 use thread_core::{NodeThreader, PlainThreader, Threader};
 
@@ -95,22 +95,27 @@ pub fn first_key(mbox: &[u8]) -> Result<Key, Fail> {
 }
 
 /// Two lists with their messages, and the readers.
-pub fn fill<S: Alter>(alloc: Global, store: &mut Store<S>, past: Past) -> Result<(), Fail> {
-    store.list_add("soc")?;
-    store.list_add("other")?;
+pub fn fill<A: ArchiveStore>(alloc: Global, store: &mut A, past: Past) -> Result<(), Fail> {
+    list_add(store, "soc")?;
+    list_add(store, "other")?;
     for (name, token, kind) in PERSONS {
-        store.person_add(name, token)?;
-        store.grant(name, "soc", kind, today()?, today()?)?;
+        person_add(store, name, token)?;
+        grant(store, name, "soc", kind, today()?, today()?)?;
     }
     import(store, alloc, "other", FIRST)?;
     import(store, alloc, "soc", FIRST)?;
     if past == Past::Withdrawn {
         import(store, alloc, "soc", WITHDRAWN)?;
-        store.withdraw("soc", &first_key(WITHDRAWN)?, WithdrawnBy::Author)?;
+        withdraw(store, "soc", &first_key(WITHDRAWN)?, WithdrawnBy::Author)?;
     }
     import(store, alloc, "soc", OTHERS)?;
     let last = Key::of(&cut(OTHERS)?.nth(6).ok_or("a message")?);
-    store.embargo("soc", &last, Day::read(b"2003-04-01").ok_or("a day")?)?;
+    embargo(
+        store,
+        "soc",
+        &last,
+        Day::read(b"2003-04-01").ok_or("a day")?,
+    )?;
     Ok(())
 }
 
@@ -130,9 +135,9 @@ pub fn request_for(alloc: Global, token: Option<&str>, path: &[u8]) -> Result<Ve
 }
 
 /// The reply to a request for a path, by a threader.
-pub fn reply<T: Threader, S: Alter>(
+pub fn reply<T: Threader, A: ArchiveStore>(
     alloc: Global,
-    store: &mut Store<S>,
+    store: &mut A,
     policy: &Policy,
     threader: &T,
     token: Option<&str>,
@@ -166,10 +171,9 @@ fn add_links(alloc: Global, paths: &mut Vec<Vec<u8>>, page: &[u8]) -> Result<(),
 }
 
 /// All replies to one reader, and how many they are: each link of each page is followed, and each reply is 200.
-fn walk<T: Threader, S: Alter>(
-    rt: &impl Abort,
+fn walk<T: Threader, A: ArchiveStore>(
     alloc: Global,
-    store: &mut Store<S>,
+    store: &mut A,
     threader: &T,
     token: Option<&str>,
 ) -> Result<(Vec<u8>, usize), Fail> {
@@ -183,7 +187,10 @@ fn walk<T: Threader, S: Alter>(
         };
         let output = reply(alloc, store, &policy, threader, token, path)?;
         let page = output.bytes();
-        assert!(rt; page.starts_with(b"HTTP/1.1 200 OK\r\n"), "page {turn}");
+        expect(
+            page.starts_with(b"HTTP/1.1 200 OK\r\n"),
+            format_args!("page {turn}"),
+        )?;
         if page.starts_with(b"HTTP/1.1 200 OK\r\nContent-Type: text/html") {
             add_links(alloc, &mut paths, page)?;
         }
@@ -193,11 +200,14 @@ fn walk<T: Threader, S: Alter>(
 }
 
 /// Each reader follows all links, and finds so many pages.
-pub fn links<S: Alter>(rt: &impl Abort, alloc: Global, store: &mut Store<S>) -> Result<(), Fail> {
+pub fn links<A: ArchiveStore>(alloc: Global, store: &mut A) -> Result<(), Fail> {
     fill(alloc, store, Past::Withdrawn)?;
     for (token, count) in PAGES {
-        let (_told, pages) = walk(rt, alloc, store, &PlainThreader, token)?;
-        assert_eq!(rt; pages, count, "{token:?}");
+        let (_told, pages) = walk(alloc, store, &PlainThreader, token)?;
+        expect(
+            pages == count,
+            format_args!("{pages} pages, not {count}, for {token:?}"),
+        )?;
     }
     Ok(())
 }
@@ -208,37 +218,37 @@ const AUTHOR: (&str, usize) = ("3333333333333333", 30);
 
 /// Until their address is said, who wrote the withdrawn message is shown what nobody in particular is; then more. All that others
 /// are shown stays as it was, byte for byte.
-pub fn own<S: Alter>(rt: &impl Abort, alloc: Global, store: &mut Store<S>) -> Result<(), Fail> {
+pub fn own<A: ArchiveStore>(alloc: Global, store: &mut A) -> Result<(), Fail> {
     fill(alloc, store, Past::Withdrawn)?;
     let (token, count) = AUTHOR;
-    store.person_add("eve", token)?;
+    person_add(store, "eve", token)?;
     let mut before = Vec::new(alloc);
     for (token, _pages) in PAGES {
-        let (told, _pages) = walk(rt, alloc, store, &PlainThreader, token)?;
+        let (told, _pages) = walk(alloc, store, &PlainThreader, token)?;
         before.push(told)?;
     }
-    let (to_author, _pages) = walk(rt, alloc, store, &PlainThreader, Some(token))?;
+    let (to_author, _pages) = walk(alloc, store, &PlainThreader, Some(token))?;
     let to_nobody = before.first().ok_or("what nobody is shown")?;
-    assert!(rt; to_author.as_slice() == to_nobody.as_slice());
-    store.address_set(alloc, "eve", "Eve@Example.org")?;
+    expect(
+        to_author.as_slice() == to_nobody.as_slice(),
+        "more than nobody is shown",
+    )?;
+    address_set(store, alloc, "eve", "Eve@Example.org")?;
     for ((token, _pages), told) in PAGES.iter().zip(before.iter()) {
-        let (again, _pages) = walk(rt, alloc, store, &PlainThreader, *token)?;
-        assert!(rt; again.as_slice() == told.as_slice(), "{token:?}");
+        let (again, _pages) = walk(alloc, store, &PlainThreader, *token)?;
+        expect(
+            again.as_slice() == told.as_slice(),
+            format_args!("{token:?}"),
+        )?;
     }
-    let (_told, pages) = walk(rt, alloc, store, &PlainThreader, Some(token))?;
-    assert_eq!(rt; pages, count);
-    Ok(())
+    let (_told, pages) = walk(alloc, store, &PlainThreader, Some(token))?;
+    expect_equal(pages, count)
 }
 
 /// All that nobody in particular is shown of an archive.
-pub fn shown<S: Alter>(
-    rt: &impl Abort,
-    alloc: Global,
-    store: &mut Store<S>,
-    past: Past,
-) -> Result<Vec<u8>, Fail> {
+pub fn shown<A: ArchiveStore>(alloc: Global, store: &mut A, past: Past) -> Result<Vec<u8>, Fail> {
     fill(alloc, store, past)?;
-    let (told, _pages) = walk(rt, alloc, store, &PlainThreader, None)?;
+    let (told, _pages) = walk(alloc, store, &PlainThreader, None)?;
     Ok(told)
 }
 
@@ -255,10 +265,9 @@ const SEEN_BY_MODERATOR: &[u8] =
     b"|1 1 <a href=\"/nope\"> &amp;|2 <1> 2|<1> <2> |<gone> 4|<gone> 5|2 6|<2> 7|<1> 8|9";
 
 /// For this page the threader is asked once, and of these messages.
-fn asks_once<S: Alter>(
-    rt: &impl Abort,
+fn asks_once<A: ArchiveStore>(
     alloc: Global,
-    store: &mut Store<S>,
+    store: &mut A,
     policy: &Policy,
     token: Option<&str>,
     path: &[u8],
@@ -267,29 +276,35 @@ fn asks_once<S: Alter>(
     let noting = Noting::new(alloc);
     let output = reply(alloc, store, policy, &noting, token, path)?;
     let noted = noting.into_noted();
-    assert!(rt; output.bytes().starts_with(b"HTTP/1.1 200 OK\r\n"));
-    assert_eq!(rt; (noted.joins, noted.rows), (1, 1));
-    assert_eq!(rt; noted.entries.as_slice(), entries);
+    expect(
+        output.bytes().starts_with(b"HTTP/1.1 200 OK\r\n"),
+        "no page",
+    )?;
+    expect_equal((noted.joins, noted.rows), (1, 1))?;
+    expect_equal(noted.entries.as_slice(), entries)?;
     Ok(())
 }
 
 /// For a page of threads the threader is asked once, and of the messages of the view alone, also where the view does not hold
 /// the message of the thread.
-pub fn asking<S: Alter>(rt: &impl Abort, alloc: Global, store: &mut Store<S>) -> Result<(), Fail> {
+pub fn asking<A: ArchiveStore>(alloc: Global, store: &mut A) -> Result<(), Fail> {
     fill(alloc, store, Past::Withdrawn)?;
     let policy = Policy::read(alloc, POLICY)?;
     let thread = thread_path(alloc, &first_key(FIRST)?)?;
     for (token, entries) in ASKED {
-        asks_once(rt, alloc, store, &policy, token, b"/l/soc/threads", entries)?;
-        asks_once(rt, alloc, store, &policy, token, &thread, entries)?;
+        asks_once(alloc, store, &policy, token, b"/l/soc/threads", entries)?;
+        asks_once(alloc, store, &policy, token, &thread, entries)?;
     }
     let hidden = thread_path(alloc, &first_key(WITHDRAWN)?)?;
     let noting = Noting::new(alloc);
     let output = reply(alloc, store, &policy, &noting, None, &hidden)?;
     let noted = noting.into_noted();
-    assert!(rt; output.bytes().starts_with(b"HTTP/1.1 404 Not Found\r\n"));
-    assert_eq!(rt; (noted.joins, noted.rows), (1, 1));
-    assert_eq!(rt; noted.entries.as_slice(), SEEN_BY_NOBODY);
+    expect(
+        output.bytes().starts_with(b"HTTP/1.1 404 Not Found\r\n"),
+        "no 404",
+    )?;
+    expect_equal((noted.joins, noted.rows), (1, 1))?;
+    expect_equal(noted.entries.as_slice(), SEEN_BY_NOBODY)?;
     Ok(())
 }
 
@@ -311,17 +326,19 @@ fn path_of(alloc: Global, route: &[u8], key: &Key) -> Result<Vec<u8>, Fail> {
 }
 
 /// Both threaders give the same pages, to nobody and to each person.
-pub fn by_both<S: Alter>(
-    rt: &impl Abort,
+pub fn by_both<A: ArchiveStore>(
     alloc: Global,
-    store: &mut Store<S>,
+    store: &mut A,
     nodes: &NodeThreader,
 ) -> Result<(), Fail> {
     fill(alloc, store, Past::Withdrawn)?;
     for (token, _pages) in PAGES {
-        let (plain, _pages) = walk(rt, alloc, store, &PlainThreader, token)?;
-        let (by_nodes, _pages) = walk(rt, alloc, store, nodes, token)?;
-        assert!(rt; plain.as_slice() == by_nodes.as_slice(), "{token:?}");
+        let (plain, _pages) = walk(alloc, store, &PlainThreader, token)?;
+        let (by_nodes, _pages) = walk(alloc, store, nodes, token)?;
+        expect(
+            plain.as_slice() == by_nodes.as_slice(),
+            format_args!("{token:?}"),
+        )?;
     }
     Ok(())
 }

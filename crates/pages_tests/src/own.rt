@@ -3,12 +3,12 @@
 use crate::cases::{TWO, gets};
 use crate::pages::{DENIED, OF_SECOND, OF_TWO, WITHDRAWN};
 use archive_desk::import;
-use archive_store::{Key, Store};
+use archive_port::{ArchiveStore, Key};
+use desk_tests::checks::expect;
+use desk_tests::commands::{address_set, person_add, withdraw};
 use mbox_core::cut;
 use policy_core::{Policy, WithdrawnBy};
-use sqlite::Alter;
 use std::alloc::Global;
-use std::process::Abort;
 use std::test::Fail;
 
 /// The rule by which one's own messages may be read.
@@ -52,64 +52,62 @@ fn with_token(alloc: Global, request: &str, token: Option<&str>) -> Result<Vec<u
 }
 
 /// Each of these requests, with a token if there is one, gets its reply.
-fn all_get_with<S: Alter>(
-    rt: &impl Abort,
+fn all_get_with<A: ArchiveStore>(
     alloc: Global,
-    store: &mut Store<S>,
+    store: &mut A,
     policy: &Policy,
     token: Option<&str>,
     pages: &[(&str, &[u8])],
 ) -> Result<(), Fail> {
     for (request, reply) in pages {
         let request = with_token(alloc, request, token)?;
-        assert!(rt;
+        expect(
             gets(alloc, store, policy, &request, 8192, reply)?,
-            "{token:?}"
-        );
+            format_args!("{token:?}"),
+        )?;
     }
     Ok(())
 }
 
 /// Each page of a reader is what it is for all where both messages are seen, or what it is where the second alone is.
-fn sees<S: Alter>(
-    rt: &impl Abort,
+fn sees<A: ArchiveStore>(
     alloc: Global,
-    store: &mut Store<S>,
+    store: &mut A,
     policy: &Policy,
     token: Option<&str>,
     is_whole: bool,
 ) -> Result<(), Fail> {
     if is_whole {
-        return all_get_with(rt, alloc, store, policy, token, &OF_TWO);
+        return all_get_with(alloc, store, policy, token, &OF_TWO);
     }
-    all_get_with(rt, alloc, store, policy, token, &OF_SECOND)?;
-    all_get_with(rt, alloc, store, policy, token, &DENIED)
+    all_get_with(alloc, store, policy, token, &OF_SECOND)?;
+    all_get_with(alloc, store, policy, token, &DENIED)
 }
 
 /// Imports the two messages, and withdraws the first. There are two persons beside.
-fn fill<S: Alter>(alloc: Global, store: &mut Store<S>) -> Result<(), Fail> {
+fn fill<A: ArchiveStore>(alloc: Global, store: &mut A) -> Result<(), Fail> {
     import(store, alloc, "soc", TWO)?;
     let first = Key::of(&cut(TWO)?.next().ok_or("a first message")?);
-    store.withdraw("soc", &first, WithdrawnBy::Board)?;
+    withdraw(store, "soc", &first, WithdrawnBy::Board)?;
     for (person, token) in PERSONS {
-        store.person_add(person, token)?;
+        person_add(store, person, token)?;
     }
     Ok(())
 }
 
 /// Who wrote the withdrawn message sees every page as if nothing was withdrawn, once the address is said and as long as it is;
 /// the pages of others are byte for byte what they were.
-pub fn own<S: Alter>(rt: &impl Abort, alloc: Global, store: &mut Store<S>) -> Result<(), Fail> {
+pub fn own<A: ArchiveStore>(alloc: Global, store: &mut A) -> Result<(), Fail> {
     fill(alloc, store)?;
     let rules = format!(in alloc; "{MINE}{WITHDRAWN}")?;
     let policy = Policy::read(alloc, &rules)?;
     for (said, wholes) in STEPS {
         if let Some((person, address)) = said {
-            store.address_set(alloc, person, address)?;
+            address_set(store, alloc, person, address)?;
         }
-        sees(rt, alloc, store, &policy, None, false)?;
+        sees(alloc, store, &policy, None, false)?;
         for ((_person, token), is_whole) in PERSONS.iter().zip(wholes) {
-            sees(rt, alloc, store, &policy, Some(*token), is_whole)?;
+            sees(alloc, store, &policy, Some(*token), is_whole)?;
         }
     }
     Ok(())

@@ -2,12 +2,12 @@
 use crate::cases::{SECOND, TWO, gets, today};
 use crate::requests::NOT_FOUND;
 use archive_desk::import;
-use archive_store::{Key, Store};
+use archive_port::{ArchiveStore, Key};
+use desk_tests::checks::expect;
+use desk_tests::commands::{grant, merge_set, withdraw};
 use mbox_core::cut;
 use policy_core::{GrantKind, Policy, WithdrawnBy};
-use sqlite::Alter;
 use std::alloc::Global;
-use std::process::Abort;
 use std::test::Fail;
 
 /// What the public may not see: a message that was withdrawn.
@@ -201,73 +201,64 @@ static OF_APART: [(&str, &[u8]); 3] = [
 ];
 
 /// Each request of a table gets its reply.
-pub fn all_get<S: Alter>(
-    rt: &impl Abort,
+pub fn all_get<A: ArchiveStore>(
     alloc: Global,
-    store: &mut Store<S>,
+    store: &mut A,
     policy: &Policy,
     table: &[(&str, &[u8])],
 ) -> Result<(), Fail> {
     for (request, reply) in table {
-        assert!(rt;
+        expect(
             gets(alloc, store, policy, request.as_bytes(), 8192, reply)?,
-            "{request}"
-        );
+            format_args!("{request}"),
+        )?;
     }
     Ok(())
 }
 
 /// Two messages that all may see.
-pub fn pages<S: Alter>(rt: &impl Abort, alloc: Global, store: &mut Store<S>) -> Result<(), Fail> {
+pub fn pages<A: ArchiveStore>(alloc: Global, store: &mut A) -> Result<(), Fail> {
     import(store, alloc, "soc", TWO)?;
-    all_get(rt, alloc, store, &Policy::open(), &OF_TWO)
+    all_get(alloc, store, &Policy::open(), &OF_TWO)
 }
 
 /// Two messages of one subject: the list's threads are not joined by it, and then they are.
-pub fn apart<S: Alter>(rt: &impl Abort, alloc: Global, store: &mut Store<S>) -> Result<(), Fail> {
+pub fn apart<A: ArchiveStore>(alloc: Global, store: &mut A) -> Result<(), Fail> {
     import(store, alloc, "soc", TWO)?;
     let policy = Policy::open();
-    store.merge_set("soc", false)?;
-    all_get(rt, alloc, store, &policy, &OF_APART)?;
-    store.merge_set("soc", true)?;
-    all_get(rt, alloc, store, &policy, &OF_TWO)
+    merge_set(store, "soc", false)?;
+    all_get(alloc, store, &policy, &OF_APART)?;
+    merge_set(store, "soc", true)?;
+    all_get(alloc, store, &policy, &OF_TWO)
 }
 
 /// Imports the two messages, and withdraws the first.
-fn withdraw_first<S: Alter>(alloc: Global, store: &mut Store<S>) -> Result<(), Fail> {
+fn withdraw_first<A: ArchiveStore>(alloc: Global, store: &mut A) -> Result<(), Fail> {
     import(store, alloc, "soc", TWO)?;
     let first = Key::of(&cut(TWO)?.next().ok_or("a first message")?);
-    store.withdraw("soc", &first, WithdrawnBy::Author)?;
+    withdraw(store, "soc", &first, WithdrawnBy::Author)?;
     Ok(())
 }
 
 /// The first message is withdrawn: denied to the public, and served to a moderator.
-pub fn withdrawn<S: Alter>(
-    rt: &impl Abort,
-    alloc: Global,
-    store: &mut Store<S>,
-) -> Result<(), Fail> {
+pub fn withdrawn<A: ArchiveStore>(alloc: Global, store: &mut A) -> Result<(), Fail> {
     withdraw_first(alloc, store)?;
-    store.grant("mo", "soc", GrantKind::Moderator, today()?, today()?)?;
+    grant(store, "mo", "soc", GrantKind::Moderator, today()?, today()?)?;
     let policy = Policy::read(alloc, WITHDRAWN)?;
-    all_get(rt, alloc, store, &policy, &DENIED)?;
-    all_get(rt, alloc, store, &policy, &OF_WITHDRAWN)
+    all_get(alloc, store, &policy, &DENIED)?;
+    all_get(alloc, store, &policy, &OF_WITHDRAWN)
 }
 
 /// What the public sees where the first message is withdrawn.
-pub fn withheld<S: Alter>(
-    rt: &impl Abort,
-    alloc: Global,
-    store: &mut Store<S>,
-) -> Result<(), Fail> {
+pub fn withheld<A: ArchiveStore>(alloc: Global, store: &mut A) -> Result<(), Fail> {
     withdraw_first(alloc, store)?;
     let policy = Policy::read(alloc, WITHDRAWN)?;
-    all_get(rt, alloc, store, &policy, &OF_SECOND)
+    all_get(alloc, store, &policy, &OF_SECOND)
 }
 
 /// What the public sees where the first message never came: the same.
-pub fn alone<S: Alter>(rt: &impl Abort, alloc: Global, store: &mut Store<S>) -> Result<(), Fail> {
+pub fn alone<A: ArchiveStore>(alloc: Global, store: &mut A) -> Result<(), Fail> {
     import(store, alloc, "soc", SECOND)?;
     let policy = Policy::read(alloc, WITHDRAWN)?;
-    all_get(rt, alloc, store, &policy, &OF_SECOND)
+    all_get(alloc, store, &policy, &OF_SECOND)
 }

@@ -1,11 +1,10 @@
 //! Requests for a list without messages: for what is there, for what is not, and those that are none.
 use crate::cases::gets;
-use archive_store::Store;
+use archive_port::ArchiveStore;
+use desk_tests::checks::expect;
 use mail_core::Memory;
 use policy_core::Policy;
-use sqlite::Alter;
 use std::alloc::Global;
-use std::process::Abort;
 use std::test::Fail;
 
 /// The page of all lists.
@@ -99,25 +98,21 @@ static REQUESTS: [(&str, &[u8]); 23] = [
 const GET: &[u8] = b"GET / HTTP/1.1\r\n\r\n";
 
 /// Each request, whole and byte by byte, and each beginning of one.
-pub fn requests<S: Alter>(
-    rt: &impl Abort,
-    alloc: Global,
-    store: &mut Store<S>,
-) -> Result<(), Fail> {
+pub fn requests<A: ArchiveStore>(alloc: Global, store: &mut A) -> Result<(), Fail> {
     let policy = Policy::open();
     for (request, reply) in &REQUESTS {
         for most in [1, 8192] {
-            assert!(rt;
+            expect(
                 gets(alloc, store, &policy, request.as_bytes(), most, reply)?,
-                "{request}"
-            );
+                format_args!("{request}"),
+            )?;
         }
     }
     for count in 0..GET.len() {
-        assert!(rt;
+        expect(
             gets(alloc, store, &policy, &GET[..count], 5, BAD_REQUEST)?,
-            "{count} bytes"
-        );
+            format_args!("{count} bytes"),
+        )?;
     }
     Ok(())
 }
@@ -151,21 +146,21 @@ static FILLED: [(usize, &[u8], &[u8]); 4] = [
 ];
 
 /// Heads as large as may be, and larger ones.
-pub fn heads<S: Alter>(rt: &impl Abort, alloc: Global, store: &mut Store<S>) -> Result<(), Fail> {
+pub fn heads<A: ArchiveStore>(alloc: Global, store: &mut A) -> Result<(), Fail> {
     let policy = Policy::open();
     for (size, end, reply) in &FILLED {
         let head = filled(alloc, *size, end)?;
-        assert!(rt;
+        expect(
             gets(alloc, store, &policy, &head, 1000, reply)?,
-            "{size} bytes"
-        );
+            format_args!("{size} bytes"),
+        )?;
     }
     for (count, reply) in [(64, LISTS), (65, TOO_LARGE)] {
         let head = of_fields(alloc, count)?;
-        assert!(rt;
+        expect(
             gets(alloc, store, &policy, &head, 1000, reply)?,
-            "{count} fields"
-        );
+            format_args!("{count} fields"),
+        )?;
     }
     Ok(())
 }

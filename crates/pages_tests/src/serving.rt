@@ -1,15 +1,15 @@
 //! Peers one after the other, and what comes of them.
 use crate::peers::{ALL, Peer, Peers};
 use archive_desk::import;
+use archive_port::{ArchiveStore, Key};
 use archive_serve::{ServingContext, ServingError, serve_on};
-use archive_store::{Key, Store};
 use civil_time::Day;
+use desk_tests::checks::expect_equal;
+use desk_tests::commands::{list_add, withdraw};
 use mbox_core::cut;
 use mbox_core::device::Tap;
 use policy_core::{Policy, WithdrawnBy};
-use sqlite::Alter;
 use std::alloc::Global;
-use std::process::Abort;
 use std::test::Fail;
 use thread_core::PlainThreader;
 
@@ -156,11 +156,11 @@ pub fn today() -> Result<Day, Fail> {
 }
 
 /// An empty store gets the two messages, of which the first is withdrawn.
-pub fn fill<S: Alter>(alloc: Global, store: &mut Store<S>) -> Result<(), Fail> {
-    store.list_add("soc")?;
+pub fn fill<A: ArchiveStore>(alloc: Global, store: &mut A) -> Result<(), Fail> {
+    list_add(store, "soc")?;
     import(store, alloc, "soc", TWO)?;
     let first = Key::of(&cut(TWO)?.next().ok_or("a first message")?);
-    store.withdraw("soc", &first, WithdrawnBy::Author)?;
+    withdraw(store, "soc", &first, WithdrawnBy::Author)?;
     Ok(())
 }
 
@@ -174,10 +174,9 @@ pub fn joined(alloc: Global, pieces: &[&[u8]]) -> Result<Vec<u8>, Fail> {
 }
 
 /// Peers come to a store that was filled.
-fn comes<S: Alter>(
-    rt: &impl Abort,
+fn comes<A: ArchiveStore>(
     alloc: Global,
-    store: &mut Store<S>,
+    store: &mut A,
     policy: &Policy,
     case: &Case,
 ) -> Result<(), Fail> {
@@ -191,26 +190,18 @@ fn comes<S: Alter>(
         most: MOST,
     };
     let outcome = serve_on(store, &terms, &mut listener, case.count, &mut faults);
-    assert_eq!(rt; outcome, case.outcome);
-    assert_eq!(rt;
-        listener.got.as_slice(),
-        joined(alloc, case.got)?.as_slice()
-    );
-    assert_eq!(rt; faults.bytes(), case.told);
+    expect_equal(outcome, case.outcome)?;
+    expect_equal(listener.got.as_slice(), joined(alloc, case.got)?.as_slice())?;
+    expect_equal(faults.bytes(), case.told)?;
     Ok(())
 }
 
-fn all_come<S: Alter>(rt: &impl Abort, alloc: Global, store: &mut Store<S>) -> Result<(), Fail> {
+/// The peers of each case come to an empty archive that is filled.
+pub fn all_come<A: ArchiveStore>(alloc: Global, store: &mut A) -> Result<(), Fail> {
     fill(alloc, store)?;
     let policy = Policy::read(alloc, POLICY)?;
     for case in &CASES {
-        comes(rt, alloc, store, &policy, case)?;
+        comes(alloc, store, &policy, case)?;
     }
     Ok(())
-}
-
-#[test]
-fn each_peer_gets_its_page(rt: HostRuntime) -> Result<(), Fail> {
-    let mut store = Store::open_in_memory(rt.alloc())?;
-    all_come(&rt, rt.alloc(), &mut store)
 }

@@ -1,15 +1,18 @@
 //! Threads that are kept while the store fails between two requests: over disks that stop, and where a message of another list
 //! cannot be read.
-use crate::breaking::{Step, UNAVAILABLE, empty, last_shut, one_page, over_files, stopping};
-use crate::cases::TWO;
+use crate::breaking::{Step, UNAVAILABLE, last_shut, over_files};
 use crate::damaged::damaged;
-use crate::keeping::{kept_reply, pages_for};
-use crate::links::reply;
+use crate::disks::{new_files, one_page, stopping};
 use archive_desk::import;
+use archive_port::ArchiveStore;
 use archive_store::Store;
+use desk_tests::commands::list_add;
 use desk_tests::noting::Noting;
+use pages_tests::cases::TWO;
+use pages_tests::keeping::{kept_reply, pages_for};
+use pages_tests::links::reply;
 use policy_core::Policy;
-use sqlite::{Alter, Connection, FileStore, Files};
+use sqlite::{Connection, FileStore, Files};
 use sqlite_disk::{Fuse, Memory};
 use std::alloc::Global;
 use std::process::Abort;
@@ -30,17 +33,21 @@ const ORDERS: [[&[u8]; 4]; 2] = [
 ];
 
 /// Each reply is that of `answer`: the page of the one list, which is threaded once, and 503 for the other, each time.
-fn stand_in(rt: &impl Abort, alloc: Global, paths: &[&[u8]]) -> Result<(), Fail> {
-    let mut store = damaged(alloc)?;
-    store.list_add("other")?;
-    import(&mut store, alloc, "other", TWO)?;
+fn stand_in<A: ArchiveStore>(
+    rt: &impl Abort,
+    alloc: Global,
+    store: &mut A,
+    paths: &[&[u8]],
+) -> Result<(), Fail> {
+    list_add(store, "other")?;
+    import(store, alloc, "other", TWO)?;
     let policy = Policy::open();
     let noting = Noting::new(alloc);
     {
         let mut pages = pages_for(alloc, &policy, &noting, MOST)?;
         for path in paths {
-            let wanted = reply(alloc, &mut store, &policy, &PlainThreader, None, path)?;
-            let got = kept_reply(&mut store, &mut pages, None, path)?;
+            let wanted = reply(alloc, store, &policy, &PlainThreader, None, path)?;
+            let got = kept_reply(store, &mut pages, None, path)?;
             assert!(rt; got.bytes() == wanted.bytes());
             assert_eq!(rt; got.bytes() == UNAVAILABLE, *path == DAMAGED);
         }
@@ -54,7 +61,8 @@ fn a_list_that_cannot_be_read_takes_nothing_from_one_that_is_kept(
     rt: HostRuntime,
 ) -> Result<(), Fail> {
     for paths in &ORDERS {
-        stand_in(&rt, rt.alloc(), paths)?;
+        let mut store = damaged(rt.alloc())?;
+        stand_in(&rt, rt.alloc(), &mut store, paths)?;
     }
     Ok(())
 }
@@ -77,9 +85,9 @@ const READ_FIRST: [&[u8]; 3] = [
 const CALLS: u64 = 4096;
 
 /// The pages of these paths.
-fn pages<S: Alter>(
+fn pages<A: ArchiveStore>(
     alloc: Global,
-    store: &mut Store<S>,
+    store: &mut A,
     paths: &[&[u8]],
 ) -> Result<Vec<Vec<u8>>, Fail> {
     let mut pages = Vec::new(alloc);
@@ -91,10 +99,10 @@ fn pages<S: Alter>(
 }
 
 /// How many replies are pages, before the first 503. Behind it each is 503, whatever is kept.
-fn count_pages<S: Alter>(
+fn count_pages<A: ArchiveStore>(
     rt: &impl Abort,
     alloc: Global,
-    store: &mut Store<S>,
+    store: &mut A,
     paths: &[&[u8]],
     pages: &[Vec<u8>],
 ) -> Result<usize, Fail> {
@@ -143,8 +151,16 @@ fn count_over(
     pages: &[Vec<u8>],
 ) -> Result<Option<usize>, Fail> {
     match open_over(alloc, files, calls)? {
-        Some(mut store) => Ok(Some(count_pages(rt, alloc, &mut store, paths, pages)?)),
+        Some(mut store) => count_pages(rt, alloc, &mut store, paths, pages).map(Some),
         None => Ok(None),
+    }
+}
+
+/// The pages of these paths, over copies of these files that do not stop.
+fn pages_over(alloc: Global, files: &Files<Memory>, paths: &[&[u8]]) -> Result<Vec<Vec<u8>>, Fail> {
+    match open_over(alloc, files, CALLS)? {
+        Some(mut store) => pages(alloc, &mut store, paths),
+        None => Err(Fail::from("an open store")),
     }
 }
 
@@ -155,8 +171,7 @@ fn stops_at_each(
     files: &Files<Memory>,
     paths: &[&[u8]],
 ) -> Result<(), Fail> {
-    let mut store = open_over(alloc, files, CALLS)?.ok_or("an open store")?;
-    let pages = pages(alloc, &mut store, paths)?;
+    let pages = pages_over(alloc, files, paths)?;
     let mut reached = Vec::new(alloc);
     for calls in last_shut(rt, alloc, files)?..CALLS {
         let Some(count) = count_over(rt, alloc, files, calls, paths, &pages)? else {
@@ -178,7 +193,7 @@ fn stops_at_each(
 /// Where a disk stops, nothing is shown of what is kept: 503, whether it was kept before a reading or is read again behind it.
 #[test]
 fn what_is_kept_is_not_shown_where_a_disk_stopped(rt: HostRuntime) -> Result<(), Fail> {
-    let (_imported, files) = over_files(&rt, rt.alloc(), empty(rt.alloc()), Step::Import)?;
+    let (_imported, files) = over_files(&rt, rt.alloc(), new_files(rt.alloc()), Step::Import)?;
     for paths in [&KEPT_FIRST, &READ_FIRST] {
         stops_at_each(&rt, rt.alloc(), &files, paths)?;
     }

@@ -1,14 +1,15 @@
 //! Files of versions 1 and 2, made by the texts of their time: their pages, their export and their check are what they were, also
 //! where a disk stopped while they were brought over.
-use crate::breaking::{Stage, Step, empty, few_pages, hold_the_same, left, over_files, stopping};
-use crate::cases::today;
-use crate::pages::{OF_TWO, all_get};
+use crate::breaking::{Stage, Step, over_files};
+use crate::disks::{few_pages, hold_the_same, left, new_files, stopping};
 use archive_desk::{DeskError, ExportStop, export};
+use archive_port::ArchiveStore;
 use archive_results::{Ask, Reader};
-use archive_store::Store;
 use mbox_core::device::Tap;
+use pages_tests::cases::today;
+use pages_tests::pages::{OF_TWO, all_get};
 use policy_core::Policy;
-use sqlite::{Alter, Connection, Files};
+use sqlite::{Connection, Files};
 use sqlite_disk::Memory;
 use std::alloc::Global;
 use std::process::Abort;
@@ -42,7 +43,7 @@ const CALLS: u64 = 1000;
 
 /// The files of version 1 or of version 2.
 fn made(alloc: Global, more: &[&'static str]) -> Result<Files<Memory>, Fail> {
-    let files = empty(alloc);
+    let files = new_files(alloc);
     if !files.may_be_used() {
         return Err(Fail::from("files that may be used"));
     }
@@ -59,13 +60,13 @@ fn made(alloc: Global, more: &[&'static str]) -> Result<Files<Memory>, Fail> {
 }
 
 /// All pages of both messages; their export to a writer that takes ten bytes; and the store is whole.
-pub fn is_as_before<S: Alter>(
+pub fn is_as_before<A: ArchiveStore>(
     rt: &impl Abort,
     alloc: Global,
-    store: &mut Store<S>,
+    store: &mut A,
 ) -> Result<(), Fail> {
     let policy = Policy::open();
-    all_get(rt, alloc, store, &policy, &OF_TWO)?;
+    all_get(alloc, store, &policy, &OF_TWO)?;
     let ask = Ask {
         policy: &policy,
         reader: Reader::Nobody,
@@ -91,7 +92,7 @@ fn stop_at_each_call(
     files: &Files<Memory>,
     is_log: bool,
 ) -> Result<(), Fail> {
-    let mut seen = empty(alloc);
+    let mut seen = new_files(alloc);
     for calls in 0..CALLS {
         let (log, db) = if is_log {
             (calls, CALLS)

@@ -1,13 +1,16 @@
 //! An mbox that is asked for over files whose disks stop.
-use crate::cases::today;
+use crate::disks::{few_pages, new_files, one_page, stopping};
 use crate::older::is_as_before;
 use archive_desk::import;
 use archive_pages::{ServeFault, answer};
+use archive_port::ArchiveStore;
 use archive_store::{AdoptStop, Store};
+use desk_tests::commands::list_add;
 use mbox_core::device::Tap;
+use pages_tests::cases::today;
 use policy_core::Policy;
-use sqlite::{Alter, Connection, FileStore, Files, Options};
-use sqlite_disk::{Disk, Fuse, Memory};
+use sqlite::{Connection, FileStore, Files};
+use sqlite_disk::{Disk, Memory};
 use std::alloc::Global;
 use std::process::Abort;
 use std::test::Fail;
@@ -108,7 +111,7 @@ fn count_of(alloc: Global, reply: &[u8]) -> Result<usize, Fail> {
 }
 
 /// Asks a store for the mbox: what is said of a reply that broke off is what was written.
-fn ask<S: Alter>(rt: &impl Abort, alloc: Global, store: &mut Store<S>) -> Result<Stage, Fail> {
+fn ask<A: ArchiveStore>(rt: &impl Abort, alloc: Global, store: &mut A) -> Result<Stage, Fail> {
     let mut input = Tap::new(alloc, GET, 1000)?;
     let mut output = Tap::new(alloc, b"", 30_000)?;
     let told = answer(
@@ -134,10 +137,10 @@ fn ask<S: Alter>(rt: &impl Abort, alloc: Global, store: &mut Store<S>) -> Result
     }
 }
 
-fn take_step<S: Alter>(
+fn take_step<A: ArchiveStore>(
     rt: &impl Abort,
     alloc: Global,
-    store: &mut Store<S>,
+    store: &mut A,
     step: Step,
 ) -> Result<Stage, Fail> {
     match step {
@@ -148,26 +151,10 @@ fn take_step<S: Alter>(
             Ok(Stage::Whole)
         }
         Step::Import => {
-            store.list_add("soc")?;
+            list_add(store, "soc")?;
             import(store, alloc, "soc", &first(alloc, b"", HEADERS.len())?)?;
             Ok(Stage::Whole)
         }
-    }
-}
-
-/// A cache of one page, so that the pages of each message are read from a disk.
-pub fn one_page() -> Options {
-    Options {
-        cache_pages: 1,
-        ..Options::new(1)
-    }
-}
-
-/// A cache that holds what a small file has. Each opening fills it with zeros, which takes long if it has the usual 2,000 pages.
-pub fn few_pages() -> Options {
-    Options {
-        cache_pages: 64,
-        ..Options::new(1)
     }
 }
 
@@ -213,50 +200,6 @@ fn over_connection<D: Disk + Drop>(
     }
 }
 
-/// A database file and its log, both empty.
-pub fn empty(alloc: Global) -> Files<Memory> {
-    Files {
-        log: Memory::new(alloc),
-        db: Memory::new(alloc),
-    }
-}
-
-/// A disk that holds these bytes.
-fn holding(alloc: Global, bytes: &[u8]) -> Result<Memory, Fail> {
-    let mut disk = Memory::new(alloc);
-    if !bytes.is_empty() {
-        disk.write_at(0, bytes)?;
-    }
-    Ok(disk)
-}
-
-/// Copies of files, of which the log and the database file stop after so many calls.
-pub fn stopping(
-    alloc: Global,
-    files: &Files<Memory>,
-    log_calls: u64,
-    db_calls: u64,
-) -> Result<Files<Fuse<Memory>>, Fail> {
-    Ok(Files {
-        log: Fuse::new(holding(alloc, files.log.bytes())?, log_calls),
-        db: Fuse::new(holding(alloc, files.db.bytes())?, db_calls),
-    })
-}
-
-/// What disks that stopped hold.
-pub fn left(alloc: Global, files: &Files<Fuse<Memory>>) -> Result<Files<Memory>, Fail> {
-    Ok(Files {
-        log: holding(alloc, files.log.inner().bytes())?,
-        db: holding(alloc, files.db.inner().bytes())?,
-    })
-}
-
-/// Whether disks that stopped hold what these hold.
-pub fn hold_the_same(stopped: &Files<Fuse<Memory>>, files: &Files<Memory>) -> bool {
-    stopped.log.inner().bytes() == files.log.bytes()
-        && stopped.db.inner().bytes() == files.db.bytes()
-}
-
 /// Asks for the mbox over copies of these files whose disks stop after so many calls.
 fn ask_over(
     rt: &impl Abort,
@@ -284,7 +227,7 @@ pub fn last_shut(rt: &impl Abort, alloc: Global, files: &Files<Memory>) -> Resul
 
 #[test]
 fn an_mbox_breaks_off_where_a_disk_stops(rt: HostRuntime) -> Result<(), Fail> {
-    let (_imported, files) = over_files(&rt, rt.alloc(), empty(rt.alloc()), Step::Import)?;
+    let (_imported, files) = over_files(&rt, rt.alloc(), new_files(rt.alloc()), Step::Import)?;
     let mut reached = Vec::new(rt.alloc());
     for calls in last_shut(&rt, rt.alloc(), &files)?..CALLS {
         let stage = ask_over(&rt, rt.alloc(), &files, calls)?;

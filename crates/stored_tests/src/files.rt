@@ -1,13 +1,16 @@
 //! Stores over files that are held in memory, and over disks that stop: one function opens them, imports, exports and closes them.
+use crate::disks::few_pages;
 use archive_desk::{ImportStop, Report, export, import};
 use archive_import::import_from;
+use archive_port::ArchiveStore;
 use archive_results::{Ask, Reader};
 use archive_store::{AdoptStop, Store};
 use civil_time::Day;
+use desk_tests::commands::list_add;
 use mbox_core::device::{Counted, Tap};
 use policy_core::Policy;
-use sqlite::{Alter, Connection, FileStore, Files, Options};
-use sqlite_disk::{Disk, Memory};
+use sqlite::{Connection, FileStore, Files};
+use sqlite_disk::Disk;
 use std::alloc::Global;
 use std::test::Fail;
 
@@ -20,22 +23,6 @@ pub enum How {
 
 /// What came of an import. `None` where the files were no store.
 pub type Outcome = Option<Result<Report, ImportStop>>;
-
-/// A database file and its log, both empty.
-pub fn new_files(alloc: Global) -> Files<Memory> {
-    Files {
-        log: Memory::new(alloc),
-        db: Memory::new(alloc),
-    }
-}
-
-/// A cache of a few pages. Each opening fills it with zeros, which takes most of the time of a small file if it has the usual 2,000.
-pub fn few_pages() -> Options {
-    Options {
-        cache_pages: 64,
-        ..Options::new(1)
-    }
-}
 
 /// Imports a file into the list `soc` of a store over these files, exports that list as far as `held` takes it, and hands the files
 /// back as a crash leaves them.
@@ -79,7 +66,7 @@ fn import_connection<D: Disk + Drop>(
 }
 
 /// What the list holds goes out, as far as it can be read and written.
-fn export_store<S: Alter>(alloc: Global, store: &mut Store<S>, held: &mut Tap) {
+fn export_store<A: ArchiveStore>(alloc: Global, store: &mut A, held: &mut Tap) {
     let Some(day) = Day::of(2003, 3, 20) else {
         return;
     };
@@ -94,13 +81,13 @@ fn export_store<S: Alter>(alloc: Global, store: &mut Store<S>, held: &mut Tap) {
 }
 
 /// The list is added where it is not there.
-fn import_store<S: Alter>(
+fn import_store<A: ArchiveStore>(
     alloc: Global,
-    store: &mut Store<S>,
+    store: &mut A,
     mbox: &[u8],
     how: How,
 ) -> Result<Report, ImportStop> {
-    store.list_add("soc").ok();
+    list_add(store, "soc").ok();
     match how {
         How::Whole => import(store, alloc, "soc", mbox),
         How::InPieces => import_from(store, alloc, "soc", &mut Counted::new(mbox)),

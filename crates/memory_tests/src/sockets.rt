@@ -1,11 +1,11 @@
 //! A peer of this process, on the loopback interface.
-use crate::serving::{GET, LISTS, MOST, fill, today};
 use archive_listen::Loopback;
+use archive_memory::MemoryArchive;
+use archive_port::ArchiveStore;
 use archive_serve::{ServingContext, serve_on};
-use archive_store::Store;
 use mbox_core::device::Tap;
+use pages_tests::serving::{GET, LISTS, MOST, fill, today};
 use policy_core::Policy;
-use sqlite::Alter;
 use std::alloc::Global;
 use std::io::{Read, Write};
 use std::net::{Ipv4Addr, TcpStream};
@@ -13,7 +13,7 @@ use std::test::Fail;
 use thread_core::PlainThreader;
 
 /// A peer connects and asks, is answered, and reads its page to the end: what came.
-fn asks<S: Alter>(rt: &HostRuntime, alloc: Global, store: &mut Store<S>) -> Result<Vec<u8>, Fail> {
+fn asks<A: ArchiveStore>(rt: &HostRuntime, alloc: Global, store: &mut A) -> Result<Vec<u8>, Fail> {
     fill(alloc, store)?;
     let mut listener = Loopback::bind(rt, alloc, 0).map_err(|_| "no port")?;
     let port = listener.port();
@@ -39,8 +39,8 @@ fn asks<S: Alter>(rt: &HostRuntime, alloc: Global, store: &mut Store<S>) -> Resu
 
 #[test]
 fn a_peer_on_the_loopback_interface_gets_its_page(rt: HostRuntime) -> Result<(), Fail> {
-    let mut store = Store::open_in_memory(rt.alloc())?;
-    let got = asks(&rt, rt.alloc(), &mut store)?;
+    let mut archive = MemoryArchive::new(rt.alloc());
+    let got = asks(&rt, rt.alloc(), &mut archive)?;
     assert_eq!(rt; got.as_slice(), LISTS);
     Ok(())
 }

@@ -1,12 +1,13 @@
 //! Requests to a store with a message that cannot be read, since another program changed its row: 503 for its own page and for those
 //! that list messages of its list, its mbox too, and the page of the definition everywhere else.
-use crate::cases::{TWO, today};
-use archive_desk::import;
+use crate::damage::changed;
 use archive_pages::answer;
+use archive_port::ArchiveStore;
 use archive_store::Store;
 use mbox_core::device::Tap;
+use pages_tests::cases::{TWO, today};
 use policy_core::Policy;
-use sqlite::{Alter, MemStore};
+use sqlite::MemStore;
 use std::alloc::Global;
 use std::test::Fail;
 use thread_core::PlainThreader;
@@ -46,19 +47,15 @@ const CASES: [Case; 14] = [
 
 /// The list `soc` with two messages, the second of a sender that is none.
 pub fn damaged(alloc: Global) -> Result<Store<MemStore>, Fail> {
-    let mut store = Store::open_in_memory(alloc)?;
-    store.list_add("soc")?;
-    import(&mut store, alloc, "soc", TWO)?;
-    let mut connection = store.into_connection();
-    connection.execute("UPDATE message SET sender = x'0a' WHERE pos = 2", &[])?;
-    match Store::adopt(connection) {
-        Ok(store) => Ok(store),
-        Err(_stop) => Err(Fail::from("a store")),
-    }
+    changed(
+        alloc,
+        TWO,
+        "UPDATE message SET sender = x'0a' WHERE pos = 2",
+    )
 }
 
 /// The status of a reply that went out whole.
-fn asked<S: Alter>(alloc: Global, store: &mut Store<S>, request: &[u8]) -> Result<u16, Fail> {
+fn asked<A: ArchiveStore>(alloc: Global, store: &mut A, request: &[u8]) -> Result<u16, Fail> {
     let mut input = Tap::new(alloc, request, 1000)?;
     let mut output = Tap::new(alloc, b"", 3000)?;
     let told = answer(

@@ -1,15 +1,16 @@
 //! Rows that another program changed: `check` names the first, months and authors are by what is filed, and a question that
 //! meets a row that cannot be read is E15.
-use crate::cases::{TWO, WITHDRAWN, by_nobody};
-use crate::listings::are_subjects;
 use archive_desk::{DeskError, ExportStop, author, export, import, month, threads};
+use archive_port::{ArchiveStore, CheckError, Key, StoreFault};
 use archive_results::{Ask, Line, TreeLine};
-use archive_store::{CheckError, Key, Store, StoreFault};
+use archive_store::Store;
 use civil_time::Month;
+use desk_tests::cases::{TWO, WITHDRAWN, by_nobody};
+use desk_tests::listings::are_subjects;
 use mbox_core::cut;
 use mbox_core::device::Tap;
 use policy_core::Policy;
-use sqlite::{Alter, Connection, MemStore};
+use sqlite::{Connection, MemStore};
 use std::alloc::Global;
 use std::process::Abort;
 use std::test::Fail;
@@ -170,7 +171,7 @@ fn adopted(connection: Connection<MemStore>) -> Result<Store<MemStore>, Fail> {
 }
 
 /// The list `soc` with these messages, once another program has carried this statement out.
-fn changed(alloc: Global, mbox: &[u8], statement: &str) -> Result<Store<MemStore>, Fail> {
+pub fn changed(alloc: Global, mbox: &[u8], statement: &str) -> Result<Store<MemStore>, Fail> {
     let mut store = Store::open_in_memory(alloc)?;
     store.list_add("soc")?;
     import(&mut store, alloc, "soc", mbox)?;
@@ -180,10 +181,10 @@ fn changed(alloc: Global, mbox: &[u8], statement: &str) -> Result<Store<MemStore
 }
 
 /// `check` names the message of this key in `soc`, or none.
-fn is_named<S: Alter>(
+fn is_named<A: ArchiveStore>(
     rt: &impl Abort,
     alloc: Global,
-    store: &mut Store<S>,
+    store: &mut A,
     wanted: Option<&[u8]>,
 ) -> Result<(), Fail> {
     match store.check(alloc) {
@@ -203,7 +204,7 @@ fn are_lines(
     wanted: Shown,
 ) -> Result<(), Fail> {
     match (found, wanted) {
-        (Ok(lines), Some(subjects)) => are_subjects(rt, &lines, subjects),
+        (Ok(lines), Some(subjects)) => are_subjects(&lines, subjects),
         (Err(fault), None) => {
             assert_eq!(rt; fault, UNREADABLE);
             Ok(())
@@ -234,10 +235,10 @@ fn are_rows(
     }
 }
 
-fn is_export<S: Alter>(
+fn is_export<A: ArchiveStore>(
     rt: &impl Abort,
     alloc: Global,
-    store: &mut Store<S>,
+    store: &mut A,
     ask: &Ask<'_>,
     wanted: Option<&[u8]>,
 ) -> Result<(), Fail> {
@@ -260,9 +261,9 @@ fn is_export<S: Alter>(
     Ok(())
 }
 
-fn month_of<S: Alter>(
+fn month_of<A: ArchiveStore>(
     alloc: Global,
-    store: &mut Store<S>,
+    store: &mut A,
     ask: &Ask<'_>,
     text: &str,
 ) -> Result<Result<Vec<Line>, DeskError>, Fail> {
@@ -271,10 +272,10 @@ fn month_of<S: Alter>(
 }
 
 /// Asks each question of a store whose second message was changed.
-fn ask_each<S: Alter>(
+fn ask_each<A: ArchiveStore>(
     rt: &impl Abort,
     alloc: Global,
-    store: &mut Store<S>,
+    store: &mut A,
     case: &Case,
 ) -> Result<(), Fail> {
     is_named(rt, alloc, store, case.named)?;
@@ -303,21 +304,29 @@ fn each_damage_to_a_row_shows_where_it_is_met(rt: HostRuntime) -> Result<(), Fai
 }
 
 /// The first message is named, and the months are one later.
-#[test]
-fn months_are_by_the_column(rt: HostRuntime) -> Result<(), Fail> {
-    let mut store = changed(rt.alloc(), TWO, "UPDATE message SET month = month + 1")?;
+fn are_a_month_later<A: ArchiveStore>(
+    rt: &impl Abort,
+    alloc: Global,
+    store: &mut A,
+) -> Result<(), Fail> {
     let first = Key::of(&cut(TWO)?.next().ok_or("a message")?);
-    is_named(&rt, rt.alloc(), &mut store, Some(first.as_str().as_bytes()))?;
+    is_named(rt, alloc, store, Some(first.as_str().as_bytes()))?;
     let policy = Policy::open();
     let ask = by_nobody(&policy)?;
     for (text, wanted) in [
         ("2003-03", [].as_slice()),
         ("2003-04", [b"Hello".as_slice(), b"Re: Hello"].as_slice()),
     ] {
-        let lines = month_of(rt.alloc(), &mut store, &ask, text)??;
-        are_subjects(&rt, &lines, wanted)?;
+        let lines = month_of(alloc, store, &ask, text)??;
+        are_subjects(&lines, wanted)?;
     }
     Ok(())
+}
+
+#[test]
+fn months_are_by_the_column(rt: HostRuntime) -> Result<(), Fail> {
+    let mut store = changed(rt.alloc(), TWO, "UPDATE message SET month = month + 1")?;
+    are_a_month_later(&rt, rt.alloc(), &mut store)
 }
 
 /// What is set in the row of the second message, which is withdrawn too, and the lines of its month and of its author: where the
@@ -334,22 +343,28 @@ const WITHHELD: [(&str, Shown, Shown); 5] = [
     ("arrival = 9223372036854775807", None, None),
 ];
 
+/// The lines of the month and of the author.
+fn are_withheld<A: ArchiveStore>(
+    rt: &impl Abort,
+    alloc: Global,
+    store: &mut A,
+    march: Shown,
+    by_bob: Shown,
+) -> Result<(), Fail> {
+    let policy = Policy::read(alloc, WITHDRAWN)?;
+    let ask = by_nobody(&policy)?;
+    are_lines(rt, month_of(alloc, store, &ask, "2003-03")?, march)?;
+    are_lines(rt, author(store, alloc, &ask, b"bob@example.org"), by_bob)
+}
+
 #[test]
 fn what_is_withheld_is_not_read(rt: HostRuntime) -> Result<(), Fail> {
-    let policy = Policy::read(rt.alloc(), WITHDRAWN)?;
-    let ask = by_nobody(&policy)?;
     for (set, march, by_bob) in WITHHELD {
         let statement = format!(in rt.alloc();
             "UPDATE message SET withdrawn = 2, {set} WHERE pos = 2"
         )?;
         let mut store = changed(rt.alloc(), THREE, statement.as_str())?;
-        are_lines(
-            &rt,
-            month_of(rt.alloc(), &mut store, &ask, "2003-03")?,
-            march,
-        )?;
-        let lines = author(&mut store, rt.alloc(), &ask, b"bob@example.org");
-        are_lines(&rt, lines, by_bob)?;
+        are_withheld(&rt, rt.alloc(), &mut store, march, by_bob)?;
     }
     Ok(())
 }

@@ -1,9 +1,10 @@
 //! Imports over disks that stop, and then again over what is left.
-use crate::files::{How, Outcome, import_into, new_files};
+use crate::disks::{hold_the_same, left, new_files, stopping};
+use crate::files::{How, Outcome, import_into};
 use archive_desk::Report;
 use mbox_core::device::Tap;
 use sqlite::Files;
-use sqlite_disk::{Disk, Fuse, Memory};
+use sqlite_disk::{Fuse, Memory};
 use std::alloc::Global;
 use std::process::Abort;
 use std::test::Fail;
@@ -26,42 +27,12 @@ fn numbered(alloc: Global) -> Result<Vec<u8>, Fail> {
     Ok(mbox)
 }
 
-/// A disk that holds the same bytes.
-fn copied(alloc: Global, disk: &Memory) -> Result<Memory, Fail> {
-    let mut copy = Memory::new(alloc);
-    if !disk.bytes().is_empty() {
-        copy.write_at(0, disk.bytes())?;
-    }
-    Ok(copy)
-}
-
 /// More calls than a disk gets here.
 const CALLS: u64 = 10_000;
-
-/// Files that hold the same bytes, of which the log and the database file stop after so many calls.
-fn fused(
-    alloc: Global,
-    files: &Files<Memory>,
-    log_calls: u64,
-    db_calls: u64,
-) -> Result<Files<Fuse<Memory>>, Fail> {
-    Ok(Files {
-        log: Fuse::new(copied(alloc, &files.log)?, log_calls),
-        db: Fuse::new(copied(alloc, &files.db)?, db_calls),
-    })
-}
 
 /// Takes nothing of an export.
 fn nothing(alloc: Global) -> Result<Tap, Fail> {
     Ok(Tap::new(alloc, b"", 0)?)
-}
-
-/// What disks that stopped hold.
-fn left(alloc: Global, files: &Files<Fuse<Memory>>) -> Result<Files<Memory>, Fail> {
-    Ok(Files {
-        log: copied(alloc, files.log.inner())?,
-        db: copied(alloc, files.db.inner())?,
-    })
 }
 
 /// How many messages an import said it had done, and whether these are all.
@@ -103,8 +74,8 @@ fn last_stop(alloc: Global, files: &Files<Memory>, mbox: &[u8], how: How) -> Res
     let (mut stops, mut lasts) = (0, 2048);
     for _turn in 0..11 {
         let calls = stops / 2 + lasts / 2;
-        let stopping = fused(alloc, files, calls, CALLS)?;
-        let (first, _files) = import_into(alloc, stopping, mbox, how, &mut nothing(alloc)?)?;
+        let fuses = stopping(alloc, files, calls, CALLS)?;
+        let (first, _files) = import_into(alloc, fuses, mbox, how, &mut nothing(alloc)?)?;
         if done(first).1 {
             lasts = calls;
         } else {
@@ -124,9 +95,15 @@ fn stops_late(
     how: How,
 ) -> Result<(), Fail> {
     let last = last_stop(alloc, files, mbox, how)?;
-    let (_said, is_whole) = again(rt, alloc, fused(alloc, files, last / 2, CALLS)?, mbox, how)?;
+    let (_said, is_whole) = again(
+        rt,
+        alloc,
+        stopping(alloc, files, last / 2, CALLS)?,
+        mbox,
+        how,
+    )?;
     assert!(rt; !is_whole, "{last}");
-    let late = again(rt, alloc, fused(alloc, files, last, CALLS)?, mbox, how)?;
+    let late = again(rt, alloc, stopping(alloc, files, last, CALLS)?, mbox, how)?;
     assert_eq!(rt; late, (AT_ONCE, false), "{last}");
     Ok(())
 }
@@ -183,12 +160,6 @@ fn count_of_three(alloc: Global, mbox: &[u8]) -> Result<u64, Fail> {
     Err(Fail::from("the first messages"))
 }
 
-/// Whether disks that stopped hold what these hold.
-fn hold_the_same(stopped: &Files<Fuse<Memory>>, files: &Files<Memory>) -> bool {
-    stopped.log.inner().bytes() == files.log.bytes()
-        && stopped.db.inner().bytes() == files.db.bytes()
-}
-
 /// How many of the three messages are in what is left, the first ones. The same import knows these, and the others are new.
 fn known_in(
     rt: &impl Abort,
@@ -226,10 +197,10 @@ fn stop_at_each_call(
         } else {
             (CALLS, calls)
         };
-        let stopping = fused(alloc, files, log, db)?;
+        let fuses = stopping(alloc, files, log, db)?;
         let (outcome, stopped) = import_into(
             alloc,
-            stopping,
+            fuses,
             &mbox,
             How::Whole,
             &mut nothing(alloc)?,
