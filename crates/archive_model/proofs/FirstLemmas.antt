@@ -1,19 +1,19 @@
 -- What a list holds of the items that are added to it.
 use Rattle.std.proofs.Common.{◌≡◌, ℕ, ◌+◌, zero, suc, Bool, true, false, ◌||◌, ◌&&◌, cond, List, [], ◌∷◌, ◌++◌, length, take, map, refl, ap, sym, ◌∙◌, subst, arith, Some, is_some, if◌then◌else◌}
-use Rattle.std.specs.Prelude.{not, filter, find, bytes_eq, nat_lt, nat_le}
+use Rattle.std.specs.Prelude.{not, filter, find, bytes_eq, nat_le}
 use Rattle.std.specs.List.{list_any}
 use Rattle.std.proofs.lemmas.Bool.Decides.{nat_tests}
 use Rattle.std.proofs.lemmas.List.{append-nil, map-append, length-append, append_assoc}
 use Rattle.std.proofs.lemmas.List.Elements.{filter-append}
 use Rattle.std.proofs.lemmas.Slice.Eq.{bytes_eq-Decides}
-use Rattle.mbox_items.specs.Division.{Item, whole}
+use Rattle.mbox_items.specs.Division.{Item}
 use Rattle.archive_model.specs.Records.{Message, Archive}
 use Rattle.archive_model.specs.Commands.{add}
 use Rattle.archive_model.specs.Keys.{item_key}
 use Rattle.archive_model.specs.Questions.{has_list, has_message, is_message_at_key, messages_in}
-use Rattle.archive_model.specs.Machine.{new_message, with_message, longest_text, message_limit, step}
+use Rattle.archive_model.specs.Machine.{new_message, with_message, is_too_large, message_limit, step}
 use Rattle.archive_model.specs.Runs.{run, taken}
-use Rattle.archive_model.specs.Firsts.{is_within_text_limit, is_among, first_of_each_new_key, accepted_items, keys_in}
+use Rattle.archive_model.specs.Firsts.{is_small_enough, is_among, first_of_each_new_key, accepted_items, keys_in}
 
 -- whether the list holds a key, by the archive's messages and by the list's
 held_key : (list key : List ℕ) (ms : List Message)
@@ -66,7 +66,7 @@ module _ (list : List ℕ) (item : Item) (items : List Item) (a : Archive) (room
       ap (λ (b : Archive). messages_in (taken b list items).archive list) same ∙ later a room there fits
       ∙ sym (ap (λ (xs : List Item). messages_in a list ++ map (new_message list) xs) drops)
 
-  at_place : nat_lt longest_text (length (whole item.text)) ≡ false → has_message a list (item_key item) ≡ false → (full : Bool) → nat_le message_limit (length (messages_in a list)) ≡ full
+  at_place : is_too_large item ≡ false → has_message a list (item_key item) ≡ false → (full : Bool) → nat_le message_limit (length (messages_in a list)) ≡ full
       → Holds a list room (item ∷ items)
   unfolding run
   at_place small new true full =
@@ -81,8 +81,8 @@ module _ (list : List ℕ) (item : Item) (items : List Item) (a : Archive) (room
       let keys : keys_in b list ≡ keys_in a list ++ item_key item ∷ [] = ap (map (λ (m : Message). m.key)) more ∙ map-append (λ (m : Message). m.key) (messages_in a list)
       (new_message list item ∷ []) in
       let unknown : is_among (keys_in a list) (item_key item) ≡ false = sym (held_key list (item_key item) a.messages) ∙ new in
-      let rest : List Item = first_of_each_new_key (keys_in a list ++ item_key item ∷ []) (filter is_within_text_limit items) in
-      let shown : first_of_each_new_key (keys_in a list) (filter is_within_text_limit (item ∷ items)) ≡ item ∷ rest = rw (small, unknown) refl in
+      let rest : List Item = first_of_each_new_key (keys_in a list ++ item_key item ∷ []) (filter is_small_enough items) in
+      let shown : first_of_each_new_key (keys_in a list) (filter is_small_enough (item ∷ items)) ≡ item ∷ rest = rw (small, unknown) refl in
       let last : accepted_items room (keys_in a list) (item ∷ items) ≡ item ∷ accepted_items some.0 (keys_in a list ++ item_key item ∷ []) items =
       ap (λ (xs : List Item). take room xs) shown ∙ ap (λ (r : ℕ). take r (item ∷ rest)) some.1 in
       ap (λ (x : Archive). messages_in (taken x list items).archive list) is ∙ later b some.0 there fits_b
@@ -91,13 +91,13 @@ module _ (list : List ℕ) (item : Item) (items : List Item) (a : Archive) (room
       ∙ append_assoc (messages_in a list) (new_message list item ∷ []) (map (new_message list) (accepted_items some.0 (keys_in a list ++ item_key item ∷ []) items))
       ∙ sym (ap (λ (xs : List Item). messages_in a list ++ map (new_message list) xs) last)
 
-  by_key : nat_lt longest_text (length (whole item.text)) ≡ false → (known : Bool) → has_message a list (item_key item) ≡ known → Holds a list room (item ∷ items)
+  by_key : is_too_large item ≡ false → (known : Bool) → has_message a list (item_key item) ≡ known → Holds a list room (item ∷ items)
   by_key small true known =
       let among : is_among (keys_in a list) (item_key item) ≡ true = sym (held_key list (item_key item) a.messages) ∙ known in
       stays (rw (there, small, known) refl) (rw (small, among) refl)
   by_key small false new = at_place small new (nat_le message_limit (length (messages_in a list))) refl
 
-  by_size : (is_large : Bool) → nat_lt longest_text (length (whole item.text)) ≡ is_large → Holds a list room (item ∷ items)
+  by_size : (is_large : Bool) → is_too_large item ≡ is_large → Holds a list room (item ∷ items)
   by_size true large = stays (rw (there, large) refl) (rw large refl)
   by_size false small = by_key small (has_message a list (item_key item)) refl
 
@@ -106,4 +106,4 @@ unfolding run
 holds list [] a room there fits =
     sym (ap (λ (xs : List Item). messages_in a list ++ map (new_message list) xs) (take_none room) ∙ append-nil (messages_in a list))
 holds list (item ∷ items) a room there fits =
-    by_size list item items a room there fits (λ b r t f. holds list items b r t f) (nat_lt longest_text (length (whole item.text))) refl
+    by_size list item items a room there fits (λ b r t f. holds list items b r t f) (is_too_large item) refl

@@ -7,7 +7,7 @@ use Rattle.archive_model.specs.Records.{Archive}
 use Rattle.archive_model.specs.Commands.{no_list, list_full, taken_in, already_known, refused}
 use Rattle.archive_model.specs.Filing.{item_index_columns}
 use Rattle.archive_model.specs.Keys.{key_of, item_key}
-use Rattle.archive_model.specs.Machine.{StepOutcome, new_message, add_within_limit}
+use Rattle.archive_model.specs.Machine.{StepOutcome, new_message, is_too_large, add_within_limit}
 
 of_nothing : key_of [] ≡ codes "e3b0c44298fc1c149afbf4c8996fb92427ae41e4649b934ca495991b7852b855"
 unfolding hex_on_literals sha256 digest_bytes hash_after compress rounds schedule first_words
@@ -45,16 +45,16 @@ abbrev added : Archive → List ℕ → List ℕ → StepOutcome
 added archive list text = add_within_limit 2 archive list (item (codes "c@d") text)
 
 a_second : (added with_one (codes "soc") (codes "two")).1 ≡ taken_in
-unfolding hex_on_literals sha256 digest_bytes hash_after compress rounds schedule first_words
+unfolding hex_on_literals sha256 digest_bytes hash_after compress rounds schedule first_words is_too_large
 a_second = refl
 
 a_third : (added (added with_one (codes "soc") (codes "two")).0 (codes "soc") (codes "three")).1 ≡ refused list_full
-unfolding hex_on_literals sha256 digest_bytes hash_after compress rounds schedule first_words
+unfolding hex_on_literals sha256 digest_bytes hash_after compress rounds schedule first_words is_too_large
 a_third = refl
 
 -- a message that comes again is known also where the list is full, and the first sender stays
 the_first_again : added (added with_one (codes "soc") (codes "two")).0 (codes "soc") (codes "one\n") ≡ ((added with_one (codes "soc") (codes "two")).0, already_known)
-unfolding hex_on_literals sha256 digest_bytes hash_after compress rounds schedule first_words
+unfolding hex_on_literals sha256 digest_bytes hash_after compress rounds schedule first_words is_too_large
 the_first_again = refl
 
 to_no_list : (added with_one (codes "xyz") (codes "two")).1 ≡ refused no_list

@@ -1,9 +1,12 @@
 -- Worked examples of commands. Day 12053 is 2003-01-01, and day 12143 is 2003-04-01.
-use Rattle.std.proofs.Common.{◌≡◌, ℕ, ℤ, pos, List, [], ◌∷◌, Some, None, true, false, refl, codes}
+use Rattle.std.proofs.Common.{◌≡◌, ◌<◌, ◌≤◌, ◌∙◌, ℕ, ℤ, pos, Bool, ◌||◌, nat_lt, List, [], ◌∷◌, length, Some, None, true, false, refl, ap, codes, lt-ltb, le-ltb}
+use Rattle.std.proofs.lemmas.Bool.{or_right}
+use Rattle.mbox_items.specs.Division.{Item, whole}
 use Rattle.archive_model.specs.Records.{Message, Archive}
-use Rattle.archive_model.specs.Commands.{Command, list_add, person_add, grant, revoke, withdraw, restore, embargo, lift, merge_set, address_set, bad_name, bad_text, list_exists}
-use Rattle.archive_model.specs.Commands.{no_list, person_exists, no_person, token_taken, no_message, already_withdrawn, not_withdrawn, bad_days, CommandReply, done, was_there, refused}
-use Rattle.archive_model.specs.Questions.{standing_of, person_of_token, merge_of, address_of, person_refusal}
+use Rattle.archive_model.specs.Commands.{Command, list_add, person_add, grant, revoke, add, withdraw, restore, embargo, lift, merge_set, address_set, bad_name, bad_text, list_exists}
+use Rattle.archive_model.specs.Commands.{no_list, person_exists, no_person, token_taken, no_message, already_withdrawn, not_withdrawn, bad_days, too_large, CommandReply, done, was_there, refused}
+use Rattle.archive_model.specs.Machine.{is_too_large, longest_sender, longest_text, step}
+use Rattle.archive_model.specs.Questions.{has_list, standing_of, person_of_token, merge_of, address_of, person_refusal}
 use Rattle.archive_model.specs.Runs.{run}
 
 abbrev empty : Archive
@@ -204,3 +207,33 @@ held_back_longer : (after with_messages (embargo (codes "soc") (codes "a") (pos 
     ≡ record (message (codes "a")) { embargo = Some (pos 12144) } ∷ message (codes "b") ∷ []
 unfolding run
 held_back_longer = refl
+
+-- ---- messages that are too large
+
+-- by a sender of more than 900,000,000 bytes, whatever the text is
+long_sender : (item : Item) → 900_000_000 < length item.envelope.sender → is_too_large item ≡ true
+unfolding is_too_large
+long_sender item long =
+    or_right (nat_lt longest_text (length (whole item.text))) (nat_lt longest_sender (length item.envelope.sender)) (lt-ltb longest_sender (length item.envelope.sender) long)
+
+-- such a message is refused, also one that the list holds; but the list is looked for first
+refused_for_its_sender : (a : Archive) (list : List ℕ) (item : Item) → has_list a list ≡ true → 900_000_000 < length item.envelope.sender → step a (add list item) ≡ (a, refused too_large)
+refused_for_its_sender a list item there long = rw (there, long_sender item long) refl
+
+no_list_for_it : (a : Archive) (list : List ℕ) (item : Item) → has_list a list ≡ false → 900_000_000 < length item.envelope.sender → step a (add list item) ≡ (a, refused no_list)
+no_list_for_it a list item none long = rw none refl
+
+-- with a sender of 900,000,000 bytes or fewer the text alone decides
+or_false : (b : Bool) → (b || false) ≡ b
+or_false true = refl
+or_false false = refl
+
+by_its_text_alone : (item : Item) → length item.envelope.sender ≤ 900_000_000 → is_too_large item ≡ nat_lt 16_777_216 (length (whole item.text))
+unfolding is_too_large
+by_its_text_alone item short =
+    let is_long = nat_lt longest_text (length (whole item.text)) in
+    ap (λ b. is_long || b) (le-ltb longest_sender (length item.envelope.sender) short) ∙ or_false is_long
+
+hello_is_small : is_too_large (record { envelope = record { sender = codes "anna@example.org"; arrival = pos 0 }; text = codes "hello" }) ≡ false
+unfolding is_too_large
+hello_is_small = refl

@@ -13,7 +13,7 @@ use Rattle.archive_model.specs.Keys.{item_key}
 use Rattle.archive_model.specs.Questions.{has_list, messages_in}
 use Rattle.archive_model.specs.Machine.{new_message}
 use Rattle.archive_model.specs.Runs.{run, taken}
-use Rattle.archive_model.specs.Firsts.{is_within_text_limit, is_among, first_of_each_new_key, accepted_items, keys_in}
+use Rattle.archive_model.specs.Firsts.{is_small_enough, is_among, first_of_each_new_key, accepted_items, keys_in}
 use Rattle.archive_model.proofs.RunLemmas.{archive_of_both}
 use Rattle.archive_model.proofs.FirstLemmas.{holds}
 
@@ -77,13 +77,13 @@ again : (keys : List (List ℕ)) (ps qs : List Item) → first_of_each_new_key k
 again keys ps qs =
     parts keys ps (ps ++ qs) ∙ ap (λ (xs : List Item). first_of_each_new_key keys ps ++ xs) (passed (behind keys ps) ps qs (are_among keys ps)) ∙ sym (parts keys ps qs)
 
-small_again : (keys : List (List ℕ)) (n : ℕ) (items : List Item) → first_of_each_new_key keys (filter is_within_text_limit (take n items ++ items)) ≡ first_of_each_new_key keys
-    (filter is_within_text_limit items)
+small_again : (keys : List (List ℕ)) (n : ℕ) (items : List Item) → first_of_each_new_key keys (filter is_small_enough (take n items ++ items)) ≡ first_of_each_new_key keys
+    (filter is_small_enough items)
 small_again keys n items =
-    let split : filter is_within_text_limit items ≡ filter is_within_text_limit (take n items) ++ filter is_within_text_limit (drop n items) =
-    ap (filter is_within_text_limit) (sym (take-append-drop n items)) ∙ filter-append is_within_text_limit (take n items) (drop n items) in
-    ap (first_of_each_new_key keys) (filter-append is_within_text_limit (take n items) items ∙ ap (λ (xs : List Item). filter is_within_text_limit (take n items) ++ xs) split)
-    ∙ again keys (filter is_within_text_limit (take n items)) (filter is_within_text_limit (drop n items)) ∙ ap (first_of_each_new_key keys) (sym split)
+    let split : filter is_small_enough items ≡ filter is_small_enough (take n items) ++ filter is_small_enough (drop n items) =
+    ap (filter is_small_enough) (sym (take-append-drop n items)) ∙ filter-append is_small_enough (take n items) (drop n items) in
+    ap (first_of_each_new_key keys) (filter-append is_small_enough (take n items) items ∙ ap (λ (xs : List Item). filter is_small_enough (take n items) ++ xs) split)
+    ∙ again keys (filter is_small_enough (take n items)) (filter is_small_enough (drop n items)) ∙ ap (first_of_each_new_key keys) (sym split)
 
 -- the first of some items, and then all of them
 pub repeats : (list : List ℕ) (items : List Item) (n : ℕ) (a : Archive) (room : ℕ) → has_list a list ≡ true → length (messages_in a list) + room ≡ 50000

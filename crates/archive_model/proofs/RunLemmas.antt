@@ -1,10 +1,10 @@
 -- What every change keeps, each command keeps, and so do commands one after the other.
 use Rattle.std.proofs.Common.{◌≡◌, ℕ, ℤ, Bool, true, false, refl, ap, List, [], ◌∷◌, ◌++◌, length, pos, Option, Some, None, if◌then◌else◌}
-use Rattle.std.specs.Prelude.{not, map, filter, int_lt, nat_lt, nat_le}
+use Rattle.std.specs.Prelude.{not, map, filter, int_lt, nat_le}
 use Rattle.std.specs.List.{All}
 use Rattle.std.proofs.lemmas.List.Elements.{All-head, All-tail}
 use Rattle.policy_core.specs.Names.{is_name}
-use Rattle.mbox_items.specs.Division.{Item, whole}
+use Rattle.mbox_items.specs.Division.{Item}
 use Rattle.archive_model.specs.Records.{Person, Grant, Archive}
 use Rattle.archive_model.specs.Commands.{Command, list_add, person_add, grant, revoke, add, withdraw, restore, embargo, lift, merge_set, address_set, CommandReply}
 use Rattle.archive_model.specs.Keys.{item_key}
@@ -12,7 +12,7 @@ use Rattle.archive_model.specs.BearerTokens.{is_token}
 use Rattle.archive_model.specs.Addresses.{is_address, normalize_address}
 use Rattle.archive_model.specs.Questions.{has_list, has_person, has_token, is_grant_of_rank, has_message, message_of, messages_in, is_withdrawn}
 use Rattle.archive_model.specs.Machine.{StepOutcome, default_list_option, with_merge_setting, addresses_with, grants_with, with_message}
-use Rattle.archive_model.specs.Machine.{longest_text, message_limit, with_changed_message, with_withdrawal, with_embargo, step}
+use Rattle.archive_model.specs.Machine.{is_too_large, message_limit, with_changed_message, with_withdrawal, with_embargo, step}
 use Rattle.archive_model.specs.Runs.{run}
 
 -- each command keeps P, where Q holds of the command
@@ -77,7 +77,7 @@ module _ (P : Archive → Type 0) (Q : Command → Type 0) (kept : EachCommandKe
   step_keeps a (revoke person list rank) q p =
       unless a p (not (has_person a person)) _ _ (λ _. unless a p (not (has_list a list)) _ _ (λ _. kept.revokes a person list rank q p))
   step_keeps a (add list item) q p =
-      unless a p (not (has_list a list)) _ _ (λ _. unless a p (nat_lt longest_text (length (whole item.text))) _ _ (λ _.
+      unless a p (not (has_list a list)) _ _ (λ _. unless a p (is_too_large item) _ _ (λ _.
       unless a p (has_message a list (item_key item)) _ _ (λ new.
       unless a p (nat_le message_limit (length (messages_in a list))) _ _ (λ _. kept.messages a list item q new p))))
   step_keeps a (withdraw list key party) q p =

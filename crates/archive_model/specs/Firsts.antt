@@ -1,15 +1,15 @@
 -- What a list holds of the items that are added to it, in whatever files and however often they come.
-use Rattle.std.specs.Prelude.{ℕ, Bool, List, [], ◌∷◌, ◌++◌, length, nat_lt, not, take, map, filter, bytes_eq, if◌then◌else◌}
+use Rattle.std.specs.Prelude.{ℕ, Bool, List, [], ◌∷◌, ◌++◌, not, take, map, filter, bytes_eq, if◌then◌else◌}
 use Rattle.std.specs.List.{list_any}
-use Rattle.mbox_items.specs.Division.{Item, whole}
+use Rattle.mbox_items.specs.Division.{Item}
 use Rattle.archive_model.specs.Records.{Archive}
 use Rattle.archive_model.specs.Keys.{item_key}
 use Rattle.archive_model.specs.Questions.{messages_in}
-use Rattle.archive_model.specs.Machine.{longest_text}
+use Rattle.archive_model.specs.Machine.{is_too_large}
 
--- a whole text that is not longer than the longest
-abbrev pub is_within_text_limit : Item → Bool
-is_within_text_limit item = not (nat_lt longest_text (length (whole item.text)))
+-- neither its whole text nor its sender is too long
+abbrev pub is_small_enough : Item → Bool
+is_small_enough item = not (is_too_large item)
 
 abbrev pub is_among : List (List ℕ) → List ℕ → Bool
 is_among keys key = list_any (λ k. bytes_eq k key) keys
@@ -21,7 +21,7 @@ first_of_each_new_key keys (item ∷ items) = if is_among keys (item_key item) t
 
 -- of those that are small enough the first of each new key, up to so many
 abbrev pub accepted_items : (room : ℕ) → (keys : List (List ℕ)) → List Item → List Item
-accepted_items room keys items = take room (first_of_each_new_key keys (filter is_within_text_limit items))
+accepted_items room keys items = take room (first_of_each_new_key keys (filter is_small_enough items))
 
 -- the keys that a list holds
 abbrev pub keys_in : Archive → List ℕ → List (List ℕ)

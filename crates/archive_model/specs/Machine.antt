@@ -1,6 +1,6 @@
 -- What each command does to the archive, and what it answers. Of several refusals the first counts, in the order of the
 -- cases; a refusal leaves the archive as it was.
-use Rattle.std.specs.Prelude.{ℕ, ℤ, pos, Bool, true, false, int_lt, nat_lt, nat_le, List, [], ◌∷◌, ◌++◌, length, map, filter, not, if◌then◌else◌, Option, Some, None}
+use Rattle.std.specs.Prelude.{ℕ, ℤ, pos, Bool, true, false, ◌||◌, int_lt, nat_lt, nat_le, List, [], ◌∷◌, ◌++◌, length, map, filter, not, if◌then◌else◌, Option, Some, None}
 use Rattle.policy_core.specs.Names.{is_name}
 use Rattle.mbox_items.specs.Division.{Item, whole}
 use Rattle.archive_model.specs.Records.{Grant, Message, ListOption, Address, Archive}
@@ -85,12 +85,21 @@ with_message archive list item = with_message_under_key archive list (item_key i
 abbrev pub longest_text : ℕ
 longest_text = 16_777_216
 
--- A whole text that is longer is refused. A message whose key the list holds is known, and nothing changes.
+-- Profile: bytes of the longest sender that is taken in. A row of SQL has a billion bytes at most, and beside the sender it holds the whole
+-- text and its author key, which have 16 MiB each at most.
+abbrev pub longest_sender : ℕ
+longest_sender = 900_000_000
+
+-- A message is too large if its whole text has more bytes than `longest_text`, or its sender, as it is written, more than `longest_sender`.
+unfoldable pub is_too_large : Item → Bool
+is_too_large item = nat_lt longest_text (length (whole item.text)) || nat_lt longest_sender (length item.envelope.sender)
+
+-- A message that is too large is refused. A message whose key the list holds is known, and nothing changes.
 -- A list that holds as many messages as the limit takes no more.
 abbrev pub add_within_limit : ℕ → Archive → List ℕ → Item → StepOutcome
 add_within_limit limit archive list item =
     if not (has_list archive list) then refuse archive no_list
-    else if nat_lt longest_text (length (whole item.text)) then refuse archive too_large
+    else if is_too_large item then refuse archive too_large
     else if has_message archive list (item_key item) then (archive, already_known)
     else if nat_le limit (length (messages_in archive list)) then refuse archive list_full
     else (with_message archive list item, taken_in)
@@ -174,8 +183,8 @@ refuse_if so why = (so, refused why)
 
 -- What is answered at once, by the first test that is so: why a command is refused, or that a message is known.
 -- Profile: a list's name is taken once, and no two persons share a name or a bearer token (RFC 6750). A grant holds from its first day to
--- its last, both within, counted from 1970-01-01. The first withdrawal of a message stands, and a second is refused. A whole text that is
--- longer is refused, then a message whose key the list holds is known, and a list that holds as many messages as the limit takes no more.
+-- its last, both within, counted from 1970-01-01. The first withdrawal of a message stands, and a second is refused. A message that is
+-- too large is refused, then one whose key the list holds is known, and a list that holds as many messages as the limit takes no more.
 abbrev pub guarded_replies_of : Command → CommandFacts → List GuardedReply
 guarded_replies_of (list_add name) it = refuse_if (not (is_name name)) bad_name ∷ refuse_if it.list list_exists ∷ []
 guarded_replies_of (merge_set list merge) it = refuse_if (not it.list) no_list ∷ []
@@ -185,7 +194,7 @@ guarded_replies_of (address_set person address) it = refuse_if (not it.person) n
 guarded_replies_of (grant person list rank from until) it = refuse_if (not it.person) no_person ∷ refuse_if (not it.list) no_list ∷ refuse_if (int_lt until from) bad_days ∷ []
 guarded_replies_of (revoke person list rank) it = refuse_if (not it.person) no_person ∷ refuse_if (not it.list) no_list ∷ []
 guarded_replies_of (add list item) it =
-    refuse_if (not it.list) no_list ∷ refuse_if (nat_lt longest_text (length (whole item.text))) too_large ∷ (it.message, already_known) ∷ refuse_if it.full list_full ∷ []
+    refuse_if (not it.list) no_list ∷ refuse_if (is_too_large item) too_large ∷ (it.message, already_known) ∷ refuse_if it.full list_full ∷ []
 guarded_replies_of (withdraw list key party) it = refuse_if (not it.list) no_list ∷ refuse_if (not it.message) no_message ∷ refuse_if it.withdrawn already_withdrawn ∷ []
 guarded_replies_of (restore list key) it = refuse_if (not it.list) no_list ∷ refuse_if (not it.message) no_message ∷ refuse_if (not it.withdrawn) not_withdrawn ∷ []
 guarded_replies_of (embargo list key until) it = refuse_if (not it.list) no_list ∷ refuse_if (not it.message) no_message ∷ []
