@@ -1,7 +1,8 @@
 //! A message that is taken in.
 ghost use Rattle.std.specs.Prelude.{◌≡◌, ◌<◌, false, nat_lt, nat_le, length, IfOk, MatchOption};
 ghost use Rattle.mbox_items.specs.Division.{whole};
-ghost use Rattle.archive_model.specs.Machine.{longest_text};
+ghost use Rattle.mbox_items.specs.Senders.{sender_text};
+ghost use Rattle.archive_model.specs.Machine.{is_too_large, longest_sender, longest_text};
 ghost use Rattle.archive_model.specs.Questions.{messages_in};
 ghost use Rattle.archive_tables.specs.Calls.{AnswersFromDatabase, EndsConnectionCall};
 ghost use Rattle.archive_database.specs.Taking.{InsertsMessage, FailsToInsertMessage, ExecutesMessageInsert, CrashLeavesWholeMessage};
@@ -10,21 +11,42 @@ use crate::faults::DatabaseError;
 use crate::filing::file;
 use archive_model::Key;
 use archive_tables::texts;
-use mbox_items::{Item, written_sender};
+use mbox_items::{Item, Sender, written_sender};
 use sqlite::{Alter, Connection, Error};
 use std::alloc::{AllocError, Global};
 
 /// Bytes of the longest whole text that is taken in.
-const LONGEST: usize = 16_777_216;
+const LONGEST_TEXT: usize = 16_777_216;
 
-/// Whether the whole text of a message is too long to be taken in.
+/// Bytes of the longest sender that is taken in.
+const LONGEST_SENDER: usize = 900_000_000;
+
+/// Whether a message is too large to be taken in: its whole text is too long, or its sender.
+#[tactic(auto, unfolding(archive_model::specs::Machine::is_too_large))]
 pub fn is_too_large(item: &Item<'_>) -> bool
+    ensures { result ≡ is_too_large item.now }
+{
+    has_long_text(item) || is_long_sender(item.envelope.sender)
+}
+
+/// Whether the whole text of a message is too long.
+fn has_long_text(item: &Item<'_>) -> bool
     ensures { result ≡ nat_lt longest_text (length (whole item.now.text)) }
 {
     if item.complete {
-        item.text.len() > LONGEST
+        item.text.len() > LONGEST_TEXT
     } else {
-        item.text.len() >= LONGEST
+        item.text.len() >= LONGEST_TEXT
+    }
+}
+
+/// Whether a sender is too long, as it is written: two tokens have ` at ` between them.
+fn is_long_sender(sender: Sender<'_>) -> bool
+    ensures { result ≡ nat_lt longest_sender (length (sender_text sender.entry)) }
+{
+    match sender {
+        Sender::One(token) => token.len() > LONGEST_SENDER,
+        Sender::At(left, right) => left.len().saturating_add(4 + right.len()) > LONGEST_SENDER,
     }
 }
 

@@ -1,6 +1,6 @@
 -- Commands keep an archive that can be read.
 use Rattle.std.proofs.Common.{◌≡◌, ℕ, ℤ, zero, suc, Bool, true, false, ◌&&◌, ◌<◌, refl, subst, List, [], ◌∷◌, ◌++◌, length, pos, Option, Some, None, arith, if◌then◌else◌}
-use Rattle.std.specs.Prelude.{not, map, int_lt, nat_lt, nat_le, slice_index, IfSome, IsUtf8}
+use Rattle.std.specs.Prelude.{not, map, int_lt, nat_le, slice_index, IfSome, IsUtf8}
 use Rattle.std.specs.Int.{to_be_bytes, w32}
 use Rattle.std.specs.List.{All, list_all}
 use Rattle.std.specs.Str.{IsAscii}
@@ -29,7 +29,7 @@ use Rattle.archive_model.specs.Addresses.{is_address_byte, is_address, normalize
 use Rattle.archive_model.specs.Questions.{has_list, has_person, has_token, is_grant_of_rank, has_grant, is_address_of}
 use Rattle.archive_model.specs.Questions.{has_address, has_message, is_message_at_key, message_of, messages_in, is_withdrawn}
 use Rattle.archive_model.specs.Machine.{StepOutcome, with_replaced_address, addresses_with, with_grant_days_of, grants_with, new_message}
-use Rattle.archive_model.specs.Machine.{longest_text, message_limit, change_at_key, with_changed_message, with_withdrawal, with_embargo, step}
+use Rattle.archive_model.specs.Machine.{is_too_large, message_limit, change_at_key, with_changed_message, with_withdrawal, with_embargo, step}
 use Rattle.archive_model.specs.Runs.{run, taken}
 use Rattle.archive_model.proofs.KeyLemmas.{is_key-encode_lower}
 use Rattle.archive_port.specs.Messages.{IsReadable}
@@ -249,7 +249,7 @@ module _ (items : WholeItems) where
       unless a can (not (has_person a person)) _ _ (λ _. unless a can (not (has_list a list)) _ _ (λ _.
       with_grants a _ can (All-filter (λ g. not (is_grant_of_rank person list rank g)) HasStandingRank a.grants can.grants)))
   kept_by_steps a (add list item) said can =
-      unless a can (not (has_list a list)) _ _ (λ _. unless a can (nat_lt longest_text (length (whole item.text))) _ _ (λ _.
+      unless a can (not (has_list a list)) _ _ (λ _. unless a can (is_too_large item) _ _ (λ _.
       unless a can (has_message a list (item_key item)) _ _ (λ _.
       unless a can (nat_le message_limit (length (messages_in a list))) _ _ (λ _.
       with_messages a _ _ can (All-push IsReadable a.messages (new_message list item) can.messages (new_is_readable items list item said))))))

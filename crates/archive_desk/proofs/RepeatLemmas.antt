@@ -1,19 +1,18 @@
 -- Messages that are added again: the first so many, and then all, make the same archive as all.
 use Rattle.std.proofs.Common.{◌≡◌, ◌⊎◌, inl, inr, refl, ap, sym, subst, ◌∙◌, arith, ℕ, ◌+◌, Bool, true, false, ◌||◌, cond, List}
 use Rattle.std.proofs.Common.{[], ◌∷◌, ◌++◌, length, take, drop, map, filter, Some, is_some, length-append}
-use Rattle.std.specs.Prelude.{⊤, not, if◌then◌else◌, bytes_eq, find, nat_lt, nat_le}
+use Rattle.std.specs.Prelude.{⊤, not, if◌then◌else◌, bytes_eq, find, nat_le}
 use Rattle.std.proofs.lemmas.Bool.Decides.{nat_tests}
 use Rattle.std.proofs.lemmas.List.{map-append, take-append-drop}
 use Rattle.std.proofs.lemmas.List.Elements.{filter-append}
 use Rattle.std.proofs.lemmas.Slice.Eq.{bytes_eq-Decides}
 use Rattle.mbox_core.specs.Division.{Item}
-use Rattle.mbox_items.specs.Division.{whole}
 use Rattle.mbox_core.proofs.DivisionLaws.{each_text_has_at_most_one_division}
 use Rattle.archive_model.specs.Records.{Archive, Message}
 use Rattle.archive_model.specs.Commands.{add, refused, no_list, too_large, already_known, list_full, taken_in}
 use Rattle.archive_model.specs.Keys.{item_key}
 use Rattle.archive_model.specs.Questions.{has_list, has_message, is_message_at_key, messages_in}
-use Rattle.archive_model.specs.Machine.{StepOutcome, keyed_message, longest_text, message_limit, step, with_message}
+use Rattle.archive_model.specs.Machine.{StepOutcome, keyed_message, is_too_large, message_limit, step, with_message}
 use Rattle.archive_model.specs.Runs.{run, taken}
 use Rattle.archive_model.proofs.RunLemmas.{archive_of_both}
 use Rattle.archive_port.specs.Adding.{HasAddedAtLeast}
@@ -99,17 +98,17 @@ module _ (list : List ℕ) where
   -- adding this message changes nothing
   abbrev is_seen : Archive → Item → Bool
   is_seen a item =
-      unless_new (has_list a list) (nat_lt longest_text (length (whole item.text))) (has_message a list (item_key item)) (nat_le message_limit (length (messages_in a list)))
+      unless_new (has_list a list) (is_too_large item) (has_message a list (item_key item)) (nat_le message_limit (length (messages_in a list)))
 
   abbrev after : Archive → Item → Archive
   after a item = (step a (add list item)).0
 
   seen_stays : (a : Archive) (item : Item) → is_seen a item ≡ true → after a item ≡ a
-  seen_stays a item seen = stays_by a (with_message a list item) (has_list a list) (nat_lt longest_text (length (whole item.text))) (has_message a list (item_key item))
+  seen_stays a item seen = stays_by a (with_message a list item) (has_list a list) (is_too_large item) (has_message a list (item_key item))
       (nat_le message_limit (length (messages_in a list))) seen
 
   either : (a : Archive) (item : Item) → (after a item ≡ a) × (is_seen a item ≡ true) ⊎ (after a item ≡ with_message a list item)
-  either a item = either_by a (with_message a list item) (has_list a list) (nat_lt longest_text (length (whole item.text))) (has_message a list (item_key item))
+  either a item = either_by a (with_message a list item) (has_list a list) (is_too_large item) (has_message a list (item_key item))
       (nat_le message_limit (length (messages_in a list)))
 
   -- behind the message itself
@@ -119,9 +118,9 @@ module _ (list : List ℕ) where
     | inr is ↦
         (let b = with_message a list item in
         let known : has_message b list (item_key item) ≡ true = found_last (is_message_at_key list (item_key item)) a.messages (keyed_message list (item_key item) item) (is_itself list item) in
-        let seen : is_seen b item ≡ true = subst (λ k. unless_new (has_list b list) (nat_lt longest_text (length (whole item.text))) k
+        let seen : is_seen b item ≡ true = subst (λ k. unless_new (has_list b list) (is_too_large item) k
         (nat_le message_limit (length (messages_in b list))) ≡ true) (sym known)
-        (known_by (has_list b list) (nat_lt longest_text (length (whole item.text))) (nat_le message_limit (length (messages_in b list)))) in
+        (known_by (has_list b list) (is_too_large item) (nat_le message_limit (length (messages_in b list)))) in
         subst (λ x. is_seen x item ≡ true) (sym is) seen)
   ]
 
@@ -132,7 +131,7 @@ module _ (list : List ℕ) where
       let held : Message → Bool = λ (x : Message). bytes_eq x.list list in
       let longer : length (messages_in (with_message a list other) list) ≡ length (messages_in a list) + length (filter held (m ∷ [])) =
       ap length (filter-append held a.messages (m ∷ [])) ∙ length-append (messages_in a list) (filter held (m ∷ [])) in
-      more_by (has_list a list) (nat_lt longest_text (length (whole item.text))) (has_message a list (item_key item)) (nat_le message_limit (length (messages_in a list)))
+      more_by (has_list a list) (is_too_large item) (has_message a list (item_key item)) (nat_le message_limit (length (messages_in a list)))
       (has_message (with_message a list other) list (item_key item)) (nat_le message_limit (length (messages_in (with_message a list other) list)))
       (found_more (is_message_at_key list (item_key item)) a.messages (m ∷ []))
       (λ full. subst (λ n. nat_le message_limit n ≡ true) (sym longer) (full_still (length (messages_in a list)) (length (filter held (m ∷ []))) full)) seen

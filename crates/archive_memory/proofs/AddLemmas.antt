@@ -1,13 +1,13 @@
 -- Messages added to one list, one after the other.
 use Rattle.std.proofs.Common.{◌≡◌, ◌+◌, ◌<◌, ◌≤◌, ℕ, Bool, true, false, List, [], ◌∷◌, ◌++◌, length, get_or, take, map, filter, refl, ap, sym, subst, ◌∙◌, arith, inl, inr, Option, Some, None}
-use Rattle.std.specs.Prelude.{⊤, MatchOption, nat_le, nat_lt}
+use Rattle.std.specs.Prelude.{⊤, MatchOption, nat_le}
 use Rattle.std.proofs.lemmas.Bool.{cases_Bool}
 use Rattle.std.proofs.lemmas.Bool.Decides.{nat_tests}
 use Rattle.std.proofs.lemmas.List.{map_more}
-use Rattle.mbox_items.specs.Division.{Item, whole}
+use Rattle.mbox_items.specs.Division.{Item}
 use Rattle.archive_model.specs.Commands.{Command, Refusal, add, already_known, list_full, refused, taken_in, too_large}
 use Rattle.archive_model.specs.Keys.{item_key}
-use Rattle.archive_model.specs.Machine.{longest_text, message_limit, step, with_message}
+use Rattle.archive_model.specs.Machine.{is_too_large, message_limit, step, with_message}
 use Rattle.archive_model.specs.Questions.{has_list, has_message, messages_in}
 use Rattle.archive_model.specs.Records.{Archive}
 use Rattle.archive_model.specs.Runs.{Tally, is_added_reply, is_known_reply, is_too_large_reply, run, taken, tally_replies}
@@ -18,10 +18,10 @@ use Rattle.archive_memory.specs.Adding.{IsRefusedFull, ReportsOne}
 -- ---- one message
 
 module _ (a : Archive) (list : List ℕ) (item : Item) (there : has_list a list ≡ true) where
-  pub large_step : true ≡ nat_lt longest_text (length (whole item.text)) → step a (add list item) ≡ (a, refused too_large)
+  pub large_step : true ≡ is_too_large item → step a (add list item) ≡ (a, refused too_large)
   large_step large = rw (there, sym large) refl
 
-  module _ (small : false ≡ nat_lt longest_text (length (whole item.text))) where
+  module _ (small : false ≡ is_too_large item) where
     pub known_step : true ≡ has_message a list (item_key item) → step a (add list item) ≡ (a, already_known)
     known_step known = rw (there, sym small, sym known) refl
 

@@ -7,7 +7,9 @@ use crate::counting::RefusalCounter;
 use crate::entries::{AddressEntry, GrantEntry, ListEntry, MessageEntry, PersonEntry};
 use std::alloc::Global;
 
-/// An archive in memory: an `ArchiveStore` that writes no file. The archive ends when it is dropped.
+/// An archive in memory: an `ArchiveStore` that writes no file. The archive ends when it is dropped. Questions and commands look
+/// through what is held, entry by entry. E15 comes only from a walk over another archive. `check` answers Ok without looking,
+/// because at rest nothing can be damaged.
 #[derive(Drop)]
 pub struct MemoryArchive {
     pub(crate) alloc: Global,

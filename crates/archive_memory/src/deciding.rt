@@ -3,9 +3,10 @@
 ghost use Rattle.std.specs.Prelude.{◌≡◌, Some, option_map, length, nat_lt};
 ghost use Rattle.std.specs.List.{find};
 ghost use Rattle.mbox_items.specs.Division.{whole};
+ghost use Rattle.mbox_items.specs.Senders.{sender_text};
 ghost use Rattle.archive_model.specs.Addresses.{is_address};
 ghost use Rattle.archive_model.specs.BearerTokens.{is_token};
-ghost use Rattle.archive_model.specs.Machine.{guarded_replies_of, longest_text};
+ghost use Rattle.archive_model.specs.Machine.{guarded_replies_of, is_too_large, longest_sender, longest_text};
 ghost use Rattle.archive_port.specs.Commands.{spec_command};
 ghost use Rattle.archive_memory.specs.Deciding.{first_passing_reply, reply_without_change};
 
@@ -16,11 +17,14 @@ use archive_port::StoreFault::{
     self, AlreadyWithdrawn, BadDays, BadName, BadText, ListExists, ListFull, NoList, NoMessage,
     NoPerson, NotWithdrawn, PersonExists, TokenTaken, TooLarge,
 };
-use mbox_items::Item;
+use mbox_items::{Item, Sender};
 use policy_core::is_name;
 
 /// Bytes of the longest whole text that is taken in.
 const LONGEST_TEXT: usize = 16_777_216;
+
+/// Bytes of the longest sender that is taken in.
+const LONGEST_SENDER: usize = 900_000_000;
 
 /// What answers a command that changes nothing.
 #[derive(Clone, Copy)]
@@ -83,14 +87,32 @@ pub(crate) fn settle(command: &Command<'_>, found: &CommandFacts) -> Option<Sett
     }
 }
 
-/// Whether the whole text of a message is too long to be taken in.
+/// Whether a message is too large to be taken in: its whole text is too long, or its sender.
+#[tactic(auto, unfolding(archive_model::specs::Machine::is_too_large))]
 pub(crate) fn is_too_large(item: &Item<'_>) -> bool
+    ensures { result ≡ is_too_large item.now }
+{
+    has_long_text(item) || is_long_sender(item.envelope.sender)
+}
+
+/// Whether the whole text of a message is too long.
+fn has_long_text(item: &Item<'_>) -> bool
     ensures { result ≡ nat_lt longest_text (length (whole item.now.text)) }
 {
     if item.complete {
         item.text.len() > LONGEST_TEXT
     } else {
         item.text.len() >= LONGEST_TEXT
+    }
+}
+
+/// Whether a sender is too long, as it is written: two tokens have ` at ` between them.
+fn is_long_sender(sender: Sender<'_>) -> bool
+    ensures { result ≡ nat_lt longest_sender (length (sender_text sender.entry)) }
+{
+    match sender {
+        Sender::One(token) => token.len() > LONGEST_SENDER,
+        Sender::At(left, right) => left.len().saturating_add(4 + right.len()) > LONGEST_SENDER,
     }
 }
 

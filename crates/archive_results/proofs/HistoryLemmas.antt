@@ -1,5 +1,5 @@
 -- An archive without a message is the archive of all commands but those of that message.
-use Rattle.std.proofs.Common.{◌≡◌, ◌≢◌, ◌≤◌, ◌∙◌, ℕ, ℤ, pos, Bool, true, false, not, ◌&&◌, cond, nat_lt, nat_le, List, [], ◌∷◌, ◌++◌}
+use Rattle.std.proofs.Common.{◌≡◌, ◌≢◌, ◌≤◌, ◌∙◌, ℕ, ℤ, pos, Bool, true, false, not, ◌&&◌, cond, nat_le, List, [], ◌∷◌, ◌++◌}
 use Rattle.std.proofs.Common.{length, map, filter, Option, Some, None, is_some, refl, sym, ap, ap₂, if◌then◌else◌, arith}
 use Rattle.std.specs.Prelude.{⊤, bytes_eq, find, int_lt, zip}
 use Rattle.std.specs.List.{All}
@@ -8,7 +8,7 @@ use Rattle.std.proofs.lemmas.Bool.Decides.{nat_tests}
 use Rattle.std.proofs.lemmas.List.{append-nil, length-append, length-map}
 use Rattle.std.proofs.lemmas.List.Elements.{All-head, All-tail, filter-append}
 use Rattle.std.proofs.lemmas.Slice.Eq.{bytes_eq-Decides}
-use Rattle.mbox_items.specs.Division.{Item, whole}
+use Rattle.mbox_items.specs.Division.{Item}
 use Rattle.policy_core.specs.Names.{is_name}
 use Rattle.archive_model.specs.Records.{Message, IndexColumns, Archive}
 use Rattle.archive_model.specs.Commands.{Command, list_add, person_add, grant, revoke, add, withdraw, restore, embargo, lift, merge_set, address_set, no_list, no_message}
@@ -16,7 +16,7 @@ use Rattle.archive_model.specs.Commands.{already_withdrawn, not_withdrawn, list_
 use Rattle.archive_model.specs.Addresses.{is_address}
 use Rattle.archive_model.specs.Filing.{IndexedMessage, item_index_columns}
 use Rattle.archive_model.specs.Keys.{item_key}
-use Rattle.archive_model.specs.Machine.{StepOutcome, refuse, step, change_at_key, with_changed_message, with_withdrawal, with_embargo, new_message, with_message, longest_text, message_limit}
+use Rattle.archive_model.specs.Machine.{StepOutcome, refuse, step, change_at_key, with_changed_message, with_withdrawal, with_embargo, new_message, with_message, is_too_large, message_limit}
 use Rattle.archive_model.specs.Questions.{has_list, has_person, has_token, has_message, message_of, messages_in, is_message_at_key, is_withdrawn, has_embargo}
 use Rattle.archive_model.specs.Runs.{run}
 use Rattle.archive_model.specs.BearerTokens.{is_token}
@@ -186,7 +186,7 @@ module _ (list key : List ℕ) where
   add_other : (a : Archive) (l : List ℕ) (item : Item) → HasFilings a → (bytes_eq l list && bytes_eq (item_key item) key) ≡ false
       → (step a (add l item)).1 ≢ refused list_full → never (step a (add l item)).0 ≡ (step (never a) (add l item)).0
   add_other a l item same apart =
-      by_tests (not (has_list a l)) (nat_lt longest_text (length (whole item.text))) (has_message a l (item_key item)) (has_message (never a) l (item_key item))
+      by_tests (not (has_list a l)) (is_too_large item) (has_message a l (item_key item)) (has_message (never a) l (item_key item))
       (ap is_some (found_beside l (item_key item) apart a.messages))
       (nat_le message_limit (length (messages_in a l))) (nat_le message_limit (length (messages_in (never a) l)))
       (few (length (messages_in a l)) (length (messages_in (never a) l)) (fewer (λ m. bytes_eq m.list l) a.messages))
@@ -208,7 +208,7 @@ module _ (list key : List ℕ) where
 
   add_it : (a : Archive) (l : List ℕ) (item : Item) → HasFilings a → (bytes_eq l list && bytes_eq (item_key item) key) ≡ true → never (step a (add l item)).0 ≡ never a
   add_it a l item same it =
-      unless a (not (has_list a l)) _ _ (unless a (nat_lt longest_text (length (whole item.text))) _ _ (unless a (has_message a l (item_key item)) _ _
+      unless a (not (has_list a l)) _ _ (unless a (is_too_large item) _ _ (unless a (has_message a l (item_key item)) _ _
       (unless a (nat_le message_limit (length (messages_in a l))) _ _
       (new_beside a l item true it same
       ∙ ap₂ (λ (ms : List Message) (fs : List IndexColumns). record a { messages = ms; index_columns = fs }) (append-nil (gone a.messages)) (append-nil (left a.messages a.index_columns))))))

@@ -1,12 +1,12 @@
 -- What is withheld leaves no trace in a view, and so neither does what is withdrawn, for those to whom the policy denies it.
-use Rattle.std.proofs.Common.{◌≡◌, ◌≢◌, ◌∙◌, ℕ, ℤ, pos, Bool, true, false, not, cond, nat_lt, nat_le, List, [], ◌∷◌, ◌++◌, length}
+use Rattle.std.proofs.Common.{◌≡◌, ◌≢◌, ◌∙◌, ℕ, ℤ, pos, Bool, true, false, not, cond, nat_le, List, [], ◌∷◌, ◌++◌, length}
 use Rattle.std.proofs.Common.{map, filter, Some, is_some, refl, sym, ap, ap₂, subst, if◌then◌else◌, arith}
 use Rattle.std.specs.Prelude.{bytes_eq, find, slice_index_or, zip}
 use Rattle.std.specs.List.{All}
 use Rattle.std.proofs.lemmas.Bool.{true≢false}
 use Rattle.std.proofs.lemmas.List.Elements.{All-nil, All-cons, All-head, All-tail}
 use Rattle.std.proofs.lemmas.Slice.Eq.{bytes_eq-Decides}
-use Rattle.mbox_items.specs.Division.{Item, whole}
+use Rattle.mbox_items.specs.Division.{Item}
 use Rattle.policy_core.specs.declared.access.Withdrawn.{Withdrawn}
 use Rattle.policy_core.specs.declared.access.Withdrawn.TheVariants.{No, Author, Board}
 use Rattle.archive_model.specs.Records.{Message, IndexColumns, Archive}
@@ -14,7 +14,7 @@ use Rattle.archive_model.specs.Commands.{Command, add, withdraw, embargo, no_lis
 use Rattle.archive_model.specs.Filing.{IndexedMessage, item_index_columns}
 use Rattle.archive_model.specs.Keys.{item_key}
 use Rattle.archive_model.specs.Lasting.{NoCommandSatisfies, ends_withdrawal, changes_embargo, HoldsForMessageAtKey}
-use Rattle.archive_model.specs.Machine.{step, refuse, change_at_key, with_changed_message, with_withdrawal, keyed_message, with_message, longest_text, message_limit}
+use Rattle.archive_model.specs.Machine.{step, refuse, change_at_key, with_changed_message, with_withdrawal, keyed_message, with_message, is_too_large, message_limit}
 use Rattle.archive_model.specs.Messages.{withdrawal_number}
 use Rattle.archive_model.specs.Questions.{has_list, has_message, message_of, messages_in, is_message_at_key, is_withdrawn}
 use Rattle.archive_model.specs.Runs.{run}
@@ -272,7 +272,7 @@ module _ (list key : List ℕ) (new : Message) (filing : IndexColumns) (is : is_
 taken_left : (a : Archive) (list : List ℕ) (item : Item) → (step a (add list item)).1 ≡ taken_in
     → (has_message a list (item_key item) ≡ false) × ((step a (add list item)).0 ≡ with_message a list item)
 taken_left a list item =
-    by_tests (has_list a list) (nat_lt longest_text (length (whole item.text))) (has_message a list (item_key item)) (nat_le message_limit (length (messages_in a list)))
+    by_tests (has_list a list) (is_too_large item) (has_message a list (item_key item)) (nat_le message_limit (length (messages_in a list)))
   where
     left : Archive
     left = with_message a list item

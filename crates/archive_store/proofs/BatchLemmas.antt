@@ -1,7 +1,7 @@
 -- Messages added to one list, many in one transaction.
 use Rattle.std.proofs.Common.{◌≡◌, inl, inr, ℕ, ◌+◌, ◌<◌, ◌≤◌, Bool, true, false, List, [], ◌∷◌, ◌++◌, length, get_or, take, map}
 use Rattle.std.proofs.Common.{filter, refl, ap, sym, subst, ◌∙◌, arith, Option, Some, None, Result, Ok, Err}
-use Rattle.std.specs.Prelude.{IsTrue, IsErrAnd, nat_lt, nat_le, not, bytes_eq, MatchOption, if◌then◌else◌}
+use Rattle.std.specs.Prelude.{IsTrue, IsErrAnd, nat_le, not, bytes_eq, MatchOption, if◌then◌else◌}
 use Rattle.std.specs.List.{list_any}
 use Rattle.std.proofs.lemmas.Bool.{cases_Bool}
 use Rattle.std.proofs.lemmas.Bool.Decides.{nat_tests}
@@ -10,12 +10,12 @@ use Rattle.std.proofs.lemmas.List.Sums.{sum_by_more}
 use Rattle.std.proofs.lemmas.Slice.Eq.{bytes_eq-Decides}
 use Rattle.sqlite.specs.Effect.{Database}
 use Rattle.sqlite.specs.State.{State}
-use Rattle.mbox_items.specs.Division.{Item, whole}
+use Rattle.mbox_items.specs.Division.{Item}
 use Rattle.archive_model.specs.Records.{Archive, Message}
 use Rattle.archive_model.specs.Commands.{add, CommandReply, Refusal, refused, no_list, too_large, already_known, list_full, taken_in}
 use Rattle.archive_model.specs.Keys.{item_key}
 use Rattle.archive_model.specs.Questions.{has_list, has_message, is_message_at_key, messages_in}
-use Rattle.archive_model.specs.Machine.{StepOutcome, add_within_limit, longest_text, message_limit, keyed_message, with_message_under_key, with_message}
+use Rattle.archive_model.specs.Machine.{StepOutcome, add_within_limit, is_too_large, message_limit, keyed_message, with_message_under_key, with_message}
 use Rattle.archive_model.specs.Runs.{taken, run, Tally, tally_replies, is_added_reply, is_known_reply, is_too_large_reply}
 use Rattle.archive_tables.specs.Tables.{IsOpenArchive, IsArchiveAtRest, archive_of}
 use Rattle.archive_tables.specs.Calls.{ChangesArchive, FaultKeepsRows, FaultKeepsRowsOrRollsBack, LeavesRowsUnchanged, IsOpenArchiveOrRolledBack}
@@ -59,14 +59,14 @@ same_word : (a : List ℕ) → bytes_eq a a ≡ true
 same_word a = (bytes_eq-Decides a a).1 refl
 
 module _ (behind : Option Database) (old new : State) (list : List ℕ) (item : Item) (count : ℕ) (n : ListHasMessageCount (archive_of old) list count) where
-  pub large_over : true ≡ nat_lt longest_text (length (whole item.text)) → LeavesRowsUnchanged behind old new → AddsMessageToState behind old new list item count (refused too_large)
+  pub large_over : true ≡ is_too_large item → LeavesRowsUnchanged behind old new → AddsMessageToState behind old new list item count (refused too_large)
   large_over large stays = (
     stays.0,
     ap (λ a. (a, refused too_large)) (archive_stays stays.1) ∙ rw (n.list_exists, sym large) refl,
     subst (λ a. ListHasMessageCount a list count) (sym (archive_stays stays.1)) n,
   )
 
-  module _ (k : List ℕ) (small : false ≡ nat_lt longest_text (length (whole item.text))) where
+  module _ (k : List ℕ) (small : false ≡ is_too_large item) where
     pub known_over : k ≡ item_key item → true ≡ list_any (is_message_at_key list k) (archive_of old).messages → LeavesRowsUnchanged behind old new
         → AddsMessageToState behind old new list item count already_known
     known_over e known stays = (
@@ -165,7 +165,7 @@ module _ (a : Archive) (list : List ℕ) (item : Item) where
   the_new = with_message a list item
 
   large : Bool
-  large = nat_lt longest_text (length (whole item.text))
+  large = is_too_large item
 
   pub holds_50000 : (add_within_limit message_limit a list item).1 ≡ refused list_full → 50000 ≤ length (messages_in a list)
   unfolding the_new large

@@ -1,6 +1,6 @@
 -- A command that is looked up, decided and written: what each part says, and each exit of the whole.
 use Rattle.std.proofs.Common.{◌≡◌, ◌∙◌, ℕ, inl, inr, true, false, List, [], ◌∷◌, None, Some, Option, Result, Ok, Err, IfErr, OnOk, refl, sym, ap, subst, if◌then◌else◌}
-use Rattle.std.specs.Prelude.{IsErrAnd, IfSome, Bool, is_some, MatchResult, ⊤, ◌≤◌, find, length, map, nat_lt, not, int_lt, option_map}
+use Rattle.std.specs.Prelude.{IsErrAnd, IfSome, Bool, is_some, MatchResult, ⊤, ◌≤◌, find, map, not, int_lt, option_map}
 use Rattle.std.proofs.Common.{arith}
 use Rattle.std.specs.Option.{option_map_or}
 use Rattle.sqlite.specs.declared.error.Error.{Error}
@@ -12,14 +12,14 @@ use Rattle.archive_model.specs.Commands.{Command, list_add, person_add, grant, r
 use Rattle.archive_model.specs.Commands.{list_exists, no_list, person_exists, no_person, token_taken, no_message, already_withdrawn, not_withdrawn, bad_days, list_full, too_large}
 use Rattle.archive_model.specs.Commands.{CommandReply, refused, taken_in, already_known}
 use Rattle.archive_model.specs.Machine.{StepOutcome, GuardedReply, refuse_if, no_command_facts, command_facts_within_limit}
-use Rattle.archive_model.specs.Machine.{guarded_replies_of, archive_changed_by, reply_if_carried_out, outcome_unless_guarded, longest_text, step_within_limit}
+use Rattle.archive_model.specs.Machine.{guarded_replies_of, archive_changed_by, reply_if_carried_out, outcome_unless_guarded, is_too_large, step_within_limit}
 use Rattle.archive_model.specs.declared.found.CommandFacts.{CommandFacts}
 use Rattle.archive_model.specs.Addresses.{is_address}
 use Rattle.archive_model.specs.BearerTokens.{is_token}
 use Rattle.policy_core.specs.Names.{is_name}
 use Rattle.archive_model.specs.Questions.{is_message_at_key, is_withdrawn, has_embargo}
 use Rattle.archive_model.specs.Keys.{item_key}
-use Rattle.mbox_items.specs.Division.{Item, whole}
+use Rattle.mbox_items.specs.Division.{Item}
 use Rattle.std.specs.List.{list_any}
 use Rattle.archive_store.proofs.StepEquations.{is_some-find}
 use Rattle.archive_tables.specs.Statements.{Statement, IsStatementRefused}
@@ -171,7 +171,7 @@ is_known false false false false is = absurd cc
 
 answer_made : (command : Command) (found : CommandFacts) → first_passing_reply (guarded_replies_of command found) ≡ None → reply_unless_refused command found ≡ reply_if_carried_out command found
 answer_made (add list item) found none =
-    ap (λ b. if b then already_known else taken_in) (unknown (not found.list) (nat_lt longest_text (length (whole item.text))) found.message found.full none)
+    ap (λ b. if b then already_known else taken_in) (unknown (not found.list) (is_too_large item) found.message found.full none)
 answer_made command found none = refl
 
 -- tests that refuse, and nothing else
@@ -185,7 +185,7 @@ never_known (test ∷ tests) is = go test.0 (never_known tests) is
     go false later is = later is
 
 answer_known : (command : Command) (found : CommandFacts) → first_passing_reply (guarded_replies_of command found) ≡ Some already_known → reply_unless_refused command found ≡ already_known
-answer_known (add list item) it is = is_known (not it.list) (nat_lt longest_text (length (whole item.text))) it.message it.full is
+answer_known (add list item) it is = is_known (not it.list) (is_too_large item) it.message it.full is
 answer_known (list_add name) it is = absurd (never_known ((not (is_name name), bad_name) ∷ (it.list, list_exists) ∷ []) is)
 answer_known (merge_set list merge) it is = absurd (never_known ((not it.list, no_list) ∷ []) is)
 answer_known (person_add name token) it is =
@@ -365,7 +365,7 @@ module _ {S : Type 0} (g : Ghosts S) where
       → list_any (is_message_at_key list (item_key item)) a.messages ≡ false
   fresh a list item found need =
       sym (is_some-find (is_message_at_key list (item_key item)) a.messages) ∙ sym (ap (λ f. f.message) need.1)
-      ∙ unknown (not found.list) (nat_lt longest_text (length (whole item.text))) found.message found.full need.2
+      ∙ unknown (not found.list) (is_too_large item) found.message found.full need.2
 
   -- it is written down
   pub puts_taken : {old new : Store S} {result : Result ℕ StoreFault} (told : Result (Unit {0}) DatabaseError) (passed : Result (Unit {0}) StoreFault) (list : List ℕ) (item : Item)
