@@ -1,5 +1,5 @@
 -- SQL refuses no message that comes.
-use Rattle.std.proofs.Common.{◌≡◌, ◌⊎◌, ◌≤ℤ◌, ◌<ℤ◌, ◌^◌, ◌++◌, suc, fold, inl, inr, ℕ, ℤ, pos, negsuc, ◌+ℤ◌, List, [], ◌∷◌, map, Ok, Err, Result, refl, sym, ap, subst, ◌∙◌, false, true}
+use Rattle.std.proofs.Common.{◌≡◌, ◌⊎◌, ◌≤ℤ◌, ◌<ℤ◌, ◌^◌, ◌++◌, suc, fold, inl, inr, ℕ, ℤ, pos, negsuc, ◌+ℤ◌, List, [], ◌∷◌, map, Ok, Err, Result, refl, sym, ap, ap₂, subst, ◌∙◌, false, true}
 use Rattle.std.proofs.Common.{None, Some, Option, arith}
 use Rattle.std.specs.Prelude.{find}
 use Rattle.std.specs.List.{list_any}
@@ -33,7 +33,8 @@ use Rattle.archive_model.specs.Filing.{IndexedMessage}
 use Rattle.archive_tables.specs.Rows.{unmarked_message}
 use Rattle.archive_tables.specs.Schema.{archive_schema, message_table, sequence_table}
 use Rattle.archive_tables.specs.Statements.{StatementMayEndIn, StatementExecutesTo, IsStatementRefused, insert_message_statement}
-use Rattle.archive_tables.specs.Tables.{AreArchiveTables, HaveDistinctKeys, HoldsRecords, indexed_message_cells, indexed_message_from_row, message_from_row, same_message_key}
+use Rattle.archive_tables.specs.Tables.{AreArchiveTables, HaveDistinctKeys, HoldsRecords, archive_in_trees, indexed_message_cells, indexed_message_from_row}
+use Rattle.archive_tables.specs.Tables.{index_columns_from_row, message_from_row, same_message_key}
 use Rattle.archive_tables.proofs.ApartLemmas.{is_no_foreign_key}
 use Rattle.archive_tables.proofs.CreateLemmas.{over, at_once, went}
 use Rattle.archive_tables.proofs.ChangeLemmas.{apart_more}
@@ -45,6 +46,7 @@ use Rattle.archive_sound.specs.Room.{IsSoundArchive, HasCountedNumber, HasNumber
 use Rattle.archive_sound.proofs.CountLemmas.{IsCountedTo, past, chosen, count_says, counts_to, next_behind}
 use Rattle.archive_sound.proofs.EditLemmas.{IsAccepted, never_edits}
 use Rattle.archive_sound.proofs.MessageTable.{none_alike, message_checks, message_facts, same_filed, filed_apart, IsShortMessage, message_list_is_there}
+use Rattle.archive_sound.proofs.NumberLemmas.{LeavesMessage}
 use Rattle.archive_sound.proofs.ReferLemmas.{AllRefer, all_rules, Refer, they_refer, refers, messages_after, sequence_after}
 use Rattle.archive_sound.proofs.SequenceTable.{task, never_sought, counter_is, never_counts, counts_leave}
 use Rattle.archive_sound.proofs.TableLemmas.{accepts_more, refer_more, never_ends}
@@ -234,12 +236,14 @@ module _ (list key sender : List ℕ) (arrival : ℤ) (text : List ℕ) (filing 
             addresses = λ e. later.addresses (λ g. omega (arith, g)) ∙ first.addresses e;
           }
 
-      tables : AreArchiveTables next
-      tables =
+      changed : AreArchiveTables next
+          × (archive_in_trees next ≡ record (archive_in_trees db) { messages = map message_from_row (db 8) ++ f.0 ∷ []; index_columns = map index_columns_from_row (db 8) ++ f.1 ∷ [] })
+      changed =
           let both = one_filed (put_row (Int n ∷ indexed_message_cells f) (db 8)) (db 8) f put.1 in
           let apart = apart_more same_message_key (map message_from_row (db 8)) f.0 flips (sym (none_alike f.0 (db 8)) ∙ new) k.messages_distinct in
-          (messages_change db next k same (put_row (Int n ∷ indexed_message_cells f) (db 8)) rows_are put.0 (subst (HaveDistinctKeys same_message_key) (sym both.0) apart)
-          (positive_more indexed_message_cells indexed_message_from_row filed_back (db 8) (record { number = n; content = f }) (raised top (next_rowid (db 8))) k.messages k.rowids_are_positive)).0
+          let all = messages_change db next k same (put_row (Int n ∷ indexed_message_cells f) (db 8)) rows_are put.0 (subst (HaveDistinctKeys same_message_key) (sym both.0) apart)
+          (positive_more indexed_message_cells indexed_message_from_row filed_back (db 8) (record { number = n; content = f }) (raised top (next_rowid (db 8))) k.messages k.rowids_are_positive) in
+          (all.0, all.1 ∙ ap₂ (λ l i. record (archive_in_trees db) { messages = l; index_columns = i }) both.0 both.1)
 
       obeys_after : Obeys archive_schema next
       obeys_after = record { rules = all_rules next counts.1 (sequence_after it.mid next mid_refers later); indexed = counts.1.indexed }
@@ -261,14 +265,21 @@ module _ (list key sender : List ℕ) (arrival : ℤ) (text : List ℕ) (filing 
           }
 
     -- it is an archive with a message more, whose list is there as before
-    pub leaves : (tally : Tally) (next : Database) → Does None at_once params (over archive_schema db) add_text None (Insert 4 (Values new_cells 12)) (Ok (tally, next))
-        → IsSoundArchive next × ((more : ℕ) → HasNumbersFor (suc more) db → HasNumbersFor more next.trees)
+    pub leaves : (tally : Tally) (next : Database) → Does None at_once params (over archive_schema db) add_text None (Insert 4 (Values new_cells 12)) (Ok (tally, next)) → LeavesMessage f db next
     leaves tally next h =
         let made = passed h in
         let now : next ≡ over archive_schema made.0.trees = ap (λ (p : Tally × Database). p.1) (value_is (passed (passed made.2).2).2) in
-        let it = added made.0 made.1 in
-        subst (λ (d : Database). IsSoundArchive d × ((more : ℕ) → HasNumbersFor (suc more) db → HasNumbersFor more d.trees)) (sym now)
-        (record { schema = refl; tables = tables made.0.trees it; obeys = obeys_after made.0.trees it }, numbers_after made.0.trees it)
+        subst (LeavesMessage f db) (sym now) (of_trees made.0.trees (added made.0 made.1))
+      where
+        of_trees : (after : Trees) → Added after → LeavesMessage f db (over archive_schema after)
+        of_trees after it = record {
+          sound = record { schema = refl; tables = (changed after it).0; obeys = obeys_after after it };
+          archive_is = (changed after it).1;
+          same = same after it;
+          numbers = numbers_after after it;
+          number = n;
+          last = rows_are after it ∙ (put after it).2;
+        }
 
 module _ (db : Database) (sound : IsSoundArchive db) where
   pub never_message_added : (list key sender : List ℕ) (arrival : ℤ) (text : List ℕ) (filing : IndexColumns) → IsShortMessage (unmarked_message list key sender arrival text, filing)
@@ -285,7 +296,7 @@ module _ (db : Database) (sound : IsSoundArchive db) where
       → message_list_is_there db.trees (unmarked_message list key sender arrival text, filing) ≡ true
       → list_any (same_filed (unmarked_message list key sender arrival text, filing)) (map indexed_message_from_row (db.trees 8)) ≡ false → (next : Database)
       → StatementExecutesTo (insert_message_statement (unmarked_message list key sender arrival text) filing) db next
-      → IsSoundArchive next × ((more : ℕ) → HasNumbersFor (suc more) db.trees → HasNumbersFor more next.trees)
+      → LeavesMessage (unmarked_message list key sender arrival text, filing) db.trees next
   message_added list key sender arrival text filing short room named new next executes =
       let it = subst (λ s. StatementExecutesTo (insert_message_statement (unmarked_message list key sender arrival text) filing) (over s db.trees) next) sound.schema executes in
       leaves list key sender arrival text filing db.trees sound.tables sound.obeys short room named new it.0 next (add_may list key sender arrival text filing db.trees (Ok (it.0, next)) it.1)

@@ -6,11 +6,8 @@ use Rattle.std.proofs.lemmas.Bool.{cases_Bool, or_left, or_right}
 use Rattle.std.proofs.lemmas.Bool.Decides.{nat_tests}
 use Rattle.std.proofs.lemmas.Slice.Eq.{bytes_eq-Decides}
 use Rattle.std.proofs.lemmas.Int.{ints}
-use Rattle.sqlite.specs.declared.types.Value.TheVariants.{Int}
-use Rattle.sqlite.specs.Edit.{next_rowid}
 use Rattle.sqlite.specs.Effect.{Database, IsDatabase}
 use Rattle.sqlite_catalog.specs.Listing.{IsSound}
-use Rattle.sqlite.specs.Order.{Row}
 use Rattle.mbox_items.specs.Division.{Item, whole}
 use Rattle.policy_core.specs.Names.{is_name, is_name_byte, is_lowercase_letter}
 use Rattle.archive_model.specs.Addresses.{normalize_address}
@@ -18,11 +15,11 @@ use Rattle.archive_model.specs.BearerTokens.{is_token, is_b64token}
 use Rattle.archive_model.specs.Commands.{Command, list_add, person_add, grant, revoke, add, withdraw, restore, embargo, lift, merge_set, address_set}
 use Rattle.archive_model.specs.Filing.{item_index_columns}
 use Rattle.archive_model.specs.Keys.{item_key}
-use Rattle.archive_model.specs.Machine.{GuardedReply, StepOutcome, outcome_unless_guarded, guarded_replies_of, command_facts_within_limit, archive_changed_by, reply_if_carried_out}
-use Rattle.archive_model.specs.Machine.{default_list_option, new_message, longest_text, message_limit}
+use Rattle.archive_model.specs.Machine.{GuardedReply, StepOutcome, outcome_unless_guarded, guarded_replies_of, command_facts_within_limit, archive_changed_by, reply_if_carried_out, step_within_limit}
+use Rattle.archive_model.specs.Machine.{default_list_option, is_too_large, longest_sender, longest_text, new_message, message_limit}
 use Rattle.archive_model.specs.Questions.{has_list, has_person, has_grant, has_address, is_option_of, is_message_at_key}
 use Rattle.archive_model.specs.Records.{Archive, Person, Grant, ListOption, Address}
-use Rattle.archive_tables.specs.Tables.{AreArchiveTables, archive_in_trees, list_cells, option_cells, list_from_row, person_from_row, option_from_row, message_from_row, same_option_key}
+use Rattle.archive_tables.specs.Tables.{AreArchiveTables, archive_in_trees, option_cells, list_from_row, person_from_row, option_from_row, message_from_row, same_option_key}
 use Rattle.sqlite_schema.specs.declared.schema.Constraint.TheVariants.{ForeignKey}
 use Rattle.archive_tables.specs.Schema.{archive_schema, option_table}
 use Rattle.archive_tables.proofs.SelectLemmas.{equal_words}
@@ -32,7 +29,7 @@ use Rattle.archive_database.specs.Lists.{IsListRefused}
 use Rattle.archive_store.specs.Refusals.{IsExecutedReply, IsCommandRefusedWithin, IsGrantRefused, IsAddressRefused, RowsRefuseNextCommand}
 use Rattle.archive_store.proofs.StepEquations.{is_some-find}
 use Rattle.archive_sound.specs.Room.{IsSoundArchive, HasRoom, HasRoomForMarks, HasRoomForList, HasRoomForMessage, HasRoomForUpsert, HasRoomForChange, HasFreeNumber, IsCommandInRange}
-use Rattle.archive_sound.specs.Room.{IsGrantInRange, IsDay, IsParty, longest_row, longest_sender, message_bytes}
+use Rattle.archive_sound.specs.Room.{IsGrantInRange, IsDay, IsParty, longest_list_name, longest_row, message_bytes}
 use Rattle.archive_sound.proofs.MarkStatements.{never_withdrawn, never_embargoed, never_cleared}
 use Rattle.archive_sound.proofs.GrantStatements.{never_grant_changed, never_grant_removed, never_grant_added}
 use Rattle.archive_sound.proofs.OptionStatements.{never_option_changed, never_option_added}
@@ -48,7 +45,7 @@ use Rattle.archive_sound.proofs.ValueLemmas.{parts, both, none_of}
 -- ---- what the machine did not refuse
 
 -- an answer that leaves the archive as it was
-abbrev IsGuard : GuardedReply → Type 0
+abbrev pub IsGuard : GuardedReply → Type 0
 IsGuard test = ¬ IsExecutedReply test.1
 
 no_test : (a : Archive) (tests : List GuardedReply) (made : StepOutcome) → AllByRecursion IsGuard tests → IsExecutedReply (outcome_unless_guarded a tests made).1
@@ -59,16 +56,35 @@ no_test a (test ∷ tests) made guards done = elim (cases_Bool test.0) [
   | inr other ↦ (other, no_test a tests made guards.1 (rw other at done))
 ]
 
+-- where none was so, the machine makes this
+made_by : (a : Archive) (tests : List GuardedReply) (made : StepOutcome) → AllByRecursion (λ (test : GuardedReply). test.0 ≡ false) tests → outcome_unless_guarded a tests made ≡ made
+made_by a [] made none = refl
+made_by a (test ∷ tests) made none = rw none.0 (made_by a tests made none.1)
+
+-- where one was so, the archive stays
+pub stays_by : (a : Archive) (tests : List GuardedReply) (made : StepOutcome) → IsExecutedReply made.1 → ¬ IsExecutedReply (outcome_unless_guarded a tests made).1
+    → (outcome_unless_guarded a tests made).0 ≡ a
+stays_by a [] made executed refused = absurd (refused executed)
+stays_by a (test ∷ tests) made executed refused = elim (cases_Bool test.0) [ inl so ↦ rw so refl | inr other ↦ rw other (stays_by a tests made executed (rw other at refused)) ]
+
+-- of a command that the machine carries out no test was so, and it makes of the archive what it makes where none is
+pub carried_out : (limit : ℕ) (a : Archive) (command : Command) → AllByRecursion IsGuard (guarded_replies_of command (command_facts_within_limit limit a command))
+    → IsExecutedReply (step_within_limit limit a command).1
+    → AllByRecursion (λ (test : GuardedReply). test.0 ≡ false) (guarded_replies_of command (command_facts_within_limit limit a command))
+    × ((step_within_limit limit a command).0 ≡ archive_changed_by command a)
+carried_out limit a command guards executed =
+    let facts = command_facts_within_limit limit a command in
+    let made : StepOutcome = (archive_changed_by command a, reply_if_carried_out command facts) in
+    let none = no_test a (guarded_replies_of command facts) made guards executed in
+    (none, ap (λ (o : StepOutcome). o.0) (made_by a (guarded_replies_of command facts) made none))
+
 -- where the machine carries a command out, no test of it was so
 passes : (limit : ℕ) (db : Database) (command : Command) → AllByRecursion IsGuard (guarded_replies_of command (command_facts_within_limit limit (archive_in_trees db.trees) command))
     → IsCommandRefusedWithin limit command db
     → AllByRecursion (λ (test : GuardedReply). test.0 ≡ false) (guarded_replies_of command (command_facts_within_limit limit (archive_in_trees db.trees) command))
-passes limit db command guards why =
-    let a = archive_in_trees db.trees in
-    let facts = command_facts_within_limit limit a command in
-    no_test a (guarded_replies_of command facts) (archive_changed_by command a, reply_if_carried_out command facts) guards why.would_execute
+passes limit db command guards why = (carried_out limit (archive_in_trees db.trees) command guards why.would_execute).0
 
-is_so : (b : Bool) → not b ≡ false → b ≡ true
+pub is_so : (b : Bool) → not b ≡ false → b ≡ true
 is_so true h = refl
 is_so false h = absurd cc
 
@@ -84,17 +100,19 @@ token_short text h =
     let few = (parts (nat_le 16 (length text)) (nat_le (length text) 64) (parts (nat_le 16 (length text) && nat_le (length text) 64) (is_b64token text) h).0).1 in
     grind (arith, nat_tests, few)
 
--- the machine takes in no longer text
-short_text : (n : ℕ) → nat_lt longest_text n ≡ false → n ≤ longest_text
-short_text n h = grind (arith, nat_tests)
+-- the machine takes in no longer text, and no longer sender
+no_longer : (most n : ℕ) → nat_lt most n ≡ false → n ≤ most
+no_longer most n h = grind (arith, nat_tests)
 
-pub short_message : (list : List ℕ) (item : Item) → length list + length item.envelope.sender ≤ longest_sender → nat_lt longest_text (length (whole item.text)) ≡ false
-    → message_bytes (new_message list item, item_index_columns item) ≤ longest_row
-short_message list item sender small =
-    let text = short_text (length (whole item.text)) small in
+pub short_message : (list : List ℕ) (item : Item) → length list ≤ longest_list_name → is_too_large item ≡ false → message_bytes (new_message list item, item_index_columns item) ≤ longest_row
+unfolding is_too_large
+short_message list item name small =
+    let neither = none_of (nat_lt longest_text (length (whole item.text))) (nat_lt longest_sender (length item.envelope.sender)) small in
+    let text = no_longer longest_text (length (whole item.text)) neither.0 in
+    let sender = no_longer longest_sender (length item.envelope.sender) neither.1 in
     let key = key_length (whole item.text) in
     let author = author_shorter (whole item.text) in
-    omega (arith, text, key, author, sender)
+    omega (arith, text, key, author, sender, name)
 
 -- ---- the four that mark a message
 
@@ -173,45 +191,48 @@ module _ (limit : ℕ) (db : Database) (sound : IsSoundArchive db) where
       neither [] names tokens = refl
       neither (p ∷ ps) names tokens = let one = none_of _ _ names in let other = none_of _ _ tokens in ap₂ ◌||◌ (ap₂ ◌||◌ one.0 other.0) (neither ps one.1 other.1)
 
-  pub never_list_add : (name : List ℕ) → HasRoomForList db → ¬ IsCommandRefusedWithin limit (list_add name) db
-  never_list_add name room why =
-      let tests = passes limit db (list_add name) (λ e. e, (λ e. e, tt)) why in
-      let few = name_short name (is_so (is_name name) tests.0) in
-      list_never (omega (arith, few)) tests.1.0 why.refuses_rows
+  -- a list that is not there has no option
+  pub no_option : (name : List ℕ) → has_list (archive_in_trees db.trees) name ≡ false → list_any (is_option_of name) (map option_from_row (db.trees 13)) ≡ false
+  no_option name none =
+      let before = they_refer db.trees (sound.obeys.rules ForeignKey) in
+      none_of_it (map option_from_row (db.trees 13)) (named option_table option_cells option_from_row same_option_key IsShortOption option_list_is_there option_facts db.trees
+      sound.obeys sound.tables.options sound.tables.options_distinct before.options)
     where
-      no_option : has_list (archive_in_trees db.trees) name ≡ false → (os : List ListOption) → AllByRecursion (λ (o : ListOption). names_list db.trees o.list ≡ true) os
-          → list_any (is_option_of name) os ≡ false
-      no_option none [] all = refl
-      no_option none (o ∷ os) all = ap₂ ◌||◌ (by_test (bytes_eq o.list name) refl) (no_option none os all.1)
+      none_of_it : (os : List ListOption) → AllByRecursion (λ (o : ListOption). names_list db.trees o.list ≡ true) os → list_any (is_option_of name) os ≡ false
+      none_of_it [] all = refl
+      none_of_it (o ∷ os) all = ap₂ ◌||◌ (by_test (bytes_eq o.list name) refl) (none_of_it os all.1)
         where
           by_test : (same : Bool) → bytes_eq o.list name ≡ same → same ≡ false
           by_test true is = absurd (let there = sym (ap (names_list db.trees) (equal_words o.list name is)) ∙ all.0 in let bad = sym none
               ∙ (sym (list_named db.trees name sound.tables.lists) ∙ there) in cc)
           by_test false is = refl
 
+  pub never_list_add : (name : List ℕ) → HasRoomForList db → ¬ IsCommandRefusedWithin limit (list_add name) db
+  never_list_add name room why =
+      let tests = passes limit db (list_add name) (λ e. e, (λ e. e, tt)) why in
+      let few = name_short name (is_so (is_name name) tests.0) in
+      list_never (omega (arith, few)) tests.1.0 why.refuses_rows
+    where
       list_never : length name ≤ longest_row → has_list (archive_in_trees db.trees) name ≡ false → ¬ IsListRefused name db
       list_never short none (inl first) = never_list_added db sound name short room.list none first
       list_never short none (inr (listed, executes, second)) =
-          let after = list_added db sound name short room.list none listed executes in
-          let options = after.1.options (λ e. omega (arith, e)) in
-          let before = they_refer db.trees (sound.obeys.rules ForeignKey) in
-          let have_lists = named option_table option_cells option_from_row same_option_key IsShortOption option_list_is_there option_facts db.trees
-          sound.obeys sound.tables.options sound.tables.options_distinct before.options in
-          let there : list_any (λ known. bytes_eq known name) (map list_from_row (listed.trees 1)) ≡ true =
-          subst (λ rows. list_any (λ known. bytes_eq known name) (map list_from_row rows) ≡ true) (sym after.2) (last_known (db.trees 1)) in
-          never_option_added listed after.0 (default_list_option name) short (subst HasFreeNumber (sym options) room.option) (list_named listed.trees name after.0.tables.lists ∙ there)
-          (subst (λ rows. list_any (is_option_of name) (map option_from_row rows) ≡ false) (sym options) (no_option none (map option_from_row (db.trees 13)) have_lists)) second
+          let after = list_added db sound name listed executes in
+          let options = after.same.options (λ e. omega (arith, e)) in
+          let there : has_list (archive_in_trees listed.trees) name ≡ true = ap (λ (a : Archive). has_list a name) after.archive_is ∙ last_known (map list_from_row (db.trees 1)) in
+          never_option_added listed after.sound (default_list_option name) short (subst HasFreeNumber (sym options) room.option)
+          (list_named listed.trees name after.sound.tables.lists ∙ there)
+          (subst (λ rows. list_any (is_option_of name) (map option_from_row rows) ≡ false) (sym options) (no_option name none)) second
         where
           itself : (bs : List ℕ) → bytes_eq bs bs ≡ true
           itself bs = (bytes_eq-Decides bs bs).1 refl
 
-          last_known : (rows : List Row) → list_any (λ known. bytes_eq known name) (map list_from_row (rows ++ (Int (next_rowid (db.trees 1)) ∷ list_cells name) ∷ [])) ≡ true
+          last_known : (names : List (List ℕ)) → list_any (λ known. bytes_eq known name) (names ++ name ∷ []) ≡ true
           last_known [] = or_left (bytes_eq name name) false (itself name)
-          last_known (row ∷ rows) = or_right (bytes_eq (list_from_row row) name) _ (last_known rows)
+          last_known (known ∷ names) = or_right (bytes_eq known name) _ (last_known names)
 
   -- ---- a message
 
-  pub never_add : (list : List ℕ) (item : Item) → HasRoomForMessage list item.envelope.sender db → ¬ IsCommandRefusedWithin limit (add list item) db
+  pub never_add : (list : List ℕ) (item : Item) → HasRoomForMessage list db → ¬ IsCommandRefusedWithin limit (add list item) db
   never_add list item room why =
       let tests = passes limit db (add list item) (λ e. e, (λ e. e, (λ e. e, (λ e. e, tt)))) why in
       let key = item_key item in

@@ -4,6 +4,8 @@ mod RecordLemmas
 mod ReferLemmas
 mod ValueLemmas
 mod TableLemmas
+mod NumberLemmas
+mod MadeLemmas
 mod MessageTable
 mod GrantTable
 mod OptionTable
@@ -19,6 +21,7 @@ mod ListStatements
 mod SequenceTable
 mod AddStatements
 mod CommandLemmas
+mod RoomLemmas
 mod CauseLemmas
 mod RoomExamples
 mod LengthLemmas

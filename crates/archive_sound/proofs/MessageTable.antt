@@ -1,6 +1,6 @@
 -- The table `message`, as a table of records.
-use Rattle.std.proofs.Common.{◌≡◌, ◌≤◌, inl, inr, ℤ, pos, negsuc, List, [], ◌∷◌, map, length, refl, ap, ap₂, ◌∙◌, false, true, Bool, None, Some, arith}
-use Rattle.std.specs.Prelude.{◌&&◌, ◌||◌, not, nat_lt}
+use Rattle.std.proofs.Common.{◌≡◌, ◌≤◌, inl, inr, ℤ, pos, negsuc, List, [], ◌∷◌, map, length, refl, sym, ap, ap₂, ◌∙◌, false, true, Bool, None, Some, arith}
+use Rattle.std.specs.Prelude.{◌&&◌, ◌||◌, not, nat_lt, if◌then◌else◌}
 use Rattle.std.specs.List.{AllByRecursion, list_any}
 use Rattle.sqlite.specs.declared.types.Value.TheVariants.{Int}
 use Rattle.sqlite.specs.Order.{Row}
@@ -19,8 +19,8 @@ use Rattle.sqlite_value.specs.Keys.{plain}
 use Rattle.archive_model.specs.Records.{Message}
 use Rattle.archive_model.specs.Filing.{IndexedMessage}
 use Rattle.archive_tables.specs.Schema.{archive_schema, message_table}
-use Rattle.archive_tables.specs.Tables.{indexed_message_cells, indexed_message_from_row, message_from_row, int_or_null_value, same_message_key, HoldsRecords, HaveDistinctKeys}
-use Rattle.archive_tables.proofs.MessageLemmas.{filed_back, flips}
+use Rattle.archive_tables.specs.Tables.{indexed_message_cells, indexed_message_from_row, message_from_row, index_columns_from_row, int_or_null_value, same_message_key, HoldsRecords, HaveDistinctKeys}
+use Rattle.archive_tables.proofs.MessageLemmas.{filed_back, flips, messages_are, filings_are}
 use Rattle.archive_tables.proofs.SelectLemmas.{alone, text_is}
 use Rattle.archive_sound.specs.Room.{message_bytes, longest_row}
 use Rattle.archive_sound.proofs.RecordLemmas.{no_clash}
@@ -115,6 +115,39 @@ none_alike m (row ∷ rows) = ap (λ b. same_message_key m (message_from_row row
 pub filed_apart : (rows : List Row) → HaveDistinctKeys same_message_key (map message_from_row rows) → HaveDistinctKeys same_filed (map indexed_message_from_row rows)
 filed_apart [] apart = tt
 filed_apart (row ∷ rows) apart = (none_alike (message_from_row row) rows ∙ apart.0, filed_apart rows apart.1)
+
+pub messages_apart : (rows : List Row) → HaveDistinctKeys same_filed (map indexed_message_from_row rows) → HaveDistinctKeys same_message_key (map message_from_row rows)
+messages_apart [] apart = tt
+messages_apart (row ∷ rows) apart = (sym (none_alike (message_from_row row) rows) ∙ apart.0, messages_apart rows apart.1)
+
+-- a message is changed, and what is filed of it stays
+module _ (p : Message → Bool) (set : Message → Message) where
+  abbrev change_if : Bool → IndexedMessage → IndexedMessage
+  change_if b f = if b then (set f.0, f.1) else f
+
+  firsts : (fs : List IndexedMessage) → map (λ (f : IndexedMessage). f.0) (map (λ (f : IndexedMessage). change_if (p f.0) f) fs)
+      ≡ map (λ (m : Message). if p m then set m else m) (map (λ (f : IndexedMessage). f.0) fs)
+  firsts [] = refl
+  firsts (f ∷ fs) = ap₂ ◌∷◌ (by_test (p f.0)) (firsts fs)
+    where
+      by_test : (b : Bool) → (change_if b f).0 ≡ (if b then set f.0 else f.0)
+      by_test true = refl
+      by_test false = refl
+
+  seconds : (fs : List IndexedMessage) → map (λ (f : IndexedMessage). f.1) (map (λ (f : IndexedMessage). change_if (p f.0) f) fs) ≡ map (λ (f : IndexedMessage). f.1) fs
+  seconds [] = refl
+  seconds (f ∷ fs) = ap₂ ◌∷◌ (by_test (p f.0)) (seconds fs)
+    where
+      by_test : (b : Bool) → (change_if b f).1 ≡ f.1
+      by_test true = refl
+      by_test false = refl
+
+  pub changed_parts : (new old : List Row) → map indexed_message_from_row new ≡ map (λ (f : IndexedMessage). change_if (p f.0) f) (map indexed_message_from_row old)
+      → (map message_from_row new ≡ map (λ (m : Message). if p m then set m else m) (map message_from_row old)) × (map index_columns_from_row new ≡ map index_columns_from_row old)
+  changed_parts new old is = (
+    sym (messages_are new) ∙ ap (map (λ (f : IndexedMessage). f.0)) is ∙ firsts (map indexed_message_from_row old) ∙ ap (map (λ (m : Message). if p m then set m else m)) (messages_are old),
+    sym (filings_are new) ∙ ap (map (λ (f : IndexedMessage). f.1)) is ∙ seconds (map indexed_message_from_row old) ∙ filings_are old,
+  )
 
 pub message_agrees : (n m : ℤ) (f g : IndexedMessage) → agree plain (2 ∷ 3 ∷ []) (Int n ∷ indexed_message_cells f) (2 ∷ 3 ∷ []) (Int m ∷ indexed_message_cells g) ≡ same_filed g f
 unfolding everything

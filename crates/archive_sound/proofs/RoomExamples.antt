@@ -1,5 +1,5 @@
 -- Worked examples: an archive without rows, and one with a list, a message and what counts it, are sound and have room.
-use Rattle.std.proofs.Common.{◌≡◌, ◌==◌, ℕ, pos, List, [], ◌∷◌, codes, refl, true, if◌then◌else◌, arith, lit≤}
+use Rattle.std.proofs.Common.{◌≡◌, ◌<◌, ◌^◌, ◌==◌, ℕ, pos, List, [], ◌∷◌, codes, refl, true, if◌then◌else◌, arith, lit≤}
 use Rattle.std.proofs.lemmas.Int.{ints}
 use Rattle.std.proofs.lemmas.List.Sorted.{IsPermutation-refl}
 use Rattle.std.specs.List.Sorted.{IsPermutation}
@@ -13,15 +13,17 @@ use Rattle.sqlite_schema.specs.declared.schema.Constraint.TheVariants.{Datatype,
 use Rattle.sqlite_schema.specs.Rules.{Keeps}
 use Rattle.sqlite_tied.specs.Compute.{everything}
 use Rattle.mbox_items.specs.Division.{Item}
-use Rattle.archive_model.specs.Commands.{list_add, add, embargo}
+use Rattle.archive_model.specs.Commands.{Command, list_add, add, embargo}
 use Rattle.archive_model.specs.Machine.{message_limit}
 use Rattle.archive_model.specs.Questions.{has_list, has_message}
 use Rattle.archive_tables.specs.Making.{empty_archive}
 use Rattle.archive_tables.specs.Schema.{archive_schema}
 use Rattle.archive_tables.specs.Tables.{AreArchiveTables, archive_in_trees, newest_version, version_rows}
 use Rattle.archive_store.specs.Refusals.{IsCommandRefused}
+use Rattle.archive_sound.specs.ManyCommands.{HasRoomFor, RowsRefuseACommand}
 use Rattle.archive_sound.specs.Room.{IsSoundArchive, HasRoom, HasCountedNumber, HasNumbersFor}
 use Rattle.archive_sound.proofs.CommandLemmas.{never_refused}
+use Rattle.archive_sound.proofs.RoomLemmas.{never_a_command}
 
 -- ---- without rows
 
@@ -209,3 +211,72 @@ hello_has_room = record { short = lit≤ tt; number = one_has_a_number }
 
 hello_is_taken : ¬ IsCommandRefused (add soc hello) one
 hello_is_taken = never_refused message_limit (add soc hello) one one_is_sound tt hello_has_room
+
+-- ---- room for many commands
+
+empty_has_room_for : (n : ℕ) → n < 2 ^ 63 → HasRoomFor n empty_trees
+unfolding everything value_cmp unary lib.Ieee.is_nan lib.Ieee.lt
+empty_has_room_for n few = record {
+  is_number = few;
+  lists = tt;
+  persons = tt;
+  grants = tt;
+  messages = tt;
+  options = tt;
+  addresses = tt;
+  count = record {
+    is_positive = omega (arith, ints);
+    above = omega (arith, ints, few);
+    sequence = record { rows_read_back = refl; is_table = tt };
+    numbers = tt;
+    number = λ none. refl;
+  };
+  short = tt;
+}
+
+empty_has_room_for_a_billion : HasRoomFor 1_000_000_000 empty_trees
+empty_has_room_for_a_billion = empty_has_room_for 1_000_000_000 (omega arith)
+
+one_has_room_for_a_billion : HasRoomFor 1_000_000_000 rows_at
+unfolding everything value_cmp unary lib.Ieee.is_nan lib.Ieee.lt
+one_has_room_for_a_billion = record {
+  is_number = omega arith;
+  lists = (record { fits = refl; above = omega (arith, ints) }, tt);
+  persons = tt;
+  grants = tt;
+  messages = (record { fits = refl; above = omega (arith, ints) }, tt);
+  options = (record { fits = refl; above = omega (arith, ints) }, tt);
+  addresses = tt;
+  count = record {
+    is_positive = omega (arith, ints);
+    above = omega (arith, ints);
+    sequence = record { rows_read_back = refl; is_table = (tt, tt) };
+    numbers = (refl, tt);
+    number = λ none. refl;
+  };
+  short = (lit≤ tt, tt);
+}
+
+-- a list under the last number: room for no command
+abbrev last_list_at : ℕ → List Row
+last_list_at t = if t == 1 then (Int (pos 9_223_372_036_854_775_807) ∷ Text soc ∷ []) ∷ [] else rows_at t
+
+after_the_last_list_is_no_room : ¬ HasRoomFor 1 last_list_at
+after_the_last_list_is_no_room room = let high = room.lists.0.above in omega (arith, ints, high)
+
+-- the last number was given to a message, which need not be there any more: the same
+abbrev last_count_at : ℕ → List Row
+last_count_at t = if t == 10 then (Int (pos 1) ∷ Text (codes "message") ∷ Int (pos 9_223_372_036_854_775_807) ∷ []) ∷ [] else rows_at t
+
+after_the_last_count_is_no_room : ¬ HasRoomFor 1 last_count_at
+unfolding everything value_cmp unary lib.Ieee.is_nan lib.Ieee.lt
+after_the_last_count_is_no_room room = let high = room.count.above in omega (arith, ints, high)
+
+-- ---- a list and a message, one after the other
+
+abbrev a_list_and_a_message : List Command
+a_list_and_a_message = list_add soc ∷ add soc hello ∷ []
+
+they_are_taken : ¬ RowsRefuseACommand a_list_and_a_message empty
+they_are_taken = never_a_command a_list_and_a_message empty empty_is_sound (empty_has_room_for 2 (omega arith))
+    (record { is_short = tt; is_in_range = tt }, (record { is_short = lit≤ tt; is_in_range = tt }, tt))

@@ -1,2 +1,3 @@
 pub mod Causes
+pub mod ManyCommands
 pub mod Room

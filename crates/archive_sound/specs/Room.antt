@@ -31,9 +31,9 @@ pub record IsSoundArchive (db : Database) : Type 0 where
 abbrev pub longest_row : ℕ
 longest_row = 999_999_000
 
--- the same beside a text and its author key, which have 16 MiB each at most
-abbrev pub longest_sender : ℕ
-longest_sender = 900_000_000
+-- the same beside a key, and a sender, a whole text and an author key that the machine takes in
+abbrev pub longest_list_name : ℕ
+longest_list_name = 66_000_000
 
 -- the bytes of all texts of a message's row
 abbrev pub message_bytes : IndexedMessage → ℕ
@@ -102,15 +102,15 @@ pub record HasRoomForList (db : Database) : Type 0 where
   pub list : HasFreeNumber (db.trees 1)
   pub option : HasFreeNumber (db.trees 13)
 
--- A message comes with what is filed of it. The machine bounds its text, and by that its author key, and a key has 64 bytes; so it is
--- the name of its list and its sender that have to be short.
-pub record HasRoomForMessage (list sender : List ℕ) (db : Database) : Type 0 where
-  pub short : length list + length sender ≤ longest_sender
+-- A message comes with what is filed of it. The machine bounds its sender and its text, and by that its author key, and a key has 64
+-- bytes; so it is the name of its list that has to be short.
+pub record HasRoomForMessage (list : List ℕ) (db : Database) : Type 0 where
+  pub short : length list ≤ longest_list_name
   pub number : HasCountedNumber db.trees
 
 -- the same of many messages, one after the other
 pub record HasRoomForMessages (list : List ℕ) (items : List Item) (db : Database) : Type 0 where
-  pub senders : AllByRecursion (λ (item : Item). length list + length item.envelope.sender ≤ longest_sender) items
+  pub short : length list ≤ longest_list_name
   pub numbers : HasNumbersFor (length items) db.trees
 
 -- The room that a command needs. The machine bounds the names and the token of a list or a person that is added, and what is taken away
@@ -120,7 +120,7 @@ HasRoom (list_add name) db = HasRoomForList db
 HasRoom (person_add name token) db = HasFreeNumber (db.trees 3)
 HasRoom (grant person list rank from_day until_day) db = HasRoomForUpsert (db.trees 6) (length person + length list)
 HasRoom (revoke person list rank) db = ⊤
-HasRoom (add list item) db = HasRoomForMessage list item.envelope.sender db
+HasRoom (add list item) db = HasRoomForMessage list db
 HasRoom (withdraw list key party) db = HasRoomForMarks db
 HasRoom (restore list key) db = HasRoomForMarks db
 HasRoom (embargo list key until_day) db = HasRoomForMarks db
