@@ -24,7 +24,7 @@ left_by : {D : Type 0} {g : Ghosts D} (store : Store (FileStore D g)) (files : F
     → IsLive (file_state connection) → (AreClean g files.log files.db → IsCopied connection files) → FilesHoldCommitted store files
 left_by {D} {g} store files connection is live copied =
     let P : Held (FileStore D g) → Type 0 = λ c. IsLive (file_state c) → (AreClean g files.log files.db → IsCopied c files) → FilesHoldCommitted store files in
-    subst P (sym is) (λ l made clean up. ((made clean).seen.both, (l up).0.lists)) live copied
+    subst P (sym is) (λ l made clean up. ((made clean).seen.both, (l up).0.lists, λ image may. ((made clean).left image may).both)) live copied
 
 -- what a crash leaves of a store that held tables is what was committed, which is the archive that the store remembered
 still_leaves : {D : Type 0} {g : Ghosts D} → SeenMayStay g → (last : FileStore D g) (connection : Held (FileStore D g)) → IsLive (file_state connection)

@@ -1,9 +1,9 @@
 -- What the files of a database hold behind a close.
 use Rattle.std.proofs.Common.{◌≡◌, ap, refl, subst, arith, Result, Ok, Err}
 use Rattle.std.specs.Prelude.{MatchResult}
-use Rattle.std.proofs.Math.Logic.{∥∥₁_map}
 use Rattle.sqlite_disk.specs.declared.Disk.{Ghosts}
 use Rattle.sqlite_disk.specs.declared.Files.{Files}
+use Rattle.sqlite_wal.specs.Files.{outcomes}
 use Rattle.sqlite_wal.specs.Reads.{AreClean}
 use Rattle.sqlite_wal.specs.Recovery.{Image}
 use Rattle.sqlite_trees.specs.Tree.{Trees}
@@ -33,10 +33,10 @@ CloseResult {D} g = Result (Files D) (Error × FileStore D g)
 abbrev pub CrashLeavesArchive : {D : Type 0} {g : Ghosts D} → FileStore D g → Archive → Type 0
 CrashLeavesArchive last archive = IsClean (view last) → (db : Trees) → recovers last db → IsArchiveStored archive db
 
--- If the disk has returned what was written to it, the rows of the files that a close handed back stand for this archive. If the close
--- failed, a crash leaves this archive of the store.
+-- If the disk has returned what was written to it, the rows of the files that a close handed back stand for this archive, as they read and
+-- whatever a crash leaves of them. If the close failed, a crash leaves this archive of the store.
 abbrev pub CloseResultHoldsArchive : {D : Type 0} (g : Ghosts D) → CloseResult g → Archive → Type 0
-CloseResultHoldsArchive g (Ok files) archive = AreClean g files.log files.db → ∥ ImageHoldsArchive (image_of g files) archive ∥₁
+CloseResultHoldsArchive g (Ok files) archive = AreClean g files.log files.db → (image : Image) → outcomes g files.log files.db image → ImageHoldsArchive image archive
 CloseResultHoldsArchive g (Err failed) archive = CrashLeavesArchive failed.1 archive
 
 module _ {D : Type 0} {g : Ghosts D} where
@@ -45,11 +45,13 @@ module _ {D : Type 0} {g : Ghosts D} where
   abbrev pub IsConnectionCloseResult : Held (FileStore D g) → CloseResult g → Type 0
   IsConnectionCloseResult connection closed = MatchResult closed (λ files. AreClean g files.log files.db → IsCopied connection files) (λ failed. IsClosed connection failed.1)
 
-  -- The files of a store that was open hold what was committed, with a catalog that lists its schema.
+  -- The files of a store that was open hold what was committed, as they read and whatever a crash leaves of them, with a catalog that lists
+  -- its schema.
   abbrev pub FilesHoldCommitted : Store (FileStore D g) → Files D → Type 0
   FilesHoldCommitted store files = AreClean g files.log files.db → IsOpen over_files store
       → ∥ HoldsDatabase (image_of g files) (file_state (store_connection store)).committed.trees ∥₁
       × Lists ((file_state (store_connection store)).now.trees catalog_tree) (file_state (store_connection store)).now.schema
+      × ((image : Image) → outcomes g files.log files.db image → ∥ HoldsDatabase image (file_state (store_connection store)).committed.trees ∥₁)
 
   -- The close failed with an error that has its cause. A crash may leave no more of the store than before the close: if the store held an
   -- archive, that archive.
@@ -67,20 +69,20 @@ module _ {D : Type 0} {g : Ghosts D} where
 module _ {D : Type 0} {g : Ghosts D} (store : Store (FileStore D g)) where
   -- what was committed is what the store remembers
   rows : (image : Image) → HoldsTables over_files store → Lists ((file_state (store_connection store)).now.trees catalog_tree) (file_state (store_connection store)).now.schema
-      → HoldsDatabase image (file_state (store_connection store)).committed.trees → ImageHoldsArchive image (archive_in over_files store)
+      → ∥ HoldsDatabase image (file_state (store_connection store)).committed.trees ∥₁ → ImageHoldsArchive image (archive_in over_files store)
   rows image kept lists held =
       let same : (file_state (store_connection store)).committed.trees ≡ (file_state (store_connection store)).now.trees = ap (λ (db : Database). db.trees) kept.committed_is in record {
         number = newest_version;
         is_known_version = record { at_least_one = omega (arith); at_most_newest = omega (arith) };
         trees = (file_state (store_connection store)).now.trees;
-        database = subst (HoldsDatabase image) same held;
+        database = subst (λ t. ∥ HoldsDatabase image t ∥₁) same held;
         schema = subst (Lists ((file_state (store_connection store)).now.trees catalog_tree)) kept.schema lists;
         are_tables_of_version = kept.tables;
         rows_stand_for_archive = refl;
       }
 
   pub close_result_holds_archive : (closed : CloseResult g) → IsCloseResultOf closed store → HoldsTables over_files store → CloseResultHoldsArchive g closed (archive_in over_files store)
-  close_result_holds_archive (Ok files) closed kept = λ clean.
+  close_result_holds_archive (Ok files) closed kept = λ clean image may.
       let it = closed clean kept.is_open in
-      ∥∥₁_map it.0 (rows (image_of g files) kept it.1)
+      rows image kept it.1 (it.2 image may)
   close_result_holds_archive (Err failed) closed kept = closed.leaves_archive kept

@@ -4,5 +4,6 @@ pub mod Closing
 pub mod Sparing
 pub mod Leaving
 pub mod Refusing
+pub mod Reopening
 pub mod Laws
 pub mod Program

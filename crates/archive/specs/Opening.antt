@@ -1,8 +1,11 @@
 -- A store that was opened from files, by what the files held.
 use Rattle.std.proofs.Common.{◌≡◌, ◌∙◌, ap, inl, inr, subst, sym, ℕ, None}
 use Rattle.std.specs.Prelude.{◌⊎◌}
+use Rattle.std.proofs.Math.Logic.{∥∥₁_elim}
 use Rattle.sqlite_disk.specs.declared.Disk.{Ghosts}
+use Rattle.sqlite_disk.specs.declared.Files.{Files}
 use Rattle.sqlite_wal.specs.Recovery.{Image}
+use Rattle.sqlite_trees.specs.Props.{Trees-set}
 use Rattle.sqlite_trees.specs.Tree.{Trees}
 use Rattle.sqlite_trees.specs.Objects.{catalog_tree}
 use Rattle.sqlite_catalog.specs.Listing.{Lists}
@@ -10,7 +13,7 @@ use Rattle.sqlite_catalog.proofs.ReadLemmas.{lists_once}
 use Rattle.sqlite_store.specs.declared.store.FileStore.{FileStore}
 use Rattle.sqlite.proofs.ListingLemmas.{empty_is_sound}
 use Rattle.sqlite.specs.Effect.{Database}
-use Rattle.sqlite.specs.Files.{over_files, file_state, HoldsDatabase, IsNothing, IsOpened}
+use Rattle.sqlite.specs.Files.{over_files, file_state, image_of, Finds, HoldsDatabase, IsNothing, IsOpened}
 use Rattle.sqlite.specs.Held.{Held}
 use Rattle.sqlite.specs.Schema.{Schema}
 use Rattle.sqlite.specs.Start.{FindsIn}
@@ -30,14 +33,14 @@ pub record ImageHoldsArchive (image : Image) (archive : Archive) : Type 0 where
   pub number : ℕ
   pub is_known_version : IsKnownVersion number
   pub trees : Trees
-  pub database : HoldsDatabase image trees
+  pub database : ∥ HoldsDatabase image trees ∥₁
   pub schema : Lists (trees catalog_tree) (schema_of_version number)
   pub are_tables_of_version : AreTablesOfVersion number trees
   pub rows_stand_for_archive : archive_of_version number trees ≡ archive
 
 -- No table was made yet: the database file is absent, empty or left half made by an open, or its catalog is empty.
 abbrev pub IsNewFile : Image → Type 0
-IsNewFile image = IsNothing image ⊎ ((trees : Trees) × HoldsDatabase image trees × Lists (trees catalog_tree) empty_schema)
+IsNewFile image = IsNothing image ⊎ ((trees : Trees) × ∥ HoldsDatabase image trees ∥₁ × Lists (trees catalog_tree) empty_schema)
 
 -- The files hold tables that stand for this archive; or they are new, and this is the empty archive.
 abbrev pub FileHoldsArchive : Image → Archive → Type 0
@@ -51,7 +54,24 @@ module _ {D : Type 0} {g : Ghosts D} (image : Image) (store : Store (FileStore D
     pub is_opened : HasCleanDisk (file_state connection) → IsOpened connection
     pub is_adopted : IsAdopted over_files connection store
 
+-- A connection found what these files held, and the store took it over. It is said that the disk had returned what was written to it when
+-- they were opened, too.
+pub record IsOpenedFromFiles {D : Type 0} {g : Ghosts D} (files : Files D) (store : Store (FileStore D g)) : Type 0 where
+  pub connection : Held (FileStore D g)
+  pub finds_files : HasCleanDisk (file_state connection) → Finds files connection
+  pub is_opened : HasCleanDisk (file_state connection) → IsOpened connection
+  pub is_adopted : IsAdopted over_files connection store
+
 -- ---- the laws of a system's device
+
+-- what was found in files was found in what they held
+pub opened_from_image : {D : Type 0} {g : Ghosts D} (files : Files D) (store : Store (FileStore D g)) → IsOpenedFromFiles files store → IsOpenedFromImage (image_of g files) store
+opened_from_image files store was = record {
+  connection = was.connection;
+  finds_image = λ clean. record { holds = (was.finds_files clean).holds; reads = (was.finds_files clean).reads };
+  is_opened = was.is_opened;
+  is_adopted = was.is_adopted;
+}
 
 module _ {D : Type 0} {g : Ghosts D} (image : Image) (connection : Held (FileStore D g)) (opens : IsOpened connection) where
   -- a catalog lists one schema only
@@ -59,8 +79,8 @@ module _ {D : Type 0} {g : Ghosts D} (image : Image) (connection : Held (FileSto
   has_schema trees schema same lists =
       lists_once _ _ _ (subst (λ (db : Trees). Lists (db catalog_tree) (file_state connection).now.schema) same (opens.1 opens.0.is_open).0.lists) lists
 
-  found_trees : FindsIn image (file_state connection) → (trees : Trees) → HoldsDatabase image trees → (file_state connection).now.trees ≡ trees
-  found_trees found trees held = ap (λ (db : Database). db.trees) opens.0.clean ∙ found.holds trees held
+  found_trees : FindsIn image (file_state connection) → (trees : Trees) → ∥ HoldsDatabase image trees ∥₁ → (file_state connection).now.trees ≡ trees
+  found_trees found trees held = ap (λ (db : Database). db.trees) opens.0.clean ∙ ∥∥₁_elim held (Trees-set _ _) (found.holds trees)
 
   pub finds_no_table : FindsIn image (file_state connection) → IsNewFile image → (file_state connection).now.schema ≡ empty_schema
   finds_no_table found (inl nothing) =

@@ -28,20 +28,29 @@ pub trait ArchiveDatabases<T: Alter>: Databases<Store<T>> {
 
 impl<'a, S: Start> ArchiveDatabases<FileStore<FileFrom<S>>>
     for SystemDatabases<'a, HostRuntime, S, FileFrom<S>> {
-    ghost use Rattle.std.specs.Prelude.{refl};
+    ghost use Rattle.std.specs.Prelude.{refl, option_map, string_bytes};
     ghost use Rattle.std.proofs.Common.{◌∙◌, inl};
     ghost use Rattle.sqlite_wal.specs.Files.{image_at};
-    ghost use Rattle.archive.specs.Laws.{closed_database_holds, opened_store_holds, unopened_database_holds};
+    ghost use Rattle.archive.specs.Laws.{closed_database_holds, named_as_opened, opened_store_holds, unopened_database_holds};
 
-    ghost opens_held = { λ old new file store archive held opened. opened_store_holds (image_at S.Start) old.start old.left archive store held opened.0 opened.2 };
+    ghost opens_held = { λ old new file store archive held opened.
+        opened_store_holds ⟦<FileFrom<S> as Disk>⟧ (λ it. inl refl)
+        ⟦<HostRuntime as HasRandom>⟧.seeds ⟦<HostRuntime as HasDatabaseFiles>⟧.opens old.rt.now file (image_at S.Start)
+        old.start (option_map string_bytes old.known) (option_map string_bytes new.known) old.left new.left store archive held opened.1 };
 
     ghost closes_held = { λ old device new file before after archive held opened closed returned tables.
-        closed_database_holds (image_at S.Start) new.start new.left after (closed.0 ∙ opened.1) closed.1 tables };
+        closed_database_holds (image_at S.Start) new.start (option_map string_bytes new.known) (option_map string_bytes device.known) file new.left after
+        (closed.0 ∙ opened.0) closed.1
+        (named_as_opened ⟦<FileFrom<S> as Disk>⟧ (λ it. inl refl)
+        ⟦<HostRuntime as HasRandom>⟧.seeds ⟦<HostRuntime as HasDatabaseFiles>⟧.opens old.rt.now file (image_at S.Start)
+        old.start (option_map string_bytes old.known) (option_map string_bytes device.known) old.left device.left before archive held opened.1)
+        closed.2 tables };
 
     ghost unopened_held = { λ old new file fault archive held unopened.
         unopened_database_holds ⟦<FileFrom<S> as Disk>⟧ (λ it. inl refl)
-        ⟦<HostRuntime as HasRandom>⟧.seeds ⟦<HostRuntime as HasDatabaseFiles>⟧.opens old.rt.now file (image_at S.Start) fault
-        old.start new.start old.left new.left unopened.1 unopened.4 archive held };
+        ⟦<HostRuntime as HasRandom>⟧.seeds ⟦<HostRuntime as HasDatabaseFiles>⟧.opens old.rt.now file (image_at S.Start)
+        old.start new.start (option_map string_bytes old.known) (option_map string_bytes new.known) old.left new.left fault
+        unopened.0 unopened.1 archive held };
 }
 
 /// The kinds of a system's devices, over databases `B` whose pages lie in `T`.
@@ -82,7 +91,7 @@ impl<
     ghost unopened_held = { B.unopened_held };
 }
 
-/// The devices of a system, over these databases and streams.
+/// Returns the devices of a system, over these databases and streams. It opens nothing, and no clause says that the devices are these.
 pub fn make_environment<
     'a,
     T: Alter + Drop,

@@ -62,7 +62,7 @@ fn carry_out<R: HasArguments + AllocGlobal, Y: Platform>(
     ExitCode::from(run_line(rt, world))
 }
 
-/// Makes the devices of the system, over these databases and the standard streams.
+/// Makes the devices of the system, over these databases and the standard streams, and carries out what the command line orders.
 fn run_over<T: Alter + Drop, B: ArchiveDatabases<T> + Drop>(
     rt: &HostRuntime,
     databases: B,
@@ -79,11 +79,12 @@ fn run_over<T: Alter + Drop, B: ArchiveDatabases<T> + Drop>(
     carry_out(rt, &mut world)
 }
 
-/// Makes the databases of the system. `start` stands for what the file of a database holds before it is opened.
+/// Makes the databases of the system, and runs over them. `start` stands for what the file of a database holds before it is opened.
 fn run_from<S: Start>(rt: &HostRuntime, start: S) -> ExitCode {
     let databases = SystemDatabases {
         rt,
         start: Some(start),
+        known: None,
         left: None,
     };
     run_over::<FileStore<FileFrom<S>>, _>(rt, databases)

@@ -37,7 +37,7 @@ fn room_for_pages(rt: &HostRuntime) -> u64
 }
 
 /// How many pages of the file are kept in memory: all, and some that may come to it, or few. A file of which all are kept is
-/// read twice as it is opened, and then no more; of another one each test of a table or an index reads all pages again.
+/// read twice when it is opened, and then no more. Of another file each test of a table or an index reads all pages again.
 pub fn pages_to_keep(rt: &HostRuntime, name: &str) -> usize
     ensures few { FEW_PAGES ≤ result }
     ensures most { result ≤ MOST_PAGES }

@@ -33,7 +33,8 @@ pub trait HasDatabaseFiles: HasRandom {
     fn pages_for(&self, name: &str) -> usize
         ensures { keeps self.now name.now result };
 
-    /// The database file of this name and its log, which are made where they are not there, and which held what `start` stands for.
+    /// The database file of this name and its log, which are made if they are not there, and which held what `start` stands for. Or why
+    /// the system did not open them.
     fn open_pair<S: Start>(&self, name: &str, start: S) -> Result<Files<FileFrom<S>>, OpenError>
         ensures opened { MatchResult result (λ _. opens self.now name.now None) (λ error. opens self.now name.now (Some error)) }
         ensures log { IfOk result (λ files. IsTrue (file_is_usable S.Start files.log)) }
