@@ -6,22 +6,23 @@ use Rattle.std.proofs.lemmas.Slice.Eq.{bytes_eq-Decides}
 use Rattle.archive_port.specs.declared.state.ArchiveState.{Ghosts}
 use Rattle.policy_core.specs.Verdict.{denied}
 use Rattle.archive_model.specs.Records.{Archive, Message}
-use Rattle.archive_model.specs.Questions.{message_of}
+use Rattle.archive_model.specs.Questions.{list_refusal, message_of}
 use Rattle.archive_port.specs.Told.{memory_refusal_count}
-use Rattle.archive_port.specs.Told.{AnswersFromStoreUnder, StoreHasCleanDisk, HoldsTables, IsOpen, StaysOpenUnlessDiskFails, archive_in}
+use Rattle.archive_port.specs.Told.{AnswersStoreQuestion, StoreHasCleanDisk, HoldsTables, IsOpen, StaysOpenUnlessDiskFails, archive_in}
+use Rattle.archive_port.specs.declared.faults.StoreFault.{StoreFault}
 use Rattle.archive_port.proofs.Joins.{goes_in_as}
 use Rattle.archive_results.specs.Access.{Ask, Asked, MessageFacts, ReaderFacts, absent, asked_under_ruling, asked_for_key, asked_of_message, denied_by, message_facts, ruling_on}
 use Rattle.archive_desk.specs.Asking.{DeterminesVerdicts}
 use Rattle.archive_desk.specs.Causes.{IsMessageUnreadable, IsReaderUnreadable}
 use Rattle.archive_desk.specs.Ending.{EndsDeskCall, EndsDeskQuestion}
-use Rattle.archive_desk.specs.Faults.{IsAskFault, ask_reason, missing_list_reason, refusal_reason}
+use Rattle.archive_desk.specs.Faults.{IsAskFault, ask_reason, desk_error_of, missing_list_reason, refusal_reason}
 use Rattle.archive_desk.specs.Holding.{AnswersFromStoreTables, RelatesTableArchives}
 use Rattle.archive_desk.specs.declared.faults.DeskError.{DeskError}
-use Rattle.archive_desk.proofs.AskLemmas.{no_such_list}
-use Rattle.archive_desk.proofs.CallLemmas.{asks_last, calls_after}
+use Rattle.archive_desk.proofs.AskLemmas.{desk_declined, never_declined, no_such_list}
+use Rattle.archive_desk.proofs.CallLemmas.{calls_after, calls_last, store_asked}
 use Rattle.archive_desk.proofs.EndLemmas.{ask_after}
 use Rattle.archive_desk.proofs.MarkLemmas.{asked_alike}
-use Rattle.archive_cache.specs.Coherence.{IsCacheCoherent, AreWithheldCoherent, AreCoherent, IsWithheldCoherent, KeepsCacheCoherent}
+use Rattle.archive_cache.specs.Coherence.{AnswersOfFoundList, IsCacheCoherent, AreWithheldCoherent, AreCoherent, IsWithheldCoherent, KeepsCacheCoherent}
 use Rattle.archive_cache.specs.Views.{IsCacheBounded, CachesWithheldMessage, CachedView, CacheState, WithheldMessage, is_withheld_message, cached_message_facts}
 
 -- ---- marks that are kept
@@ -93,30 +94,36 @@ none_held ask reader (Some m) is = absurd (cc)
 
 -- ---- a message that is read
 
+-- a question that no reason refuses
+pub unrefused_of_list : {S W : Type 0} (g : Ghosts S W) (old new : S) (ask : Ask) {A : Type 0} (Says : Archive → A → Type 0) (fault : StoreFault) → StaysOpenUnlessDiskFails g old new
+    → AnswersStoreQuestion g old new {A = A} (Err fault) (λ _. None) Says → AnswersOfFoundList g old new ask {A = A} (Err (desk_error_of fault)) Says
+unrefused_of_list g old new ask {A = A} Says fault lasts it =
+    let refuses : Archive → _ = λ a. list_refusal a ask.list in
+    desk_declined g old new refuses Says fault (never_declined g old new refuses Says fault (store_asked g {A = A} old new (Err fault) (λ _. None) Says lasts it))
+
 module _ {S W : Type 0} (g : Ghosts S W) (ask : Ask) (reader : ReaderFacts) (key : List ℕ) {X : Type 0} (say : X → Asked) where
   abbrev Says : Archive → X → Type 0
   Says a answer = say answer ≡ asked_of_message ask reader (message_of a ask.list key)
 
   -- what is kept is as it was
   pub read_kept : (old new : S) (kept : List WithheldMessage) (result : Result X DeskError)
-      → AnswersFromStoreUnder g (HoldsTables g) old new refusal_reason result (λ a. missing_list_reason a ask) Says
-      → AnswersFromStoreUnder g (HoldsTables g) old new refusal_reason result (λ a. missing_list_reason a ask) (λ a answer. Says a answer × (AreWithheldCoherent a kept → AreWithheldCoherent a kept))
+      → AnswersOfFoundList g old new ask result Says
+      → AnswersOfFoundList g old new ask result (λ a answer. Says a answer × (AreWithheldCoherent a kept → AreWithheldCoherent a kept))
   read_kept old new kept (Ok answer) it =
-      goes_in_as g (HoldsTables g) old new (λ a b. (b ≡ a) × (missing_list_reason a ask ≡ None) × Says a answer)
-      (λ a b. (b ≡ a) × (missing_list_reason a ask ≡ None) × (Says a answer × (AreWithheldCoherent a kept → AreWithheldCoherent a kept)))
-      (λ a b h. (h.0, h.1, (h.2, (λ are. are)))) it
+      goes_in_as g (HoldsTables g) old new (λ a b. (b ≡ a) × Says a answer)
+      (λ a b. (b ≡ a) × (Says a answer × (AreWithheldCoherent a kept → AreWithheldCoherent a kept)))
+      (λ a b h. (h.0, (h.1, (λ are. are)))) it
   read_kept old new kept (Err fault) it = it
 
   -- behind its marks
   pub read_behind : (old mid new : S) (found : Option MessageFacts)
       → RelatesTableArchives g old mid (λ a b. (b ≡ a) × (missing_list_reason a ask ≡ None) × (found ≡ option_map (message_facts None) (message_of a ask.list key))) → (result : Result X DeskError)
-      → AnswersFromStoreUnder g (HoldsTables g) mid new refusal_reason result (λ a. missing_list_reason a ask) Says
-      → AnswersFromStoreUnder g (HoldsTables g) old new refusal_reason result (λ a. missing_list_reason a ask) Says
+      → AnswersOfFoundList g mid new ask result Says → AnswersOfFoundList g old new ask result Says
   read_behind old mid new found first result read = calls_after g (HoldsTables g) old mid new refusal_reason
       (λ a b. (b ≡ a) × (missing_list_reason a ask ≡ None) × (found ≡ option_map (message_facts None) (message_of a ask.list key)))
-      (λ a b answer. (b ≡ a) × (missing_list_reason a ask ≡ None) × Says a answer) (λ a b answer. (b ≡ a) × (missing_list_reason a ask ≡ None) × Says a answer)
+      (λ a b answer. (b ≡ a) × Says a answer) (λ a b answer. (b ≡ a) × Says a answer)
       (λ a b why. (b ≡ a) × (missing_list_reason a ask ≡ Some why)) (λ a b why. (b ≡ a) × (missing_list_reason a ask ≡ Some why)) (λ a b _. b ≡ a) (λ a b _. b ≡ a)
-      (λ a b c answer before it. (it.0 ∙ before.0, before.1, it.2 ∙ ap (λ x. asked_of_message ask reader (message_of x ask.list key)) before.0))
+      (λ a b c answer before it. (it.0 ∙ before.0, it.1 ∙ ap (λ x. asked_of_message ask reader (message_of x ask.list key)) before.0))
       (λ a b c why before it. (it.0 ∙ before.0, subst (λ x. missing_list_reason x ask ≡ Some why) before.0 it.1))
       (λ a b c fault before it. it ∙ before.0) result first read
 
@@ -130,18 +137,19 @@ module _ {S W : Type 0} (g : Ghosts S W) (ask : Ask) (reader : ReaderFacts) (key
   abbrev Answered : Archive → X → Type 0
   Answered a answer = IsCacheCoherent a ask.rules ask.day kept → say answer ≡ asked_for_key a ask key
 
-  module _ (result : Result X DeskError) (read : AnswersFromStoreUnder g (HoldsTables g) mid new refusal_reason result (λ a. missing_list_reason a ask) Reads) where
+  module _ (result : Result X DeskError) (read : AnswersOfFoundList g mid new ask result Reads) where
     read_lasts : StaysOpenUnlessDiskFails g mid new
-    read_lasts = asks_last g (HoldsTables g) mid new refusal_reason (λ a. missing_list_reason a ask) Reads result read
+    read_lasts = calls_last g (HoldsTables g) mid new refusal_reason (λ a b answer. (b ≡ a) × Reads a answer)
+        (λ a b why. (b ≡ a) × (missing_list_reason a ask ≡ Some why)) (λ a b _. b ≡ a) result read
 
     pub read_then : AnswersFromStoreTables g old new refusal_reason result (λ a. ask_reason a ask) Answered
     read_then = calls_after g (HoldsTables g) old mid new refusal_reason (λ a b. (b ≡ a) × (ask_reason a ask ≡ None) × DeterminesVerdicts a ask reader)
-        (λ a b answer. (b ≡ a) × (missing_list_reason a ask ≡ None) × Reads a answer) (λ a b answer. (b ≡ a) × (ask_reason a ask ≡ None) × Answered a answer)
+        (λ a b answer. (b ≡ a) × Reads a answer) (λ a b answer. (b ≡ a) × (ask_reason a ask ≡ None) × Answered a answer)
         (λ a b why. (b ≡ a) × (missing_list_reason a ask ≡ Some why)) (λ a b why. (b ≡ a) × (ask_reason a ask ≡ Some why)) (λ a b _. b ≡ a) (λ a b _. b ≡ a)
         (λ a b c answer first it. (
           it.0 ∙ first.0,
           first.1,
-          (λ are. it.2.0 ∙ ap (λ x. asked_of_message ask reader (message_of x ask.list key)) first.0 ∙ asked_alike a ask reader first.2 (message_of a ask.list key)),
+          (λ are. it.1.0 ∙ ap (λ x. asked_of_message ask reader (message_of x ask.list key)) first.0 ∙ asked_alike a ask reader first.2 (message_of a ask.list key)),
         ))
         (λ a b c why first it. (it.0 ∙ first.0, no_such_list a ask why (subst (λ x. missing_list_reason x ask ≡ Some why) first.0 it.1)))
         (λ a b c fault first it. it ∙ first.0) result known read
@@ -152,7 +160,7 @@ module _ {S W : Type 0} (g : Ghosts S W) (ask : Ask) (reader : ReaderFacts) (key
         result (λ a. IsMessageUnreadable a ask key) (λ a. IsMessageUnreadable a ask key ⊎ IsReaderUnreadable a ask) (λ a bad. inl bad) it up
 
   -- what is kept stays of the archive
-  marks_stay : (result : Result X DeskError) → AnswersFromStoreUnder g (HoldsTables g) mid new refusal_reason result (λ a. missing_list_reason a ask) Reads
+  marks_stay : (result : Result X DeskError) → AnswersOfFoundList g mid new ask result Reads
       → IfErr result (λ _. later ≡ kept) → later ≡ record kept { withheld = later.withheld } → StoreHasCleanDisk g new → StoreHasCleanDisk g mid → HoldsTables g old
       → IsCacheCoherent (archive_in g old) ask.rules ask.day kept → IsCacheCoherent (archive_in g old) ask.rules ask.day later
   marks_stay (Err fault) read same rest returned there held are = subst (λ k. IsCacheCoherent (archive_in g old) ask.rules ask.day k) (sym same) are
@@ -161,10 +169,10 @@ module _ {S W : Type 0} (g : Ghosts S W) (ask : Ask) (reader : ReaderFacts) (key
       let first = known.1 there held in
       let it = read.1 returned first.0 in (
         subst (λ (vs : List CachedView). AreCoherent a ask.rules ask.day vs) (sym (ap (λ (k : CacheState). k.views) rest)) are.0,
-        subst (λ x. AreWithheldCoherent x later.withheld) first.1.0 (it.1.2.1 (subst (λ x. AreWithheldCoherent x kept.withheld) (sym first.1.0) are.1)),
+        subst (λ x. AreWithheldCoherent x later.withheld) first.1.0 (it.1.1.1 (subst (λ x. AreWithheldCoherent x kept.withheld) (sym first.1.0) are.1)),
       )
 
-  pub read_keeps : (result : Result X DeskError) → AnswersFromStoreUnder g (HoldsTables g) mid new refusal_reason result (λ a. missing_list_reason a ask) Reads
+  pub read_keeps : (result : Result X DeskError) → AnswersOfFoundList g mid new ask result Reads
       → IfErr result (λ _. later ≡ kept) → later ≡ record kept { withheld = later.withheld } → (IsCacheBounded kept → IsCacheBounded later) → (StoreHasCleanDisk g mid → IsOpen g old)
       → KeepsCacheCoherent g old new ask.rules ask.day kept later
   read_keeps result read same rest bounded up =

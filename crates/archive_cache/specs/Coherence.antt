@@ -7,7 +7,7 @@ use Rattle.archive_model.specs.Questions.{message_of}
 use Rattle.archive_port.specs.Told.{StoreHasCleanDisk, HoldsTables, IsStoreClosed, archive_in}
 use Rattle.archive_results.specs.Access.{Ask, ReaderFacts, message_facts}
 use Rattle.archive_desk.specs.Asking.{DeterminesVerdicts}
-use Rattle.archive_desk.specs.Faults.{ask_reason, refusal_reason}
+use Rattle.archive_desk.specs.Faults.{ask_reason, missing_list_reason, refusal_reason}
 use Rattle.archive_desk.specs.Holding.{CallsStoreWithTables}
 use Rattle.archive_desk.specs.declared.faults.DeskError.{DeskError}
 use Rattle.archive_cache.specs.ListIndexes.{index_for_ask}
@@ -47,6 +47,12 @@ pub record KeepsCacheCoherent {S W : Type 0} (g : Ghosts S W) (old new : S) (rul
   pub when_store_closed : StoreHasCleanDisk g new → IsStoreClosed g old → kept_new ≡ kept_old
   pub capacity_is_same : kept_new.most ≡ kept_old.most
   pub cache_stays_bounded : IsCacheBounded kept_old → IsCacheBounded kept_new
+
+-- A question of a list that the caller found there. It leaves the archive, is refused only if there is no such list, and is else answered by a
+-- value of which this holds.
+abbrev pub AnswersOfFoundList : {S W : Type 0} (g : Ghosts S W) (old new : S) (ask : Ask) → {A : Type 0} → Result A DeskError → (Archive → A → Type 0) → Type 0
+AnswersOfFoundList g old new ask result Says = CallsStoreWithTables g old new refusal_reason result
+    (λ a b answer. (b ≡ a) × Says a answer) (λ a b why. (b ≡ a) × (missing_list_reason a ask ≡ Some why)) (λ a b _. b ≡ a)
 
 -- A call that is handed the marks of a reader, and answers a place. The store changes nothing, and says which list or person there is
 -- not. Where the marks are enough to know and what was kept is of the archive, the outline at the place is that of the part of the view,

@@ -192,7 +192,7 @@ fn make_room(views: &mut Vec<CachedView>, most: usize, weight: usize)
 }
 
 impl Cache {
-    /// Nothing is kept yet, and at most so many bytes will be, or one view alone.
+    /// Nothing is cached yet, and at most so many bytes will be, or one view alone.
     pub fn new(alloc: Global, most: usize) -> Cache
         ensures { result ≡ empty_cache most }
     {
@@ -203,7 +203,7 @@ impl Cache {
         }
     }
 
-    /// The outline at a place. `None` where none is.
+    /// The outline at a place. `None` if no outline is cached at that place.
     pub fn outline(&self, place: usize) -> Option<&ListIndex>
         ensures outline { option_copied result ≡ cached_index_at self.entry.now place }
         ensures bounded { IsCacheBounded self.entry.now }
@@ -216,7 +216,7 @@ impl Cache {
         }
     }
 
-    /// The place of the view of a part of a list for readers of these marks, if it is kept.
+    /// The place of the view of a part of a list for readers of these marks, if it is cached.
     pub(crate) fn find(
         &self,
         list: &str,
@@ -229,7 +229,7 @@ impl Cache {
         place_of(&self.views, list, reader, part)
     }
 
-    /// The place of the line of a key in the view of a whole list for readers of these marks, if that view is kept.
+    /// The place of the line of a key in the view of a whole list for readers of these marks, if that view is cached.
     pub(crate) fn find_line(&self, list: &str, reader: &ReaderFacts, key: &Key) -> Option<usize>
         ensures { result ≡ cached_line_place self.now list.now reader.now key.now }
     {
@@ -237,7 +237,7 @@ impl Cache {
         self.outline(view)?.place_of(key)
     }
 
-    /// Keeps one view more, and answers its place. As many are let go as it takes that it fits beside the others: months and authors
+    /// Caches one view more, and answers its place. As many are let go as it takes that it fits beside the others: months and authors
     /// first, and of the two kinds the oldest.
     pub(crate) fn put(
         &mut self,
@@ -265,7 +265,7 @@ impl Cache {
         Ok(place)
     }
 
-    /// Keeps a month or an author in the same way, made of the outline of the whole list that stands at a place.
+    /// Caches a month or an author in the same way, made of the outline of the whole list that stands at a place.
     pub(crate) fn put_part(
         &mut self,
         alloc: Global,
@@ -287,14 +287,14 @@ impl Cache {
         self.put(alloc, list, reader, part, outline)
     }
 
-    /// The marks that are kept of the message of a list and key, where it is not the reader's own.
+    /// The marks that are cached of the message of a list and key, for when it is not the reader's own.
     pub(crate) fn marks(&self, list: &str, key: &Key) -> Option<MessageFacts>
         ensures { result ≡ cached_message_facts self.now list.now key.now }
     {
         find_marks(&self.withheld, list, key)
     }
 
-    /// Keeps the marks of a message that was withheld. The oldest are let go for them; where memory is refused, they are not kept.
+    /// Caches the marks of a message that was withheld. The oldest are let go for them; if memory is refused, they are not cached.
     pub(crate) fn put_marks(&mut self, alloc: Global, list: &str, key: &Key, marks: MessageFacts)
         ensures kept { CachesWithheldMessage self.old.withheld self.new.withheld
             (record { list = list.now; key = key.now; marks = marks }) }

@@ -113,12 +113,12 @@ fn find_part<T: Threader, S: ArchiveStore>(
     }
 }
 
-/// The place of the outline of a part of the view: one that is kept, or that is made now, and kept. A month and an author are made of
-/// the outline of the whole list, so that no text is read for them where that is kept. The store is asked for the list and the reader
-/// each time. Where what was kept is of the archive that the store remembers, under the policy and on the day of the question, the
-/// outline is that of the view, and what is kept then is of that archive too; it never weighs more than it may. The place is good until
-/// the next call. G1 where there is no such list, G2 where there is no such person; G5 where no memory is left, G4 where the store
-/// has none or fails.
+/// The place of the outline of a part of the view: one that is cached, or that is made now, and cached. A month and an author are made
+/// of the outline of the whole list, so that no text is read for them if that is cached. The store is asked for the list and the reader
+/// each time. If what was cached is of the archive that the store remembers, under the policy and on the day of the question, the
+/// outline is that of the view, and what is cached then is of that archive too; it never weighs more than it may. The place is good
+/// until the next call. G1 if there is no such list, G2 if there is no such person; G5 if no memory is left, G4 if the store has none
+/// or fails.
 pub fn get_or_build_index<T: Threader, S: ArchiveStore>(
     store: &mut S,
     kept: &mut Cache,

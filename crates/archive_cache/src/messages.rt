@@ -1,29 +1,29 @@
 //! A message, asked for by its key: withheld by its marks, which are kept or a store has, or read of a store.
-ghost use Rattle.std.specs.Prelude.{◌≡◌, ◌⊎◌, IfErr, IfSome};
+ghost use Rattle.std.specs.Prelude.{◌≡◌, ◌⊎◌, IfErr, IfSome, option_map};
 ghost use Rattle.archive_model.specs.Records.{Archive};
 ghost use Rattle.archive_model.specs.Questions.{message_of};
+ghost use Rattle.archive_model.specs.Messages.{archived_message};
 ghost use Rattle.archive_results.specs.Access.{asked_for_key, asked_of_message, denied_by, spec_asked};
-ghost use Rattle.archive_port.specs.Told.{AnswersFromStoreUnder, HoldsTables};
 ghost use Rattle.archive_port.specs.Crashes.{WritesNothing};
 ghost use Rattle.archive_desk.specs.Asking.{DeterminesVerdicts};
 ghost use Rattle.archive_desk.specs.Causes.{IsMessageUnreadable, IsReaderUnreadable};
 ghost use Rattle.archive_desk.specs.Ending.{EndsDeskCall, EndsDeskQuestion};
-ghost use Rattle.archive_desk.specs.Faults.{IsAskFault, ask_reason, missing_list_reason, refusal_reason};
+ghost use Rattle.archive_desk.specs.Faults.{IsAskFault, ask_reason, refusal_reason};
 ghost use Rattle.archive_desk.specs.Holding.{AnswersFromStoreTables};
-ghost use Rattle.archive_cache.specs.Coherence.{IsCacheCoherent, AreWithheldCoherent, ChangesOnlyWithheld, KeepsCacheCoherent};
+ghost use Rattle.archive_cache.specs.Coherence.{AnswersOfFoundList, IsCacheCoherent, AreWithheldCoherent, ChangesOnlyWithheld, KeepsCacheCoherent};
 
 use crate::cache::Cache;
-use archive_desk::{DeskError, find_message_facts, find_row, resolve_reader};
+use archive_desk::{DeskError, find_message_facts, resolve_reader};
 use archive_model::Key;
-use archive_port::ArchiveStore;
+use archive_port::{ArchiveStore, Message};
 use archive_results::{Ask, Asked, ReaderFacts, asks_author, lookup_message, verdict};
 use policy_core::Verdict;
 use std::alloc::Global;
 
 /// The message of a key, as far as the policy lets the reader see it on the day. A message that the policy withholds is withheld by its
-/// marks, without a look at its text, and they are kept; where who wrote it matters to the reader, it is read. The store is asked for the
-/// list and the reader each time. Where what was kept is of the archive that the store remembers, this is the answer of
-/// `archive_desk::message`, and what is kept then is of that archive too. The refusals are those of `archive_desk::message`.
+/// marks, without a look at its text, and they are cached; if who wrote it matters to the reader, it is read. The store is asked for the
+/// list and the reader each time. If what was cached is of the archive that the store remembers, this is the answer of
+/// `archive_desk::message`, and what is cached then is of that archive too. The refusals are those of `archive_desk::message`.
 pub fn find_message<'p, S: ArchiveStore>(
     store: &mut S,
     kept: &mut Cache,
@@ -77,8 +77,7 @@ fn judge_message<'p, S: ArchiveStore>(
     reader: &ReaderFacts,
     key: &Key,
 ) -> Result<Asked<'p>, DeskError>
-    ensures asked { AnswersFromStoreUnder S.ArchiveState (HoldsTables S.ArchiveState) store.old store.new refusal_reason result
-        (λ a. missing_list_reason a ask.entry.now)
+    ensures asked { AnswersOfFoundList S.ArchiveState store.old store.new ask.entry.now result
         (λ a answer. spec_asked answer ≡ asked_of_message ask.entry.now reader.now
         (message_of a ask.entry.now.list key.now)
         × (AreWithheldCoherent a kept.old.withheld → AreWithheldCoherent a kept.new.withheld)) }
@@ -115,15 +114,14 @@ fn read_message<'p, S: ArchiveStore>(
     reader: &ReaderFacts,
     key: &Key,
 ) -> Result<Asked<'p>, DeskError>
-    ensures asked { AnswersFromStoreUnder S.ArchiveState (HoldsTables S.ArchiveState) store.old store.new refusal_reason result
-        (λ a. missing_list_reason a ask.entry.now)
+    ensures asked { AnswersOfFoundList S.ArchiveState store.old store.new ask.entry.now result
         (λ a answer. spec_asked answer ≡ asked_of_message ask.entry.now reader.now
         (message_of a ask.entry.now.list key.now)) }
     ensures ends { EndsDeskCall S.ArchiveState store.old store.new IsAskFault result
         (λ a. IsMessageUnreadable a ask.entry.now key.now) }
     ensures writes_nothing { WritesNothing S.ArchiveState store.old store.new }
 {
-    let held = match find_row(store, ask, key) {
+    let held = match find_listed(store, ask, key) {
         Ok(held) => held,
         Err(fault) => return Err(fault),
     };
@@ -134,4 +132,19 @@ fn read_message<'p, S: ArchiveStore>(
             Err(DeskError::Memory)
         }
     }
+}
+
+/// The message of a key in a list that was found, by one SELECT. `None` where the list does not hold it.
+fn find_listed<S: ArchiveStore>(
+    store: &mut S,
+    ask: &Ask<'_>,
+    key: &Key,
+) -> Result<Option<Message>, DeskError>
+    ensures held { AnswersOfFoundList S.ArchiveState store.old store.new ask.now result
+        (λ a found. option_map (archived_message ask.now.list) found ≡ message_of a ask.now.list key.now) }
+    ensures ends { EndsDeskCall S.ArchiveState store.old store.new IsAskFault result
+        (λ a. IsMessageUnreadable a ask.now key.now) }
+    ensures writes_nothing { WritesNothing S.ArchiveState store.old store.new }
+{
+    Ok(store.find(ask.list, key)?)
 }

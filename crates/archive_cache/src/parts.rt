@@ -17,7 +17,7 @@ pub enum ViewPart<'a> {
     Author(&'a [u8]),
 }
 
-/// The same, of a view that is kept.
+/// The same, of a view that is cached.
 #[derive(Drop)]
 pub(crate) enum OwnPart {
     Whole,
@@ -25,7 +25,7 @@ pub(crate) enum OwnPart {
     Author(Vec<u8>),
 }
 
-/// Keeps what is asked for. It takes memory for an author key alone.
+/// What is asked for, as it is cached. It takes memory for an author key alone.
 pub(crate) fn own_part(alloc: Global, part: &ViewPart<'_>) -> Result<OwnPart, Memory>
     ensures { IfOk result (λ own. model_owned_part own ≡ model_part part.now) }
 {

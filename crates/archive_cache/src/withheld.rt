@@ -33,7 +33,7 @@ fn is_of(kept: &KeptMarks, list: &str, key: &Key) -> bool
     kept.key.as_str() == key.as_str() && kept.list.as_str() == list
 }
 
-/// The marks that are kept of the message of a list and key.
+/// The marks that are cached of the message of a list and key.
 pub(crate) fn find_marks(kept: &[KeptMarks], list: &str, key: &Key) -> Option<MessageFacts>
     ensures { result ≡ option_map (λ (w : WithheldMessage). w.marks)
         (find (is_withheld_message list.now key.now) kept.now) }
@@ -51,7 +51,7 @@ fn make_room(kept: &mut Vec<KeptMarks>)
     kept.drain(..over);
 }
 
-/// Keeps the marks of one message more, and lets the oldest go for it. Where memory is refused, it keeps none.
+/// Caches the marks of one message more, and lets the oldest go for it. If memory is refused, it caches none.
 pub(crate) fn put_marks(
     kept: &mut Vec<KeptMarks>,
     alloc: Global,
