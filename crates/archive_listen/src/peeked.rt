@@ -56,6 +56,9 @@ impl<'a, R: Clock, S: Read + OpenStream> Peeked<'a, R, S> {
         ensures same { self.new.stream ≡ self.old.stream }
         ensures taken { OnOk result (self.new.taken.bytes ≡ self.old.taken.bytes + self.old.unread) }
     {
+        if self.unread == 0 {
+            return Ok(());
+        }
         let mut taken = [0; TAKEN];
         while self.unread > 0 {
             let most = self.unread.min(TAKEN);
