@@ -20,7 +20,7 @@ use Rattle.mbox_core.proofs.DivisionLaws.{front_divides}
 use Rattle.archive_model.specs.Records.{Archive}
 use Rattle.archive_model.specs.Commands.{list_add, withdraw, done}
 use Rattle.archive_model.specs.Filing.{item_index_columns}
-use Rattle.archive_model.specs.Machine.{default_list_option, keyed_message, step}
+use Rattle.archive_model.specs.Machine.{default_list_option, keyed_message, is_too_large, step}
 use Rattle.archive_model.specs.Runs.{run, taken}
 use Rattle.archive_tables.specs.Making.{empty_archive}
 use Rattle.archive_results.specs.Access.{message_facts, ruling_on}
@@ -77,7 +77,7 @@ imported = record listed {
 }
 
 both_taken : (taken listed soc (of_anna ∷ of_bob ∷ [])).archive ≡ imported
-unfolding run hex_on_literals sha256 digest_bytes hash_after compress rounds schedule first_words
+unfolding run hex_on_literals sha256 digest_bytes hash_after compress rounds schedule first_words is_too_large
 both_taken = refl
 
 -- the first is withdrawn by its author
