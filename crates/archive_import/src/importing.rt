@@ -25,12 +25,12 @@ use mbox_stream::Cutter;
 use std::alloc::{AllocError, Global};
 
 /// Adds the messages of an mbox (RFC 4155) to a list, as `import` does, and reads it piece by piece: it holds at most 4,000
-/// messages with 8 MB of texts, or one that is longer, and one piece. The list is looked up before the first read: E4 where
+/// messages with 8 MiB of texts, or one that is longer, and one piece. The list is looked up before the first read: E4 if
 /// there is no such list. M1: the first line that is not empty is no separator line; nothing was added. M2: a read failed,
 /// and all messages that were settled before it were done. M3: no memory was left to hold a message, or there were 2^64
 /// reads. E12, E14 (also after 2^64 messages), E15 as of `import`. After each stop the first `done` messages were taken in,
 /// known or too large, and no other was taken in (after E14 and E15 that is so if the connection is still open); the same
-/// input can be imported again. Wherever the machine stops, an open finds so many first messages of the input, and no other;
+/// input can be imported again. After a crash at any moment an open finds so many first messages of the input, and no other;
 /// once the call has returned an error, at least those that it told.
 pub fn import_from<S: ArchiveStore, R: Source>(
     store: &mut S,

@@ -1,4 +1,4 @@
-//! Taking an mbox that is read piece by piece into a list, in the memory of one piece and of 8 MB of texts, or of one message
+//! Taking an mbox that is read piece by piece into a list, in the memory of one piece and of 8 MiB of texts, or of one message
 //! that is longer.
 #![tactic(auto)]
 

@@ -14,14 +14,15 @@ use archive_model::laws::{
 };
 use thread_core::laws::each_message_is_in_one_row;
 
-/// The reply to a request is a function of what its reader sees: nothing else of an archive turns up in any reply.
+/// The reply to a request is a function of what its reader sees of the archive. Nothing else of an archive shows in any reply.
 #[tactic(auto, using(crate::proofs::SeenLemmas::of_what_is_seen))]
 pub fn replies_depend_on_visible_only()
     ensures { RepliesDependOnVisibleOnly }
 {}
 
-/// All that is seen can be asked for: two archives in order answer every request by one token alike exactly where the same is seen
-/// of them by it. The empty archive is in order, and one in order stays so, whatever is commanded.
+/// All that a reader sees can be asked for: two archives in order answer every request by one token alike exactly if the reader with this
+/// token sees the same of both (`exactly`). The empty archive is in order (`empty`), and one in order stays so after any commands, if what
+/// they add can be written (`commands`).
 pub fn replies_reveal_all_visible()
     ensures exactly { RepliesRevealAllVisible }
     ensures empty { IsWellFormedArchive empty_archive }

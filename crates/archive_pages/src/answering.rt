@@ -83,12 +83,11 @@ pub fn answer_cached<T: Threader, S: ArchiveStore, R: Source, W: Sink>(
     answer_read(store, pages, &read, output)
 }
 
-/// Answers one request: reads its head from `input`, writes the reply to `output`, and answers the
-/// status of the reply, which went out whole. The store stays as it is, and the next request can
-/// follow. S1 where the input failed before it told a head: nothing was written. S2 where the
-/// output failed. Where memory or the database refuses before the first byte of the reply, the
-/// reply is 503; S3 where it refuses later, as it can in an mbox, which is written message by
-/// message. After S2 and S3 exactly the first bytes of the reply went out, as many as they count.
+/// Answers one request: reads its head from `input`, writes the reply to `output`, and answers the status of the reply, which went
+/// out whole. The store remembers the same archive if it is still open; if it was open, it still is after any status but 503, and
+/// the next request can follow. S1 if the input failed before it told a head: nothing was written. S2 if the output failed. If
+/// memory or the database refuses before the first byte of the reply, the reply is 503; S3 if it refuses later, as it can in an
+/// mbox, which is written message by message. After S2 and S3 exactly the first bytes of the reply went out, as many as they count.
 pub fn answer<T: Threader, S: ArchiveStore, R: Source, W: Sink>(
     store: &mut S,
     alloc: Global,

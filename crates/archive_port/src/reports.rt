@@ -14,7 +14,7 @@ pub struct AddReport {
 }
 
 /// Where messages ceased to be added, for E4, E12, E14 or E15: the first `done` were taken in, known or too large, and no
-/// other was taken in; after E14 and E15 that is so if the connection is still open.
+/// other was taken in; after E14 and E15 that is so if the store is still open.
 #[derive(Clone, Copy, Debug, PartialEq, Eq)]
 pub struct AddError {
     /// How many of the messages were seen to.

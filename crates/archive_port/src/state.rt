@@ -1,6 +1,6 @@
-//! What clauses see of whoever holds an archive.
+//! What clauses see of what holds an archive.
 
-/// What clauses see of whoever holds an archive, whatever it lies in. What it is asked and answers has `ArchiveStore`.
+/// What clauses see of what holds an archive; `ArchiveStore` has its calls.
 pub trait ArchiveState {
     ghost use Rattle.std.specs.Prelude.{ℕ, Bool, List};
     ghost use Rattle.mbox_items.specs.Division.{Item};

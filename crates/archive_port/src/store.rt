@@ -13,9 +13,10 @@ use mbox_items::Item;
 use policy_core::Standing;
 use std::alloc::Global;
 
-/// Whoever holds an archive: each command is one step of the archive's machine, and each question is answered from the archive. A
-/// question leaves the archive, and writes nothing. A call is refused for one of E1 to E13, by what the archive holds; E14 says that
-/// there was no memory, and E15 that what it lies in failed, or holds what no command writes.
+/// What holds an archive: each command is one step of the archive's machine, and each question is answered from the archive. A
+/// question leaves the archive, and writes nothing. A call is refused for one of E1 to E13, by its arguments and by what the archive
+/// holds. E14 says that there was no memory. E15 says that what it lies in failed, or refused what the machine carries out, or holds
+/// what no command writes.
 pub trait ArchiveStore: ArchiveState {
     ghost use Rattle.std.specs.Prelude.{IsTrue, ◌≡◌, ◌≢◌, ◌≤◌, ◌-◌, [], ◌∷◌, None, IfOk, IfErr, length, drop, map, option_map, string_bytes, IsUtf8, MatchOption};
     ghost use Rattle.std.specs.List.{All};
@@ -159,7 +160,19 @@ pub trait ArchiveStore: ArchiveState {
         ensures left { Self.remaining_count walk.new ≡ Self.remaining_count walk.old - 1 };
 
     /// Carries a command out: one step of the archive's machine. What was found of its names before says what it answers: whether
-    /// there was a grant to revoke or an embargo to lift, and whether the list held a message that is added.
+    /// there was a grant to revoke or an embargo to lift, and whether the list held a message that is added. If several refusals
+    /// apply, the first is answered, in this order:
+    ///
+    /// - `ListAdd`: E1, E3
+    /// - `MergeSet`: E4
+    /// - `PersonAdd`: E1, E2, E5, E7
+    /// - `AddressSet`: E6, E2
+    /// - `Grant`: E6, E4, E11
+    /// - `Revoke`: E6, E4
+    /// - `Add`: E4, E13, and E12 unless the list holds the message
+    /// - `Withdraw`: E4, E8, E9
+    /// - `Restore`: E4, E8, E10
+    /// - `Embargo`, `Lift`: E4, E8
     fn carry(&mut self, command: &Command<'_>) -> Result<CommandFacts, StoreFault>
         ensures { ExecutesCommand Self.ArchiveState self.old self.new (spec_command command.now) result };
 
@@ -186,7 +199,8 @@ pub trait ArchiveStore: ArchiveState {
         ensures ends { EndsCheck Self.ArchiveState self.old self.new result }
         ensures writes_nothing { WritesNothing Self.ArchiveState self.old self.new };
 
-    /// One more: a call refused memory. Who answers that none is left calls it before. Only clauses read the count.
+    /// Counts one refusal of memory more, which the caller hands over. A call that answers that no memory is left calls it before.
+    /// Only clauses read the count.
     fn count_refusal(&mut self, why: MemoryRefusal)
         ensures counted { CountsOneRefusal Self.ArchiveState self.old self.new }
         ensures writes_nothing { WritesNothing Self.ArchiveState self.old self.new };

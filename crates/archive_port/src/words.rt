@@ -11,7 +11,7 @@ pub enum Added {
 impl Added {
     ghost use Rattle.archive_port.specs.Words.{new_or_known};
 
-    /// By whether the list held it.
+    /// Returns `Known` if the list held the message, else `New`.
     pub fn of(is_held: bool) -> Added
         ensures { result ≡ new_or_known is_held }
     {

@@ -50,10 +50,11 @@ impl Store<MemStore> {
 }
 
 impl<S: Alter> Store<S> {
-    /// Takes a connection over that is outside a transaction. Where the database has no table, index or view, the
-    /// tables of an archive are made. Else E15, unless it has as many objects as an archive of some version, 1 to 3, and the
-    /// table `version` holds one row, of the number of that version. Tables of an older version become those of this one, in
-    /// one transaction, and hold the same archive. A limit on the steps of a query is taken off.
+    /// Takes a connection over that is outside a transaction. If the database has no table, index or view, the tables of an
+    /// archive are made. Else E15, unless it has as many objects as an archive of some version, 1 to 3, and the table
+    /// `version` holds one row, of the number of that version. Tables of an older version become those of this one, in one
+    /// transaction, and hold the same archive. A limit on the steps of a query is taken off. E14 if no memory was left,
+    /// which the `wants` of the stop counts.
     pub fn adopt(connection: Connection<S>) -> Result<Store<S>, AdoptStop<S>>
         ensures adopted { IfOk result (λ store. IsAdopted S.Store connection store) }
         ensures refused { IfErr result (λ stop. IsNotAdopted S.Store connection stop) }

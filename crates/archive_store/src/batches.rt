@@ -44,8 +44,9 @@ pub(crate) enum Taken {
 }
 
 impl<S: Alter> Store<S> {
-    /// Adds messages to a list, one after the other, in transactions of many. One that is too large is passed over. E4
-    /// where there is no such list, E12 where the list holds 50,000 messages and the next is not on it.
+    /// Adds messages to a list, one after the other, in transactions of many. One that is too large is passed over. E4 if
+    /// there is no such list, E12 if the list holds 50,000 messages and the next is not on it. After E14 and E15 the first
+    /// `done` were taken in, known or too large, and no other was taken in, if the connection is still open.
     pub fn add_all(
         &mut self,
         alloc: Global,
@@ -95,7 +96,7 @@ impl<S: Alter> Store<S> {
 }
 
 /// Where the transaction ends that begins with this message: after 500 messages, or before the message with which its
-/// texts have more than 8 MB.
+/// texts have more than 8 MiB.
 fn batch_end(items: &[Item<'_>], from: usize) -> usize
     requires there { from < length items.now }
     ensures more { from < result }

@@ -46,8 +46,8 @@ pub fn an_open_store_stays_open_unless_its_disk_fails<S: Alter>()
         ⊎ MoreFaults (faults_of S.Store old) (faults_of S.Store new) }
 {}
 
-/// A stop of the machine between two calls leaves what an open archive remembers, and nothing else: so whatever was answered is
-/// there. `open_files` says that what it opens is live; and where a call left an archive open, each clause on what a stop leaves
+/// A crash between two calls leaves what an open archive remembers, and nothing else: so whatever was answered is there.
+/// `open_files` says that what it opens is live; and if a call left an archive open, each clause on what a crash leaves
 /// (`CrashAfterCommand`, `CrashRuns`, `CrashAddsAllBatches`) says enough.
 pub fn a_crash_between_calls_leaves_what_is_remembered<S: Alter>()
     ensures opened { (connection : Held S) → IsArchiveAtRest (state S.Store connection)
@@ -56,9 +56,9 @@ pub fn a_crash_between_calls_leaves_what_is_remembered<S: Alter>()
         → CrashLeavesArchiveWhere (state S.Store connection) (λ _. ⊤) → IsCrashSafe (state S.Store connection) }
 {}
 
-/// A stop in a command leaves the archive before it or the one that the machine makes, and behind a command that was answered
-/// the latter alone: where the command does and leaves what its clauses `step` and `crash` say. They are said of the end of a
-/// call, over any disk: over one that is frozen from some access on, a command ends with what a stop at that access leaves.
+/// A crash in a command leaves the archive before it or the one that the machine makes, and after a command that was answered
+/// the latter alone: if the command does and leaves what its clauses `step` and `crash` say. They are said of the end of a call,
+/// over any disk: over one that is frozen from some access on, a command ends with what a crash at that access leaves.
 pub fn a_crash_leaves_the_archive_before_a_command_or_after_it<S: Alter>()
     ensures { (old new : Held S) (step : Archive → StepOutcome) (reply : Option CommandReply)
         → PerformsModelStep S.Store old new step reply → CrashSteps S.Store old new step

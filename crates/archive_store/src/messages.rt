@@ -23,9 +23,10 @@ impl<S: Alter> Store<S> {
     ghost use Rattle.archive_port.specs.Replies.{reply_if_added, reply_if_done, reply_if_removed};
 
     /// Adds a message. A message whose key the list holds is known, and nothing changes: the first sender and arrival
-    /// stay. E4 where there is no such list, E13 where the whole text has more than 16,777,216 bytes, E12 where the list
-    /// holds 50,000 messages and not this one. Once a message of the archive has the number 50,000, each call counts the messages
-    /// of its list, which takes some 30 ms where there are 50,000; so does each addition by `run`, while `add_all` counts a list once.
+    /// stay. E4 where there is no such list, E13 where the whole text has more than 16,777,216 bytes or the sender more than
+    /// 900,000,000, E12 where the list holds 50,000 messages and not this one. Once a message of the archive has the number 50,000,
+    /// each call counts the messages of its list, which takes some 30 ms where there are 50,000; so does each addition by `run`, while
+    /// `add_all` counts a list once.
     pub fn add(&mut self, alloc: Global, list: &str, item: &Item<'_>) -> Result<Added, StoreFault>
         ensures step { PerformsModelStep S.Store (store_connection self.old) (store_connection self.new)
             (λ a. step a (add list.now item.now)) (reply_if_added result) }
@@ -66,8 +67,8 @@ impl<S: Alter> Store<S> {
         self.carry_done(&Command::Restore { list, key })
     }
 
-    /// Holds a message back on the days before this one; an earlier embargo is replaced. E4 where there is no such list,
-    /// E8 where it holds no such message.
+    /// Embargoes a message until this day, which is the first without the embargo; an earlier embargo is replaced. E4 if
+    /// there is no such list, E8 if it holds no such message.
     pub fn embargo(&mut self, list: &str, key: &Key, until: Day) -> Result<(), StoreFault>
         ensures step { PerformsModelStep S.Store (store_connection self.old) (store_connection self.new)
             (λ a. step a (embargo list.now key.now until)) (reply_if_done result) }

@@ -72,8 +72,9 @@ impl<S: Alter> Store<S> {
         outcome_of(command, self.carry(command))
     }
 
-    /// Carries commands out one after the other, with the outcome of each. Room for the outcomes is made before the
-    /// first command. To add many messages, call `add_all`, which is faster: it counts the list once, and commits many messages at once.
+    /// Carries commands out one after the other, with the outcome of each. Room for the outcomes is made before the first command.
+    /// After E14 and E15 the first `done` were carried out, and no other, if the connection is still open. To add many messages, call
+    /// `add_all`, which is faster: it counts the list once, and commits many messages at once.
     pub fn run(
         &mut self,
         alloc: Global,

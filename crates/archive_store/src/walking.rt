@@ -147,7 +147,8 @@ impl MessageWalk {
         self.places.len().saturating_sub(self.at)
     }
 
-    /// The next message. `None` where all were given.
+    /// The next message. `None` if all were given. After E14 and E15 as many messages are left as before, and the walk is where it
+    /// was if the connection is still open.
     pub fn next<S: Alter>(&mut self, store: &mut Store<S>) -> Result<Option<Message>, StoreFault>
         ensures given { GivesNext S.Store (walk_over_store store.old self.old) (walk_over_store store.new self.new) result }
         ensures left { MatchResult result (λ found. MatchOption found
@@ -167,7 +168,8 @@ impl MessageWalk {
     }
 
     /// The arrival and the marks of the next message, which stays the next: its row is read, and its text is not looked at. `None`
-    /// where all were given.
+    /// if all were given. After E14 and E15 as many messages are left as before, and the walk is where it was if the connection is
+    /// still open.
     pub fn peek_marks<S: Alter>(
         &mut self,
         store: &mut Store<S>,

@@ -1,4 +1,4 @@
-//! Laws of what is answered out of files and out of memory: each contract is a law over definitions, and no call does anything.
+//! Laws of what is answered from files and from memory: each contract is a law over definitions, and no call does anything.
 ghost use Rattle.std.specs.Prelude.{◌≡◌, ℕ, ℤ, List, Option, Result};
 ghost use Rattle.sqlite_disk.specs.declared.Files.{Files};
 ghost use Rattle.sqlite_store.specs.declared.store.FileStore.{FileStore};
@@ -32,9 +32,9 @@ use archive_store::laws::{
 };
 use sqlite_disk::Disk;
 
-/// A request to a file that was closed, opened again and taken over is answered out of the archive
-/// that the file held when it was closed, so out of the machine's run of the commands that made it:
-/// over any disk that keeps the clauses of `Disk` and returns what was written to it.
+/// A request to a file that was closed, opened again and adopted is answered from the archive that
+/// the file held when it was closed: over any disk that keeps the clauses of `Disk` and returned what
+/// was written to it.
 pub fn a_reopened_file_gives_the_same_replies<D: Disk>()
     ensures { (closed opened : Held (FileStore D D.Disk)) (files : Files D)
         (store new : Store (FileStore D D.Disk)) (archive : Archive)
@@ -43,10 +43,9 @@ pub fn a_reopened_file_gives_the_same_replies<D: Disk>()
     a_file_opened_again_holds_the_same_archive::<D>();
 }
 
-/// Whatever a stop of the machine cut off, the file that is opened again is answered out of the archive before the command or out of
-/// the one behind it, and behind a command that was answered out of the latter alone. The clauses `step` and `crash` of the command
-/// are said of the end of a call, over any disk: over one that is frozen from some access on, a command ends with what a stop at
-/// that access leaves.
+/// Wherever a crash cut a command off, each request to the file that is opened again is answered from one archive: the one before the
+/// command or the one after it, and if the command was answered, the one after it. The clauses `step` and `crash` of the command speak of
+/// the end of a call, over any disk: over a disk that fails from some access on, a command ends with what a crash at that access leaves.
 pub fn a_file_opened_after_a_crash_gives_replies_of_before_or_after<D: Disk>()
     ensures { (old cut opened : Held (FileStore D D.Disk)) (files : Files D)
         (store : Store (FileStore D D.Disk)) (step : Archive → StepOutcome) (reply : Option CommandReply)
@@ -55,16 +54,17 @@ pub fn a_file_opened_after_a_crash_gives_replies_of_before_or_after<D: Disk>()
     a_crash_leaves_the_archive_before_a_command_or_after_it::<sqlite::FileStore<D>>();
 }
 
-/// In memory each request is followed by the next, whatever was answered, 503 too: the store is
-/// ready for it, and remembers the same archive.
+/// In memory a store that held an archive before a request holds the same one after it, at rest,
+/// whatever was answered, 503 too. So the next request can follow.
 pub fn in_memory_each_request_leaves_the_store_ready()
     ensures { (old new : Store MemStore) (result : Result ℕ ServeFault)
         → StoreKeepsArchive (state_of over_memory) old new result
         → RelatesTableArchives (state_of over_memory) old new (λ a b. b ≡ a) }
 {}
 
-/// In memory, out of an archive that commands wrote, 503 and S3 mean that memory was refused in that
-/// call, by the count of the store: a disk does not fail there, and such an archive can be read.
+/// In memory, for an archive that can be read, and without a limit on the steps of a query, 503 and S3
+/// mean that memory was refused in that call, by the count of the store. An archive that commands wrote
+/// can be read, and a disk does not fail there.
 pub fn in_memory_503_means_that_memory_was_refused()
     ensures { (old new : Store MemStore) (result : Result ℕ ServeFault)
         (told_before told_after : List ℕ) (rules : List Rule) (day : ℤ)
@@ -73,8 +73,8 @@ pub fn in_memory_503_means_that_memory_was_refused()
         (IsInputDataUnreadable told_before told_after rules day) → Sent503OrBrokeOff result → MemoryWasRefused (state_of over_memory) old new }
 {}
 
-/// In memory each call is such, on the tables of an archive that can be read, without a limit on the steps of a query: so there it
-/// never comes.
+/// In memory no question about an archive that can be read gets E15, if no limit is set on the steps of a query: no question of the desk
+/// (`question`), no export (`export`), and neither the names of all lists nor who has a token (`names`).
 pub fn in_memory_no_question_fails<A>()
     ensures question { (old new : Store MemStore) (result : Result A DeskError) (ask : Ask)
         → IsFullyReadableStore (state_of over_memory) old → QuestionHasNoDatabaseFault (state_of over_memory) old new result ask }

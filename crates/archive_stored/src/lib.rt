@@ -1,4 +1,4 @@
-//! What is answered out of a file or out of memory: the store under the desk and the pages.
+//! What is answered from a file or from memory: pages over a `Store` of `archive_store`.
 #![tactic(auto)]
 
 pub mod laws;

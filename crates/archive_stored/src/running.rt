@@ -1,5 +1,5 @@
 //! Commands one after the other, and then a request: the reply is of the archive that the machine
-//! makes of the commands.
+//! makes by the commands.
 ghost use Rattle.std.specs.Prelude.{◌≡◌, None, map, IfOk, IfErr, OnOk};
 ghost use Rattle.archive_model.specs.Runs.{run};
 ghost use Rattle.archive_tables.specs.Making.{empty_archive};
@@ -18,8 +18,9 @@ use sqlite::Alter;
 use std::alloc::Global;
 use thread_core::Threader;
 
-/// Carries commands out as `Store::run` does, and answers one request as `answer` does. Where the
-/// run stopped, nothing was read and nothing was written.
+/// Carries commands out as `Store::run` does, which goes on after a refused command, and then answers
+/// one request as `answer` does: with the status of the reply, or S1, S2 or S3. If the run stopped, for
+/// E14 or E15, that is the error, and nothing was read and nothing was written.
 pub fn run_and_answer<T: Threader, S: Alter, R: Source, W: Sink>(
     store: &mut Store<S>,
     alloc: Global,
@@ -52,8 +53,9 @@ pub fn run_and_answer<T: Threader, S: Alter, R: Source, W: Sink>(
     }
 }
 
-/// Carries commands out in an empty store in memory, and answers one request. Where the store was
-/// not opened or the run stopped, nothing was read and nothing was written.
+/// Carries commands out in an empty store in memory, and then answers one request as
+/// `run_and_answer` does. If the store was not opened or the run stopped, for E14 or E15, that is the
+/// error, and nothing was read and nothing was written.
 pub fn run_and_answer_in_memory<T: Threader, R: Source, W: Sink>(
     alloc: Global,
     commands: &[Command<'_>],

@@ -24,7 +24,8 @@ pub enum PublishError {
     Import(ImportStop),
 }
 
-/// Adds a list to an archive, imports an mbox into it, and then withdraws a message of it for its author.
+/// Adds a list to an archive, imports an mbox into it, and then withdraws a message of the list for its author. The error has the refusal
+/// of the first of these three that failed; the ones before it were carried out.
 pub fn publish<A: ArchiveStore>(
     archive: &mut A,
     alloc: Global,
@@ -48,8 +49,8 @@ pub fn publish<A: ArchiveStore>(
     }
 }
 
-/// Answers one request as `answer` does: the client is sent the reply of what the archive holds, by the policy and on the day. The archive
-/// stays as it is.
+/// Answers one request as `answer` does: the client is sent the reply of what the archive holds, by the policy and on the day, or 503. S1,
+/// S2 and S3 are those of `answer`. The archive stays as it is.
 pub fn answer_client<A: ArchiveStore, T: Threader, R: Source, W: Sink>(
     archive: &mut A,
     alloc: Global,
