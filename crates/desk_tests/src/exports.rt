@@ -72,7 +72,7 @@ fn stops<A: ArchiveStore>(
 }
 
 /// What was imported is written back, alone and behind a head.
-fn whole<A: ArchiveStore>(alloc: Global, store: &mut A, ask: &Ask<'_>) -> Result<(), Fail> {
+pub fn whole<A: ArchiveStore>(alloc: Global, store: &mut A, ask: &Ask<'_>) -> Result<(), Fail> {
     let len = TWO.len() as u64;
     let mut out = Tap::new(alloc, b"", 1000)?;
     expect_equal(export(store, alloc, ask, &mut out), Ok(len))?;

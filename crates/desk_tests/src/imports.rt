@@ -15,7 +15,8 @@ const OVERLAPPING: &[u8] =
 /// A line that is no separator line stands first, at offset 1.
 const BROKEN: &[u8] = b"\nhi\nFrom anna@example.org Tue Mar  4 10:00:00 2003\n\nOne.\n";
 
-fn counted(new: u64, known: u64, too_large: u64) -> Result<Report, ImportStop> {
+/// What became of so many messages.
+pub fn counted(new: u64, known: u64, too_large: u64) -> Result<Report, ImportStop> {
     Ok(Report {
         new,
         known,

@@ -13,7 +13,7 @@ use std::test::Fail;
 use thread_core::PlainThreader;
 
 /// A row as it is to come: its depth, and the first byte of its author, none where the message is missing or has no author.
-type Row = (usize, Option<u8>);
+pub type Row = (usize, Option<u8>);
 
 /// Messages whose authors are numbered, and the rows of their threads.
 const THREADS: [(&str, &[u8], &[Row]); 4] = [
@@ -129,7 +129,8 @@ fn ties<A: ArchiveStore>(alloc: Global, store: &mut A, policy: &Policy) -> Resul
     Ok(())
 }
 
-fn are_rows(rows: &[TreeLine], wanted: &[Row]) -> Result<(), Fail> {
+/// The rows have these depths and authors, in this order.
+pub fn are_rows(rows: &[TreeLine], wanted: &[Row]) -> Result<(), Fail> {
     expect_equal(rows.len(), wanted.len())?;
     for (row, want) in rows.iter().zip(wanted.iter()) {
         let shown = row
@@ -151,7 +152,7 @@ pub fn are_subjects(lines: &[Line], wanted: &[&[u8]]) -> Result<(), Fail> {
 }
 
 /// Two messages are of March 2003, and none of April; an unknown list has no month.
-fn by_month<A: ArchiveStore>(alloc: Global, store: &mut A, ask: &Ask<'_>) -> Result<(), Fail> {
+pub fn by_month<A: ArchiveStore>(alloc: Global, store: &mut A, ask: &Ask<'_>) -> Result<(), Fail> {
     let march = Month::read(b"2003-03").ok_or("a month")?;
     let april = Month::read(b"2003-04").ok_or("a month")?;
     are_subjects(
@@ -172,7 +173,7 @@ fn by_month<A: ArchiveStore>(alloc: Global, store: &mut A, ask: &Ask<'_>) -> Res
 }
 
 /// The author is compared as the key that it is; the second message has no author.
-fn by_author<A: ArchiveStore>(alloc: Global, store: &mut A, ask: &Ask<'_>) -> Result<(), Fail> {
+pub fn by_author<A: ArchiveStore>(alloc: Global, store: &mut A, ask: &Ask<'_>) -> Result<(), Fail> {
     are_subjects(
         &author(store, alloc, ask, b"anna@example.org")?,
         &[b"Hello".as_slice()],

@@ -177,6 +177,12 @@ pub fn messages<A: ArchiveStore>(alloc: Global, store: &mut A) -> Result<(), Fai
     Ok(())
 }
 
+/// The first of the two messages is served by its key, and the view holds both.
+pub fn is_served<A: ArchiveStore>(alloc: Global, store: &mut A, ask: &Ask<'_>) -> Result<(), Fail> {
+    let key = Key::of(&cut(TWO)?.next().ok_or("a first message")?);
+    asked(alloc, store, ask, &key, Wanted::Text(ONE), Ok(2))
+}
+
 fn told<A: ArchiveStore>(alloc: Global, store: &mut A, key: &Key, case: &Case) -> Result<(), Fail> {
     let (text, reader, list, on, wanted, count) = *case;
     let on = day(on)?;

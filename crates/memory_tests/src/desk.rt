@@ -14,12 +14,10 @@ fn tell_new(rt: &impl RandomSource, alloc: Global, case: Case) -> Result<(), Fai
     tell(alloc, &mut archive, &nodes, case)
 }
 
-/// All but `Batches`, because an archive in memory has no transactions, and looks at each of its messages to add one.
 #[test]
 fn archives_in_memory(rt: HostRuntime) -> Result<(), Fail> {
     for case in [
         Case::Imports,
-        Case::Large,
         Case::Messages,
         Case::Exports,
         Case::Listings,

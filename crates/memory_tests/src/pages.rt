@@ -1,5 +1,6 @@
 //! The pages of archives in memory.
 use archive_memory::MemoryArchive;
+use pages_tests::calls::each_call;
 use pages_tests::cases::{CASES, Order, tell_order};
 use pages_tests::keeping::READINGS;
 use pages_tests::links::Past;
@@ -14,6 +15,12 @@ fn tell_new(rt: &impl RandomSource, alloc: Global, order: Order) -> Result<Vec<u
     let nodes = NodeThreader::new(RandomState::new(rt)?);
     let mut archive = MemoryArchive::new(alloc);
     tell_order(alloc, &mut archive, &nodes, order)
+}
+
+#[test]
+fn each_call_is_answered_once(rt: HostRuntime) -> Result<(), Fail> {
+    let mut archive = MemoryArchive::new(rt.alloc());
+    each_call(rt.alloc(), &mut archive)
 }
 
 #[test]

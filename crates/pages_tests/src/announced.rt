@@ -12,6 +12,7 @@ use std::test::Fail;
 use thread_core::PlainThreader;
 
 /// An output that takes so many bytes, and what comes of one peer that is asked for so often.
+#[derive(Clone, Copy)]
 struct Case {
     port: u16,
     room: usize,
@@ -21,15 +22,18 @@ struct Case {
     got: &'static [u8],
 }
 
+/// The peer comes, and gets its page.
+const COMES: Case = Case {
+    port: 8080,
+    room: 100,
+    count: 1,
+    outcome: Ok(()),
+    said: b"listening on 127.0.0.1:8080\n",
+    got: LISTS,
+};
+
 const CASES: [Case; 5] = [
-    Case {
-        port: 8080,
-        room: 100,
-        count: 1,
-        outcome: Ok(()),
-        said: b"listening on 127.0.0.1:8080\n",
-        got: LISTS,
-    },
+    COMES,
     Case {
         port: 7,
         room: 100,
@@ -91,6 +95,11 @@ fn says_where<A: ArchiveStore>(alloc: Global, store: &mut A, case: &Case) -> Res
     expect_equal(output.into_inner().bytes(), case.said)?;
     expect_equal(listener.got.as_slice(), case.got)?;
     expect(faults.bytes().is_empty(), "a line of a fault")
+}
+
+/// The first case, for an archive as `fill` leaves it.
+pub fn says_where_once<A: ArchiveStore>(alloc: Global, store: &mut A) -> Result<(), Fail> {
+    says_where(alloc, store, &COMES)
 }
 
 /// Each case in turn.

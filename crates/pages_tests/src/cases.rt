@@ -138,19 +138,6 @@ pub enum Order {
     Serving,
 }
 
-/// All orders except cases, readings, and what is shown of an archive.
-pub const ORDERS: [Order; 9] = [
-    Order::Links,
-    Order::OwnLinks,
-    Order::Asking,
-    Order::Keeping,
-    Order::ByBoth,
-    Order::Rings,
-    Order::Announced,
-    Order::Failing,
-    Order::Serving,
-];
-
 /// Tells an empty archive an order. What nobody in particular is shown of an archive; else nothing.
 pub fn tell_order<A: ArchiveStore>(
     alloc: Global,

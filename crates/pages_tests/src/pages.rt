@@ -243,6 +243,11 @@ fn withdraw_first<A: ArchiveStore>(alloc: Global, store: &mut A) -> Result<(), F
 /// The first message is withdrawn: denied to the public, and served to a moderator.
 pub fn withdrawn<A: ArchiveStore>(alloc: Global, store: &mut A) -> Result<(), Fail> {
     withdraw_first(alloc, store)?;
+    is_withdrawn(alloc, store)
+}
+
+/// The same, once the message is withdrawn.
+pub fn is_withdrawn<A: ArchiveStore>(alloc: Global, store: &mut A) -> Result<(), Fail> {
     grant(store, "mo", "soc", GrantKind::Moderator, today()?, today()?)?;
     let policy = Policy::read(alloc, WITHDRAWN)?;
     all_get(alloc, store, &policy, &DENIED)?;

@@ -87,6 +87,7 @@ const LEAVES: Peer = Peer::Says {
 };
 
 /// What comes of some peers: what each of them gets, with `+` where its reply broke off, and the lines of faults.
+#[derive(Clone, Copy)]
 struct Case {
     peers: &'static [Peer],
     count: u32,
@@ -94,6 +95,15 @@ struct Case {
     got: &'static [&'static [u8]],
     told: &'static [u8],
 }
+
+/// Each gets its reply.
+const MANY: Case = Case {
+    peers: &[GETS, ASKS_FIRST, ASKS_SECOND, ASKS_FIRST, GETS],
+    count: 5,
+    outcome: Ok(()),
+    got: &[LISTS, DENIED, SERVED, DENIED, LISTS],
+    told: b"",
+};
 
 const CASES: [Case; 7] = [
     Case {
@@ -110,13 +120,7 @@ const CASES: [Case; 7] = [
         got: &[LISTS],
         told: b"",
     },
-    Case {
-        peers: &[GETS, ASKS_FIRST, ASKS_SECOND, ASKS_FIRST, GETS],
-        count: 5,
-        outcome: Ok(()),
-        got: &[LISTS, DENIED, SERVED, DENIED, LISTS],
-        told: b"",
-    },
+    MANY,
     Case {
         peers: &[Peer::Gone, STOPS, GETS],
         count: 3,
@@ -194,6 +198,12 @@ fn comes<A: ArchiveStore>(
     expect_equal(listener.got.as_slice(), joined(alloc, case.got)?.as_slice())?;
     expect_equal(faults.bytes(), case.told)?;
     Ok(())
+}
+
+/// Some peers come to an archive as `fill` leaves it, and each gets its reply.
+pub fn some_come<A: ArchiveStore>(alloc: Global, store: &mut A) -> Result<(), Fail> {
+    let policy = Policy::read(alloc, POLICY)?;
+    comes(alloc, store, &policy, &MANY)
 }
 
 /// The peers of each case come to an empty archive that is filled.

@@ -1,5 +1,5 @@
 //! An mbox that is asked for over files whose disks stop.
-use crate::disks::{few_pages, new_files, one_page, stopping};
+use crate::disks::{Held, few_pages, new_files, one_page, stopping};
 use crate::older::is_as_before;
 use archive_desk::import;
 use archive_pages::{ServeFault, answer};
@@ -7,10 +7,11 @@ use archive_port::ArchiveStore;
 use archive_store::{AdoptStop, Store};
 use desk_tests::commands::list_add;
 use mbox_core::device::Tap;
+use pages_tests::calls::each_call;
 use pages_tests::cases::today;
 use policy_core::Policy;
 use sqlite::{Connection, FileStore, Files};
-use sqlite_disk::{Disk, Memory};
+use sqlite_disk::Disk;
 use std::alloc::Global;
 use std::process::Abort;
 use std::test::Fail;
@@ -23,10 +24,10 @@ const GET: &[u8] = b"GET /l/soc/mbox HTTP/1.1\r\n\r\n";
 const HEAD: &[u8] =
     b"HTTP/1.1 200 OK\r\nContent-Type: application/mbox\r\nConnection: close\r\n\r\n";
 
-/// More calls than a disk gets while an mbox is asked for: two to the power of `HALVINGS`.
+/// More calls than a disk gets while an mbox is asked for: two to the power of `DOUBLINGS`.
 const CALLS: u64 = 4096;
 
-const HALVINGS: u32 = 12;
+const DOUBLINGS: u32 = 12;
 
 /// The headers of three messages, as an mbox has them.
 const HEADERS: [&[u8]; 3] = [
@@ -74,8 +75,12 @@ const STAGES: [Stage; 6] = [
 pub enum Step {
     /// Nothing.
     Open,
+    /// Nothing, over a cache of one page, as `Ask` has it.
+    OpenToAsk,
     Import,
     Ask,
+    /// Each call of the desk and of the pages, on a store that is empty.
+    Call,
     /// What it shows is looked at.
     Show,
 }
@@ -144,8 +149,12 @@ fn take_step<A: ArchiveStore>(
     step: Step,
 ) -> Result<Stage, Fail> {
     match step {
-        Step::Open => Ok(Stage::Whole),
+        Step::Open | Step::OpenToAsk => Ok(Stage::Whole),
         Step::Ask => ask(rt, alloc, store),
+        Step::Call => {
+            each_call(alloc, store)?;
+            Ok(Stage::Whole)
+        }
         Step::Show => {
             is_as_before(rt, alloc, store)?;
             Ok(Stage::Whole)
@@ -169,8 +178,8 @@ pub fn over_files<D: Disk + Drop>(
         return Err(Fail::from("files that may be used"));
     }
     let options = match step {
-        Step::Ask => one_page(),
-        Step::Open | Step::Import | Step::Show => few_pages(),
+        Step::Ask | Step::OpenToAsk => one_page(),
+        Step::Open | Step::Import | Step::Call | Step::Show => few_pages(),
     };
     match Connection::open_files(alloc, files, options) {
         Ok(connection) => over_connection(rt, alloc, connection, step),
@@ -201,25 +210,44 @@ fn over_connection<D: Disk + Drop>(
 }
 
 /// Asks for the mbox over copies of these files whose disks stop after so many calls.
-fn ask_over(
-    rt: &impl Abort,
-    alloc: Global,
-    files: &Files<Memory>,
-    calls: u64,
-) -> Result<Stage, Fail> {
+fn ask_over(rt: &impl Abort, alloc: Global, files: &Held, calls: u64) -> Result<Stage, Fail> {
     let fuses = stopping(alloc, files, calls, calls)?;
     let (stage, _files) = over_files(rt, alloc, fuses, Step::Ask)?;
     Ok(stage)
 }
 
-/// The most calls of a disk over which no store is opened.
-pub fn last_shut(rt: &impl Abort, alloc: Global, files: &Files<Memory>) -> Result<u64, Fail> {
-    let (mut shut, mut open) = (0, CALLS);
-    for _turn in 0..HALVINGS {
-        let calls = shut / 2 + open / 2;
-        match ask_over(rt, alloc, files, calls)? {
-            Stage::Shut => shut = calls,
-            _ => open = calls,
+/// Whether a store is opened over copies of these files whose disks stop after so many calls.
+fn is_opened(rt: &impl Abort, alloc: Global, files: &Held, calls: u64) -> Result<bool, Fail> {
+    let fuses = stopping(alloc, files, calls, calls)?;
+    let (stage, _files) = over_files(rt, alloc, fuses, Step::OpenToAsk)?;
+    Ok(stage == Stage::Whole)
+}
+
+/// Calls of a disk over which a store is opened, at most twice as many as that takes.
+fn enough(rt: &impl Abort, alloc: Global, files: &Held) -> Result<u64, Fail> {
+    let mut calls: u64 = 1;
+    for _turn in 0..DOUBLINGS {
+        if is_opened(rt, alloc, files, calls)? {
+            return Ok(calls);
+        }
+        calls = calls.saturating_mul(2);
+    }
+    Err(Fail::from("a disk that stops no more"))
+}
+
+/// The most calls of a disk over which no store is opened, by halving.
+pub fn last_shut(rt: &impl Abort, alloc: Global, files: &Held) -> Result<u64, Fail> {
+    let mut open = enough(rt, alloc, files)?;
+    let mut shut = open / 2;
+    for _turn in 0..DOUBLINGS {
+        let calls = shut.saturating_add(open.saturating_sub(shut) / 2);
+        if calls == shut {
+            break;
+        }
+        if is_opened(rt, alloc, files, calls)? {
+            open = calls;
+        } else {
+            shut = calls;
         }
     }
     Ok(shut)

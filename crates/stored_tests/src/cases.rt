@@ -1,75 +1,42 @@
-//! The worked cases of the desk and of the pages over stores in memory, and a case over a file.
-use crate::disks::{few_pages, new_files};
+//! Each call of the desk and of the pages, over a store in memory and over one in a file; and the worked cases of the desk in which the
+//! tables matter. `memory_tests` has the others.
+use crate::breaking::{Stage, Step, over_files};
+use crate::disks::new_files;
 use archive_store::Store;
-use desk_tests::cases as desk;
-use pages_tests::cases as pages;
-use pages_tests::keeping::READINGS;
-use pages_tests::links::Past;
-use sqlite::Connection;
-use std::alloc::Global;
-use std::hash::RandomState;
-use std::random::RandomSource;
+use desk_tests::{imports, listings, streams};
+use pages_tests::calls::each_call;
 use std::test::Fail;
-use thread_core::NodeThreader;
 
-/// Tells a new store in memory a case of the desk.
-fn tell_new(rt: &impl RandomSource, alloc: Global, case: desk::Case) -> Result<(), Fail> {
-    let nodes = NodeThreader::new(RandomState::new(rt)?);
-    let mut store = Store::open_in_memory(alloc)?;
-    desk::tell(alloc, &mut store, &nodes, case)
-}
-
-/// Tells a new store in memory an order of the pages. What nobody in particular is shown of an archive; else nothing.
-fn order_new(rt: &impl RandomSource, alloc: Global, order: pages::Order) -> Result<Vec<u8>, Fail> {
-    let nodes = NodeThreader::new(RandomState::new(rt)?);
-    let mut store = Store::open_in_memory(alloc)?;
-    pages::tell_order(alloc, &mut store, &nodes, order)
+#[test]
+fn each_call_is_answered_over_memory(rt: HostRuntime) -> Result<(), Fail> {
+    let mut store = Store::open_in_memory(rt.alloc())?;
+    each_call(rt.alloc(), &mut store)
 }
 
 #[test]
-fn stores_over_memory(rt: HostRuntime) -> Result<(), Fail> {
-    for case in desk::CASES {
-        tell_new(&rt, rt.alloc(), case)?;
-    }
+fn each_call_is_answered_over_a_file(rt: HostRuntime) -> Result<(), Fail> {
+    let (stage, _files) = over_files(&rt, rt.alloc(), new_files(rt.alloc()), Step::Call)?;
+    assert_eq!(&rt; stage, Stage::Whole);
     Ok(())
 }
 
+/// Tables keep no order of their own.
 #[test]
-fn pages_of_stores_over_memory(rt: HostRuntime) -> Result<(), Fail> {
-    for case in pages::CASES {
-        order_new(&rt, rt.alloc(), pages::Order::Case(case))?;
-    }
-    for order in pages::ORDERS {
-        order_new(&rt, rt.alloc(), order)?;
-    }
-    for reading in READINGS {
-        order_new(&rt, rt.alloc(), pages::Order::Reading(reading))?;
-    }
-    Ok(())
+fn lines_and_rows_stand_in_their_order(rt: HostRuntime) -> Result<(), Fail> {
+    let mut store = Store::open_in_memory(rt.alloc())?;
+    listings::listings(rt.alloc(), &mut store)
 }
 
-/// All pages that nobody in particular finds, and all that they say, are the same.
+/// A row holds the largest message; one that is larger is passed over.
 #[test]
-fn a_withdrawn_message_leaves_no_trace_of_a_store(rt: HostRuntime) -> Result<(), Fail> {
-    let withdrawn = order_new(&rt, rt.alloc(), pages::Order::Shown(Past::Withdrawn))?;
-    let never_came = order_new(&rt, rt.alloc(), pages::Order::Shown(Past::NeverCame))?;
-    assert!(rt; !withdrawn.is_empty());
-    assert!(rt; withdrawn.as_slice() == never_came.as_slice());
-    Ok(())
+fn the_largest_message_is_kept(rt: HostRuntime) -> Result<(), Fail> {
+    let mut store = Store::open_in_memory(rt.alloc())?;
+    imports::large(rt.alloc(), &mut store)?;
+    streams::large(rt.alloc(), &mut store)
 }
 
 #[test]
-fn a_store_over_a_file(rt: HostRuntime) -> Result<(), Fail> {
-    let files = new_files(rt.alloc());
-    if !files.may_be_used() {
-        return Err(Fail::from("files that may be used"));
-    }
-    let Ok(connection) = Connection::open_files(rt.alloc(), files, few_pages()) else {
-        return Err(Fail::from("an open file"));
-    };
-    let Ok(mut store) = Store::adopt(connection) else {
-        return Err(Fail::from("a store"));
-    };
-    let nodes = NodeThreader::new(RandomState::new(&rt)?);
-    desk::tell(rt.alloc(), &mut store, &nodes, desk::Case::Imports)
+fn an_import_takes_several_transactions(rt: HostRuntime) -> Result<(), Fail> {
+    let mut store = Store::open_in_memory(rt.alloc())?;
+    streams::batches(rt.alloc(), &mut store)
 }

@@ -1,4 +1,4 @@
-//! Files that are held in memory, and disks that stop.
+//! Files that are held in memory, on disks that can stop.
 use sqlite::{Files, Options};
 use sqlite_disk::{Disk, Fuse, Memory};
 use std::alloc::Global;
@@ -20,11 +20,17 @@ pub fn few_pages() -> Options {
     }
 }
 
-/// A database file and its log, both empty.
-pub fn new_files(alloc: Global) -> Files<Memory> {
+/// A database file and its log. All are of one type, because a test is compiled once more for each type of disk.
+pub type Held = Files<Fuse<Memory>>;
+
+/// More calls than any disk gets.
+const ENDLESS: u64 = u64::MAX;
+
+/// Both files, empty, on disks that do not stop.
+pub fn new_files(alloc: Global) -> Held {
     Files {
-        log: Memory::new(alloc),
-        db: Memory::new(alloc),
+        log: Fuse::new(Memory::new(alloc), ENDLESS),
+        db: Fuse::new(Memory::new(alloc), ENDLESS),
     }
 }
 
@@ -38,28 +44,20 @@ fn holding(alloc: Global, bytes: &[u8]) -> Result<Memory, Fail> {
 }
 
 /// Copies of files, of which the log and the database file stop after so many calls.
-pub fn stopping(
-    alloc: Global,
-    files: &Files<Memory>,
-    log_calls: u64,
-    db_calls: u64,
-) -> Result<Files<Fuse<Memory>>, Fail> {
+pub fn stopping(alloc: Global, files: &Held, log_calls: u64, db_calls: u64) -> Result<Held, Fail> {
     Ok(Files {
-        log: Fuse::new(holding(alloc, files.log.bytes())?, log_calls),
-        db: Fuse::new(holding(alloc, files.db.bytes())?, db_calls),
+        log: Fuse::new(holding(alloc, files.log.inner().bytes())?, log_calls),
+        db: Fuse::new(holding(alloc, files.db.inner().bytes())?, db_calls),
     })
 }
 
-/// What disks that stopped hold.
-pub fn left(alloc: Global, files: &Files<Fuse<Memory>>) -> Result<Files<Memory>, Fail> {
-    Ok(Files {
-        log: holding(alloc, files.log.inner().bytes())?,
-        db: holding(alloc, files.db.inner().bytes())?,
-    })
+/// What disks that stopped hold, on disks that do not stop.
+pub fn left(alloc: Global, files: &Held) -> Result<Held, Fail> {
+    stopping(alloc, files, ENDLESS, ENDLESS)
 }
 
 /// Whether disks that stopped hold what these hold.
-pub fn hold_the_same(stopped: &Files<Fuse<Memory>>, files: &Files<Memory>) -> bool {
-    stopped.log.inner().bytes() == files.log.bytes()
-        && stopped.db.inner().bytes() == files.db.bytes()
+pub fn hold_the_same(stopped: &Held, files: &Held) -> bool {
+    stopped.log.inner().bytes() == files.log.inner().bytes()
+        && stopped.db.inner().bytes() == files.db.inner().bytes()
 }

@@ -1,6 +1,6 @@
-//! What a store over SQL tables answers through the desk and its pages: the cases of both over memory and over a file; rows that another
-//! program changed; files of older versions; and disks that stop while messages are imported, while files are migrated, and while requests
-//! are answered.
+//! What a store over SQL tables answers through the desk and its pages: each of their calls over memory and over a file, and the cases in
+//! which the tables matter; rows that another program changed; files of older versions; and disks that stop while messages are imported,
+//! while files are migrated, and while requests are answered.
 #![tactic(auto)]
 
 #[cfg(test)]

@@ -1,7 +1,7 @@
 //! Files of versions 1 and 2, made by the texts of their time: their pages, their export and their check are what they were, also
 //! where a disk stopped while they were brought over.
 use crate::breaking::{Stage, Step, over_files};
-use crate::disks::{few_pages, hold_the_same, left, new_files, stopping};
+use crate::disks::{Held, few_pages, hold_the_same, left, new_files, stopping};
 use archive_desk::{DeskError, ExportStop, export};
 use archive_port::ArchiveStore;
 use archive_results::{Ask, Reader};
@@ -9,8 +9,7 @@ use mbox_core::device::Tap;
 use pages_tests::cases::today;
 use pages_tests::pages::{OF_TWO, all_get};
 use policy_core::Policy;
-use sqlite::{Connection, Files};
-use sqlite_disk::Memory;
+use sqlite::Connection;
 use std::alloc::Global;
 use std::process::Abort;
 use std::test::Fail;
@@ -42,7 +41,7 @@ static SECOND: [&str; 3] = [
 const CALLS: u64 = 1000;
 
 /// The files of version 1 or of version 2.
-fn made(alloc: Global, more: &[&'static str]) -> Result<Files<Memory>, Fail> {
+fn made(alloc: Global, more: &[&'static str]) -> Result<Held, Fail> {
     let files = new_files(alloc);
     if !files.may_be_used() {
         return Err(Fail::from("files that may be used"));
@@ -89,7 +88,7 @@ pub fn is_as_before<A: ArchiveStore>(
 fn stop_at_each_call(
     rt: &impl Abort,
     alloc: Global,
-    files: &Files<Memory>,
+    files: &Held,
     is_log: bool,
 ) -> Result<(), Fail> {
     let mut seen = new_files(alloc);

@@ -2,7 +2,7 @@
 //! cannot be read.
 use crate::breaking::{Step, UNAVAILABLE, last_shut, over_files};
 use crate::damaged::damaged;
-use crate::disks::{new_files, one_page, stopping};
+use crate::disks::{Held, new_files, one_page, stopping};
 use archive_desk::import;
 use archive_port::ArchiveStore;
 use archive_store::Store;
@@ -12,7 +12,7 @@ use pages_tests::cases::TWO;
 use pages_tests::keeping::{kept_reply, pages_for};
 use pages_tests::links::reply;
 use policy_core::Policy;
-use sqlite::{Connection, FileStore, Files};
+use sqlite::{Connection, FileStore};
 use sqlite_disk::{Fuse, Memory};
 use std::alloc::Global;
 use std::process::Abort;
@@ -125,7 +125,7 @@ fn count_pages<A: ArchiveStore>(
 /// A store over copies of these files whose disks stop after so many calls. `None` where none is opened.
 fn open_over(
     alloc: Global,
-    files: &Files<Memory>,
+    files: &Held,
     calls: u64,
 ) -> Result<Option<Store<FileStore<Fuse<Memory>>>>, Fail> {
     let fuses = stopping(alloc, files, calls, calls)?;
@@ -145,7 +145,7 @@ fn open_over(
 fn count_over(
     rt: &impl Abort,
     alloc: Global,
-    files: &Files<Memory>,
+    files: &Held,
     calls: u64,
     paths: &[&[u8]],
     pages: &[Vec<u8>],
@@ -157,23 +157,24 @@ fn count_over(
 }
 
 /// The pages of these paths, over copies of these files that do not stop.
-fn pages_over(alloc: Global, files: &Files<Memory>, paths: &[&[u8]]) -> Result<Vec<Vec<u8>>, Fail> {
+fn pages_over(alloc: Global, files: &Held, paths: &[&[u8]]) -> Result<Vec<Vec<u8>>, Fail> {
     match open_over(alloc, files, CALLS)? {
         Some(mut store) => pages(alloc, &mut store, paths),
         None => Err(Fail::from("an open store")),
     }
 }
 
-/// Disks that stop later let more replies be pages: none, the first alone, and all in the end.
+/// Disks that stop later than after these calls let more replies be pages: none, the first alone, and all in the end.
 fn stops_at_each(
     rt: &impl Abort,
     alloc: Global,
-    files: &Files<Memory>,
+    files: &Held,
+    shut: u64,
     paths: &[&[u8]],
 ) -> Result<(), Fail> {
     let pages = pages_over(alloc, files, paths)?;
     let mut reached = Vec::new(alloc);
-    for calls in last_shut(rt, alloc, files)?..CALLS {
+    for calls in shut..CALLS {
         let Some(count) = count_over(rt, alloc, files, calls, paths, &pages)? else {
             continue;
         };
@@ -194,8 +195,9 @@ fn stops_at_each(
 #[test]
 fn what_is_kept_is_not_shown_where_a_disk_stopped(rt: HostRuntime) -> Result<(), Fail> {
     let (_imported, files) = over_files(&rt, rt.alloc(), new_files(rt.alloc()), Step::Import)?;
+    let shut = last_shut(&rt, rt.alloc(), &files)?;
     for paths in [&KEPT_FIRST, &READ_FIRST] {
-        stops_at_each(&rt, rt.alloc(), &files, paths)?;
+        stops_at_each(&rt, rt.alloc(), &files, shut, paths)?;
     }
     Ok(())
 }

@@ -1,10 +1,8 @@
 //! Imports over disks that stop, and then again over what is left.
-use crate::disks::{hold_the_same, left, new_files, stopping};
+use crate::disks::{Held, hold_the_same, left, new_files, stopping};
 use crate::files::{How, Outcome, import_into};
 use archive_desk::Report;
 use mbox_core::device::Tap;
-use sqlite::Files;
-use sqlite_disk::{Fuse, Memory};
 use std::alloc::Global;
 use std::process::Abort;
 use std::test::Fail;
@@ -49,7 +47,7 @@ fn done(outcome: Outcome) -> (u64, bool) {
 fn again(
     rt: &impl Abort,
     alloc: Global,
-    files: Files<Fuse<Memory>>,
+    files: Held,
     mbox: &[u8],
     how: How,
 ) -> Result<(u64, bool), Fail> {
@@ -69,13 +67,14 @@ fn again(
     Ok((said, is_whole))
 }
 
-/// The latest call at which a log that stops ends an import, by halving.
-fn last_stop(alloc: Global, files: &Files<Memory>, mbox: &[u8], how: How) -> Result<u64, Fail> {
+/// The latest call at which a log that stops ends an import of the text, by halving. That of an import in pieces comes no earlier, or
+/// `stops_late` fails.
+fn last_stop(alloc: Global, files: &Held, mbox: &[u8]) -> Result<u64, Fail> {
     let (mut stops, mut lasts) = (0, 2048);
     for _turn in 0..11 {
         let calls = stops / 2 + lasts / 2;
         let fuses = stopping(alloc, files, calls, CALLS)?;
-        let (first, _files) = import_into(alloc, fuses, mbox, how, &mut nothing(alloc)?)?;
+        let (first, _files) = import_into(alloc, fuses, mbox, How::Whole, &mut nothing(alloc)?)?;
         if done(first).1 {
             lasts = calls;
         } else {
@@ -85,16 +84,16 @@ fn last_stop(alloc: Global, files: &Files<Memory>, mbox: &[u8], how: How) -> Res
     Ok(stops)
 }
 
-/// An import stops in its second transaction, at the latest call that stops it: the first transaction stands. One that stops at half
-/// of the calls is made again too.
+/// An import stops at this late call, in its second transaction: the first transaction stands. One that stops at half of the calls is made
+/// again too.
 fn stops_late(
     rt: &impl Abort,
     alloc: Global,
-    files: &Files<Memory>,
+    files: &Held,
     mbox: &[u8],
     how: How,
+    last: u64,
 ) -> Result<(), Fail> {
-    let last = last_stop(alloc, files, mbox, how)?;
     let (_said, is_whole) = again(
         rt,
         alloc,
@@ -109,7 +108,7 @@ fn stops_late(
 }
 
 /// Files with a list and no message.
-fn with_a_list(rt: &impl Abort, alloc: Global) -> Result<Files<Memory>, Fail> {
+fn with_a_list(rt: &impl Abort, alloc: Global) -> Result<Held, Fail> {
     let (none, files) = import_into(
         alloc,
         new_files(alloc),
@@ -130,8 +129,9 @@ fn with_a_list(rt: &impl Abort, alloc: Global) -> Result<Files<Memory>, Fail> {
 fn an_import_that_stopped_is_made_again(rt: HostRuntime) -> Result<(), Fail> {
     let mbox = numbered(rt.alloc())?;
     let files = with_a_list(&rt, rt.alloc())?;
-    stops_late(&rt, rt.alloc(), &files, &mbox, How::Whole)?;
-    stops_late(&rt, rt.alloc(), &files, &mbox, How::InPieces)
+    let last = last_stop(rt.alloc(), &files, &mbox)?;
+    stops_late(&rt, rt.alloc(), &files, &mbox, How::Whole, last)?;
+    stops_late(&rt, rt.alloc(), &files, &mbox, How::InPieces, last)
 }
 
 /// Three messages, each as an mbox has it.
@@ -161,12 +161,7 @@ fn count_of_three(alloc: Global, mbox: &[u8]) -> Result<u64, Fail> {
 }
 
 /// How many of the three messages are in what is left, the first ones. The same import knows these, and the others are new.
-fn known_in(
-    rt: &impl Abort,
-    alloc: Global,
-    files: Files<Memory>,
-    mbox: &[u8],
-) -> Result<u64, Fail> {
+fn known_in(rt: &impl Abort, alloc: Global, files: Held, mbox: &[u8]) -> Result<u64, Fail> {
     let (mut none, mut held) = (nothing(alloc)?, Tap::new(alloc, b"", 1000)?);
     let (_nothing, files) = import_into(alloc, files, b"", How::Whole, &mut held)?;
     let known = count_of_three(alloc, held.bytes())?;
@@ -186,7 +181,7 @@ fn known_in(
 fn stop_at_each_call(
     rt: &impl Abort,
     alloc: Global,
-    files: &Files<Memory>,
+    files: &Held,
     is_log: bool,
 ) -> Result<(), Fail> {
     let mbox = first_of_three(alloc, 3)?;
