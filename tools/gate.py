@@ -5,11 +5,13 @@ order that the commit draws, until it has MOST, or the run has taken MINUTES; it
 
   gate.py [--all] [--anew] [--record] [--minutes N]
 
-  --all        every wrong body is due, and none is put off
+  --all        every wrong body is due, and none is put off, except for --minutes
   --anew       nothing counts that an earlier run on this machine passed, and `rt ci` tries each wrong body by itself
-  --record     puts none off, and writes tools/refused.txt: of which crates all wrong bodies were refused, over which text; and
-               tools/minutes.txt: how long each crate took that was proved from nothing, with the tables of docs/GATE.md that are made of it
-  --minutes N  after so many minutes (100) it tries no other wrong body, and puts off the crates that it is not done with
+  --record     puts none off, except for --minutes, and writes tools/refused.txt: of which crates all wrong bodies were refused, over which
+               text (the line of a crate that was put off stays); and tools/minutes.txt: how long each crate took that was proved from
+               nothing, with the tables of docs/GATE.md that are made of it
+  --minutes N  after so many minutes it tries no other wrong body, and puts off the crates that it is not done with. Without this option
+               that is after 100 minutes, and never with --all or --record. It does not go with --anew: `rt ci` would not heed it
 
 The last line is 'N passed, M failed', as `rt ci` counts, but that a wrong body that cannot be applied has failed; and the
 worked calls under refused growths of memory (refused.py) are one more that passed or failed, and so are the callers of the
@@ -23,6 +25,8 @@ COUNT = re.compile(r"(\d+) passed, (\d+) failed")
 EDIT = re.compile(r"rt: must-fail (\w+)/(\S+\.edit): (refused, as it must be.*|[A-Z]+.*)")
 # From how many wrong bodies and minutes on one run puts the next crate off: so many fit CI's time on two processors, beside tests and programs.
 MOST, MINUTES = 200, 100
+# With these it puts none off, unless the minutes are given.
+HAVE_NO_LIMIT = {"--all", "--record"}
 # What a refused edit says where the prover did not refuse what it does.
 SHOWS_LITTLE = re.compile(r"borrow checker does not cover|says (little|less) of the contract")
 
@@ -122,12 +126,12 @@ def put_off(names, counts):
     return rest
 
 
-def tell(heard, left, rest, due_count):
-    """Says what was tried, left and put off, what it took, and the count."""
+def tell(heard, left, rest, due_count, stay):
+    """Says what was tried, left and put off, what it took, and the count; of what was put off, that it `stay`s due, where it does."""
     for name, count in left.items():
         print(f"check: left the {count} wrong bodies of {name}, whose text is as recorded")
     for name, count in rest.items():
-        print(f"check: put off the {count} wrong bodies of {name}, which stay due: one run takes no more crates after {MOST} wrong bodies, or where it has taken long")
+        print(f"check: put off the {count} wrong bodies of {name}{stay}: one run takes no more crates after {MOST} wrong bodies, or where it has taken long")
     used = resource.getrusage(resource.RUSAGE_CHILDREN)
     for it in heard.that_say(SHOWS_LITTLE):
         print(f"check: {it} shows little of a contract: change a value, and keep the names")
@@ -145,14 +149,18 @@ def tell(heard, left, rest, due_count):
 
 def read(words):
     """Returns the options that are named, and after how many minutes the run puts crates off."""
-    words, minutes_given = [*words], MINUTES
-    if "--minutes" in words[:-1]:
+    words, given = [*words], ""
+    if "--minutes" in words:
         at = words.index("--minutes")
-        minutes_given = int(words[at + 1]) if words[at + 1].isdigit() else sys.exit(f"check: --minutes takes a number, not {words[at + 1]}")
+        given = "".join(words[at + 1:at + 2])
+        if not given.isdecimal():
+            sys.exit(f"check: --minutes takes a number{given and f', not {given}'}")
         del words[at:at + 2]
     if unknown := {*words} - {"--all", "--anew", "--record"}:
         sys.exit(f"check: unknown: {' '.join(sorted(unknown))}\n{__doc__}")
-    return {*words}, math.inf if {*words} & {"--all", "--record"} else minutes_given
+    if given and "--anew" in words:
+        sys.exit("check: --minutes does not go with --anew, because rt ci then tries each wrong body: leave one of them out")
+    return {*words}, int(given) if given else math.inf if {*words} & HAVE_NO_LIMIT else MINUTES
 
 
 def main(words):
@@ -162,7 +170,7 @@ def main(words):
     counts = {it: len(edits_of(it)) for it in names if edits_of(it)}
     left = {} if "--all" in words else {it: count for it, count in counts.items() if not record.is_due(it)}
     due_now = record.in_turn(it for it in counts if it not in left)
-    rest = [] if minutes_given == math.inf else put_off(due_now, counts)
+    rest = [] if words & HAVE_NO_LIMIT else put_off(due_now, counts)
     tried = [it for it in due_now if it not in rest]
     by_rounds = "--anew" not in words and joined.toolchain()
     with part.copied(names, () if by_rounds else tried) as top:
@@ -177,12 +185,13 @@ def main(words):
         if callers.CRATE in names:
             heard.count(callers_answered(top), "callers of the library in C, Python and Rust did not get what they have to, or it was not built")
     if "--record" in words:
-        for name in tried:
+        for name in (it for it in tried if it not in rest):
             record.note(name, heard.refused_of(name) == counts[name])
         record.write()
         minutes.write(heard.work.proved())
         minutes.main(["--write"])
-    return tell(heard, left, {it: counts[it] for it in rest}, sum(counts.values()) - sum(left.values()) - sum(counts[it] for it in rest))
+    due_count = sum(counts.values()) - sum(left.values()) - sum(counts[it] for it in rest)
+    return tell(heard, left, {it: counts[it] for it in rest}, due_count, "" if "--all" in words else ", which stay due")
 
 
 if __name__ == "__main__":

@@ -46,13 +46,13 @@ class Mistake:
                 old = line.removeprefix("old: ")
             elif line.startswith("new:"):
                 pairs.append((old, line.removeprefix("new:").removeprefix(" ")))
-        self.file, self.function, self.type, self.of = "", None, "", ""
+        self.file, self.function, self.type, self.of = "", None, "", ()
         if len(self.changes) == 1:
             [(self.file, pairs)] = self.changes.items()
         if self.file.startswith("src/"):
             text = (edit.parent.parent / self.file).read_text(encoding="utf-8")
             found = {function_at(text, text.find(old)) for old, _ in pairs}
-            self.function, self.type, self.of = found.pop() if len(found) == 1 else (None, "", "")
+            self.function, self.type, self.of = found.pop() if len(found) == 1 else (None, "", ())
 
     def apply(self, folder):
         """Makes the mistake in the sources of a folder, and returns whether all that it takes away stood there once."""
@@ -70,7 +70,7 @@ class Mistake:
         """Returns whether the prover's path of a function is that of this one: its module, or that of its type, the type with the trait, its name."""
         _, *modules, name = path.split("::")
         if self.type:
-            return name == self.function and bool(modules) and modules[-1] in (self.type, self.type + self.of)
+            return name == self.function and bool(modules) and modules[-1] in (self.type, self.type + self.of[0], self.of[1])
         return name == self.function and modules == [it for it in self.file.removeprefix("src/").removesuffix(".rt").split("/") if it not in ("lib", "main")]
 
 
@@ -84,10 +84,27 @@ def function_at(text, at):
         if found and len(found[1]) < indent:
             function, indent = found[2], len(found[1])
         if indent == 0 and function:
-            return function, "", ""
-        if function and (of := IMPL.match(line)):
-            return function, f"{of[3]}{of[1] or ''}", of[2] or ""
-    return None, "", ""
+            return function, "", ()
+        if function and line.startswith("impl"):
+            # (its head may have several lines)
+            head = " ".join(text[text.rfind(f"{line}\n", 0, at):].split("{")[0].split())
+            of = IMPL.match(head)
+            return (function, f"{of[3]}{of[1] or ''}", (of[2] or "", spelled(head))) if of else (None, "", ())
+    return None, "", ()
+
+
+def spelled(head):
+    """Returns the whole name that the prover gives an impl with this head: its type and then its trait, each with what it is of, without
+    lifetimes and the impl's own parameters."""
+    depth, end = 0, len("impl")
+    for end in range(len("impl"), len(head)):
+        depth += (head[end] == "<") - (head[end] == ">")
+        if not depth:
+            break
+    own = {*re.findall(r"[<,] *(?:const )?(\w+)", head[:end])}
+    trait, found, of = head[end + 1:].partition(" for ")
+    parts = (of, trait) if found else (trait,)
+    return "".join(it for part in parts for it in re.findall(r"(?<![\w'])(?:\w+::)*(\w+)", part) if it not in own)
 
 
 def rounds_of(mistakes):

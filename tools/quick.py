@@ -7,7 +7,7 @@ Each is compiled with checks and stops at an index out of bounds, a sum that wra
 A trial compiles all libraries below it. So crates of tests that stand on the same libraries are tried together (`TOGETHER`): in a copy of the
 repository they are the modules of one crate. A program is run on its files `args`, `stdin` and `data`; what it writes has to be its file
 `stdout`. A test or a program that does not end in 900 seconds has failed. The last line is 'N passed, M failed', and the status is 0 where M
-is 0.
+is 0. If a crate that is named has neither, that is said; if none has any, nothing runs, and the status is 2.
 """
 import concurrent.futures, os, re, subprocess, sys, tempfile, time
 
@@ -22,8 +22,8 @@ STEPS = "1"
 TOGETHER = (
     ("stored_tests",),
     ("store_tests", "run_tests"),
-    ("memory_tests",),
     ("mail_tests", "mbox_tests", "thread_tests", "policy_tests", "results_tests", "html_tests", "stream_tests", "request_tests", "listen_tests"),
+    ("memory_tests",),
 )
 # The crate that is made of several.
 JOINED = "joined_tests"
@@ -50,6 +50,13 @@ def tests_of(name):
 
 def is_program(name):
     return (part.CRATES / name / "src" / "main.rt").exists()
+
+
+def has_neither(name):
+    """Returns what is said of a crate without a test or a program: of one of tests also which crates of tests run its cases."""
+    above = [it for it in part.lines() if name in part.with_those_below(it) and tests_of(it)] if name.endswith("_tests") else []
+    cases = f": {' and '.join(above)} {'run' if above[1:] else 'runs'} its cases" if above else ""
+    return f"quick: {name} has no test and no program{cases}"
 
 
 def bytes_of(name, file):
@@ -172,7 +179,13 @@ def main(words):
         return 0
     if unknown := {*words} - {*part.lines()}:
         sys.exit(f"quick: crates.txt has no crate {' '.join(sorted(unknown))}")
-    trials = trials_of([it for it in part.lines() if it in words or not words])
+    asked = [it for it in part.lines() if it in words or not words]
+    without = [it for it in asked if words and not tests_of(it) and not is_program(it)]
+    for it in without:
+        print(has_neither(it), file=sys.stderr)
+    if words and without == asked:
+        return 2
+    trials = trials_of(asked)
     large, small = lanes()
     pool = concurrent.futures.ThreadPoolExecutor
     with pool(large) as one, pool(small or 1) as other:

@@ -342,6 +342,17 @@ BODIES = {
 EDITS = ["crates/low/must-fail/f.turns_it.edit", "crates/low/must-fail/g.drops_it.edit"]
 OTHER_EDIT = "crates/middle/must-fail/h.counts_one_more.edit"
 LITTLE = "rt: must-fail low/f.turns_it.edit: refused, as it must be, but it says little of the contract\n"
+
+
+def keeps_its_line():
+    """A crate that is due and put off for its minutes is not noted, and is named."""
+    told = {"rtlib.py": CRATES_MODULE, "rattle": PROVER, "says": "9 passed, 0 failed\n"}
+    with repository({**BODIES, "tools/refused.txt": "low of-before\n"}, **told) as (top, stand_in):
+        _, output, _ = run(top, stand_in, "gate.py", ["--record", "--minutes", "0"])
+        return equal(((top / "tools" / "refused.txt").read_text(encoding="utf-8"), "check: put off the 2 wrong bodies of low, which stay due" in output),
+            ("low of-before\n", True))
+
+
 GATE = {
     "all passes": says("gate.py", [], WITH_EDITS, 0, "10 passed, 0 failed", "check: 3 wrong bodies tried or kept; 0 processor minutes",
         says=f"rt: ok\n{ALL_REFUSED}9 passed, 0 failed\n"),
@@ -395,7 +406,16 @@ GATE = {
     "after some minutes all are put off": says("gate.py", ["--minutes", "0"], BODIES, 0, "10 passed, 0 failed",
         *(f"check: put off the {n} wrong bodies of {it}, which stay due: one run takes no more crates after 200 wrong bodies, or where it has taken long" for it, n in (("low", 2),)),
         says="9 passed, 0 failed\n", **{"rtlib.py": CRATES_MODULE, "rattle": PROVER}),
-    "minutes that are no number": says("gate.py", ["--minutes", "x"], CHAIN, 1, faults="check: --minutes takes a number, not x"),
+    "minutes that are no number": says("gate.py", ["--minutes", "x"], CHAIN, 1, faults="check: --minutes takes a number, not x\n"),
+    "no minutes": says("gate.py", ["--all", "--minutes"], CHAIN, 1, faults="check: --minutes takes a number\n"),
+    "an option in their place": says("gate.py", ["--minutes", "--all"], CHAIN, 1, faults="check: --minutes takes a number, not --all\n"),
+    "minutes count with --all": says("gate.py", ["--all", "--minutes", "0"], BODIES, 0, "10 passed, 0 failed",
+        "check: put off the 2 wrong bodies of low: one run takes no more crates after 200 wrong bodies, or where it has taken long",
+        says="9 passed, 0 failed\n", **{"rtlib.py": CRATES_MODULE, "rattle": PROVER}),
+    "with --record what they put off keeps its line": keeps_its_line,
+    "with --anew they are refused": says("gate.py", ["--anew", "--minutes", "9"], CHAIN, 1, faults="check: --minutes does not go with --anew"),
+    "--all with minutes puts none off for their number": asks("gate.py", ["--all", "--minutes", "9"], MANY,
+        [f"crates/{it}/must-fail/f.is7.edit" for it in ("low", "middle", "beside")], []),
     "--all puts none off": asks("gate.py", ["--all"], MANY, [f"crates/{it}/must-fail/f.is7.edit" for it in ("low", "middle", "beside")], []),
     "a crate whose code changed is due": asks("gate.py", [], recorded(["low"], **{"crates/low/src/lib.rt": "// low\nfn f() {}\n"}), EDITS, []),
     "a clause of a crate below makes a crate due": asks("gate.py", [], recorded(["low", "middle"], **{"crates/low/src/lib.rt": "fn f()\n ensures { IsOne result }\n{\n}\n"}), [*EDITS, OTHER_EDIT], []),
@@ -461,9 +481,12 @@ TWICE_F = {**BODIES, "crates/low/must-fail/f.is_zero.edit": "file: src/lib.rt\no
 FROM = {**BODIES, "crates/low/src/lib.rt": BODIES["crates/low/src/lib.rt"] + "\nimpl From<core::AllocError> for Low {\n    fn from(e: AllocError) -> Low {\n        LOW\n    }\n}\n",
     "crates/low/must-fail/from.is_high.edit": "file: src/lib.rt\nold:         LOW\nnew:         HIGH\n"}
 FROM_FAILS = "fn low::{}::from: not proved; `search` did not prove `returns`\n"
+HELD = {**BODIES, "crates/low/src/lib.rt": BODIES["crates/low/src/lib.rt"] + "\nimpl<'a, R: Reads<u8>> Files<Store<Low>>\n    for Held<'a, R, Low> {\n    fn open(e: u8) -> Low {\n        LOW\n    }\n}\n",
+    "crates/low/must-fail/open.is_high.edit": "file: src/lib.rt\nold:         LOW\nnew:         HIGH\n"}
 IN_ONE_CHECK = {
     "the trait's argument ends the name of an impl": tries(F_FAILS + G_FAILS + FROM_FAILS.format("LowFromAllocError"), 3, [], files=FROM),
     "an impl of another argument is another": tries(F_FAILS + G_FAILS + FROM_FAILS.format("LowFromError"), 0, ["from.is_high.edit", F_EDIT, G_EDIT], files=FROM),
+    "an impl whose head takes two lines has its whole name": tries(F_FAILS + G_FAILS + FROM_FAILS.format("HeldLowFilesStoreLow").replace("::from", "::open"), 3, [], files=HELD),
     "two functions are tried in one check": tries(F_FAILS + G_FAILS, 2, [], sources=[with_mistakes(f=("\n 1\n", "\n 3\n"), g=("+ 2", "+ 4"))]),
     "one that is proved is tried by itself": tries(F_FAILS + "fn low::g: proved\n", 1, [G_EDIT]),
     "and where it is proved, that has failed": tries(F_FAILS + "fn low::g: proved\n", 1, [G_EDIT], says_of="logic=proved\n", fails=1),
@@ -566,6 +589,12 @@ ABOVE = {
     "crates.txt": "low: memchr\nstore_tests: low\nrun_tests: store_tests low\nstored_tests: run_tests store_tests low\n",
     "crates/stored_tests/src/lib.rt": "use store_tests::made::a;\n\n#[test]\nfn c() {}\n",
 }
+# Two crates of tests whose cases others run, one by way of the other.
+SHARED = {
+    "crates.txt": "low: memchr\ndesk_tests: low\npages_tests: desk_tests\nmemory_tests: pages_tests\nstored_tests: desk_tests\n",
+    **{f"crates/{it}/src/lib.rt": "pub fn f() {}\n" for it in ("low", "desk_tests", "pages_tests")},
+    **{f"crates/{it}/src/lib.rt": "#[test]\nfn f() {}\n" for it in ("memory_tests", "stored_tests")},
+}
 BOTH = {"writes": "test store_tests::a ... ok\ntest run_tests::b ... ok\n", "tells": "run=ended status=3 runners=1 proved=no\n"}
 
 
@@ -612,7 +641,13 @@ QUICK = {
     "a program that writes something else": says("quick.py", ["shown"], TESTED, 1, "quick: shown: it wrote something else than its file stdout",
         "0 passed, 1 failed", **{**PASSES, "writes": "other\n"}),
     "one that ends with another status": says("quick.py", ["shown"], TESTED, 1, "0 passed, 1 failed", **{**PASSES, "tells": TRIED}),
-    "a crate with neither is left": says("quick.py", ["low"], TESTED, 0, "0 passed, 0 failed"),
+    "a crate with neither": says("quick.py", ["low"], TESTED, 2, faults="quick: low has no test and no program\n"),
+    "nothing runs then": lambda: equal(output_of("quick.py", ["low"], TESTED), ""),
+    "one with neither, and one with a test": says("quick.py", ["low", "low_tests"], TESTED, 0, "1 passed, 0 failed",
+        faults="quick: low has no test and no program\n", **{**PASSES, "tells": TRIED}),
+    "of tests without one, who runs its cases": says("quick.py", ["desk_tests", "low"], SHARED, 2,
+        faults="quick: low has no test and no program\nquick: desk_tests has no test and no program: memory_tests and stored_tests run its cases\n"),
+    "who alone does": says("quick.py", ["pages_tests"], SHARED, 2, faults="quick: pages_tests has no test and no program: memory_tests runs its cases\n"),
     "all of them": says("quick.py", [], TESTED, 1, "1 passed, 1 failed", **{**PASSES, "tells": TRIED}),
     "an unknown crate": says("quick.py", ["none"], TESTED, 1, faults="quick: crates.txt has no crate none"),
     "what a program is run on": asks("quick.py", ["shown"], TESTED, ["--data", "--", "one", "in shown", "in"], [], **PASSES),
