@@ -1,2 +1,1 @@
-pub mod CloseLemmas
 pub mod ProgramLemmas

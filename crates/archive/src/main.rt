@@ -6,17 +6,14 @@ ghost use Rattle.std.specs.Process.{exit_status};
 ghost use Rattle.archive_run.specs.Environments.{devices};
 ghost use Rattle.archive.specs.Program.{RunsArchiveProgram, RunsArchiveOnArgs};
 
-mod databases;
 mod machine;
-mod pages;
-mod system;
 mod threaders;
 
 use archive_args::OrderStop;
+use archive_files::{ArchiveDatabases, SystemDatabases};
 use archive_listen::{BufferedSink, WriteBuffer};
 use archive_run::{Environment, Platform, run};
-use databases::SystemDatabases;
-use machine::{ArchiveDatabases, make_environment};
+use machine::make_environment;
 use mbox_core::device::Counted;
 use sift_run::{HasArguments, OUTPUT_ROOM, borrowed, command_words, report_parse_error};
 use sqlite::{Alter, FileFrom, FileStore, Start, Unknown};

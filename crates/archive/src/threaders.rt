@@ -1,5 +1,5 @@
 //! What threads messages on a system.
-use crate::system::HasRandom;
+use archive_files::HasRandom;
 use archive_run::Threaders;
 use thread_core::NodeThreader;
 

@@ -22,7 +22,7 @@ use Rattle.sift_run.specs.declared.faults.CommandError.TheVariants.{Memory}
 use Rattle.archive_run.specs.Crashing.{CrashImportsFile}
 use Rattle.archive_run.specs.Databases.{LeavesOrUsesDatabase}
 use Rattle.archive_run.specs.Holding.{HasServedUntilF4}
-use Rattle.archive_run.specs.Remembering.{ClosedDatabaseHoldsArchive, OpenedStoreHoldsArchive, UnopenedDatabaseHoldsArchive}
+use Rattle.archive_port.specs.Remembering.{ClosedDatabaseHoldsArchive, OpenedStoreHoldsArchive, UnopenedDatabaseHoldsArchive}
 use Rattle.archive_run.specs.Runs.{RunsOrder}
 use Rattle.archive_run.specs.Environments.{DeviceContracts}
 use Rattle.archive_run.specs.declared.faults.RunError.{RunError}

@@ -22,7 +22,7 @@ use Rattle.archive_args.specs.declared.orders.Order.TheVariants.{Sift, Table, Im
 use Rattle.archive_commands.specs.Commands.{answer_to, command_outcome}
 use Rattle.archive_commands.specs.declared.commands.Answer.{Answer}
 use Rattle.archive_listen.specs.declared.connections.BoundListener.{BoundListener}
-use Rattle.archive_run.specs.Remembering.{ClosedDatabaseHoldsArchive, OpenedStoreHoldsArchive, UnopenedDatabaseHoldsArchive}
+use Rattle.archive_port.specs.Remembering.{ClosedDatabaseHoldsArchive, OpenedStoreHoldsArchive, UnopenedDatabaseHoldsArchive}
 use Rattle.archive_run.specs.Environments.{DeviceContracts}
 use Rattle.archive_run.specs.declared.world.Environment.{Environment}
 use Rattle.archive_life.specs.Histories.{CarriesOutOrdered, DatabaseRun, Ending, DoesWithdrawal, FollowsFrom, IsHistory, printed, cut_off}

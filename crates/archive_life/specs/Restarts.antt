@@ -27,7 +27,7 @@ use Rattle.archive_run.specs.Runs.{OrderIsCarriedOut, OrderIsRefused}
 use Rattle.archive_run.specs.Environments.{DeviceContracts}
 use Rattle.archive_run.specs.declared.faults.RunError.{RunError}
 use Rattle.archive_run.specs.declared.faults.RunError.TheVariants.{Net}
-use Rattle.archive_run.specs.declared.databases.Databases.{Ghosts as Keeps}
+use Rattle.archive_port.specs.declared.databases.Databases.{Ghosts as Keeps}
 use Rattle.archive_run.specs.declared.world.Environment.{Environment}
 use Rattle.archive_life.specs.Histories.{Ending, printed, cut_off}
 

@@ -4,6 +4,7 @@ pub mod Commands
 pub mod Crashes
 pub mod Messages
 pub mod Names
+pub mod Remembering
 pub mod Replies
 pub mod Told
 pub mod Walking

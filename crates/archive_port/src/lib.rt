@@ -4,6 +4,7 @@
 
 mod checking;
 mod commands;
+mod databases;
 mod faults;
 mod marks;
 mod reports;
@@ -16,6 +17,7 @@ mod words;
 pub use archive_model::{CommandFacts, Key, Message};
 pub use checking::CheckError;
 pub use commands::Command;
+pub use databases::Databases;
 pub use faults::StoreFault;
 pub use marks::DatedMarks;
 pub use reports::{AddError, AddReport};

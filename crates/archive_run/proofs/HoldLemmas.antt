@@ -13,8 +13,8 @@ use Rattle.archive_serve.specs.Runs.{AnswersFromArchiveInRun, Each503HasItsCause
 use Rattle.archive_serve.proofs.PeerLemmas.{had_before}
 use Rattle.archive_run.specs.Databases.{UsesDatabase}
 use Rattle.archive_run.specs.Holding.{RelatesHeldArchives, KeepsHeldArchive}
-use Rattle.archive_run.specs.Remembering.{ClosedDatabaseHoldsArchive, OpenedStoreHoldsArchive}
-use Rattle.archive_run.specs.declared.databases.Databases.{Ghosts as Keeps}
+use Rattle.archive_port.specs.Remembering.{ClosedDatabaseHoldsArchive, OpenedStoreHoldsArchive}
+use Rattle.archive_port.specs.declared.databases.Databases.{Ghosts as Keeps}
 
 -- ---- one call, or none
 

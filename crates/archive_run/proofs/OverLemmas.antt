@@ -24,7 +24,7 @@ use Rattle.archive_commands.specs.Working.{CarriesOutCommand, GetsMessage}
 use Rattle.archive_run.specs.Files.{ReadsOpenedFile}
 use Rattle.archive_run.specs.Holding.{HasServedUntilF4, HasServed, RunsOrderOnArchive, after as told_after, before as told_before}
 use Rattle.archive_run.specs.Orders.{ask_of_values}
-use Rattle.archive_run.specs.Remembering.{ClosedDatabaseHoldsArchive, OpenedStoreHoldsArchive}
+use Rattle.archive_port.specs.Remembering.{ClosedDatabaseHoldsArchive, OpenedStoreHoldsArchive}
 use Rattle.archive_run.specs.Runs.{RunsOrder}
 use Rattle.archive_run.specs.Working.{ImportsFile, ExportsWholeList}
 use Rattle.archive_run.specs.Environments.{DeviceContracts}

@@ -8,7 +8,7 @@ use Rattle.archive_commands.specs.Working.{CarriesOutCommand, EndsStoreCommand}
 use Rattle.archive_commands.specs.declared.commands.Answer.{Answer}
 use Rattle.archive_run.specs.Databases.{UsesDatabase}
 use Rattle.archive_run.specs.Working.{RefusesCommand}
-use Rattle.archive_run.specs.declared.databases.Databases.{Ghosts}
+use Rattle.archive_port.specs.declared.databases.Databases.{Ghosts}
 use Rattle.archive_run.specs.declared.faults.RunError.TheVariants as refusal
 
 module _ {S D : Type 0} (keeps : Ghosts D S) (old device new : D) (file : List ℕ) (before after : S)

@@ -1,7 +1,7 @@
 -- What becomes of a database that is opened by its name, and closed again.
 use Rattle.std.specs.Prelude.{◌≡◌, ◌⊎◌, ℕ, List, Ok, Err}
 use Rattle.archive_port.specs.declared.faults.StoreFault.{StoreFault}
-use Rattle.archive_run.specs.declared.databases.Databases.{Ghosts}
+use Rattle.archive_port.specs.declared.databases.Databases.{Ghosts}
 
 module _ {S D : Type 0} (keeps : Ghosts D S) (old new : D) (file : List ℕ) where
   -- The database of this name was opened; this became of its store; and it was closed. Nothing else was asked of the device.

@@ -9,7 +9,7 @@ use Rattle.archive_listen.specs.declared.connections.BufferedSink.{Ghosts as Pas
 use Rattle.archive_listen.specs.declared.faults.AcceptError.{AcceptError}
 use Rattle.archive_listen.specs.declared.faults.ListenError.{ListenError}
 use Rattle.sift_run.specs.declared.clock.DayClock.{Ghosts as Tells}
-use Rattle.archive_run.specs.declared.databases.Databases.{Ghosts as Keeps}
+use Rattle.archive_port.specs.declared.databases.Databases.{Ghosts as Keeps}
 use Rattle.sift_run.specs.declared.files.ReadFiles.{Ghosts as Gives}
 use Rattle.sift_run.specs.declared.files.StreamedFiles.{Ghosts as Opens}
 

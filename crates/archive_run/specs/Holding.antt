@@ -28,7 +28,7 @@ use Rattle.archive_run.specs.Files.{ReadsOpenedFile}
 use Rattle.archive_run.specs.Orders.{RunsByPolicy, RunsOnDay, ask_of_values}
 use Rattle.archive_run.specs.Working.{report_line}
 use Rattle.archive_run.specs.Environments.{DeviceContracts}
-use Rattle.archive_run.specs.declared.databases.Databases.{Ghosts as Keeps}
+use Rattle.archive_port.specs.declared.databases.Databases.{Ghosts as Keeps}
 use Rattle.archive_run.specs.declared.faults.RunError.{RunError}
 use Rattle.archive_run.specs.declared.faults.RunError.TheVariants.{Net}
 use Rattle.archive_run.specs.declared.world.Environment.{Environment}

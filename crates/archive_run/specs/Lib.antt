@@ -1,7 +1,6 @@
 pub mod Refusals
 pub mod Environments
 pub mod Databases
-pub mod Remembering
 pub mod Files
 pub mod Working
 pub mod Orders

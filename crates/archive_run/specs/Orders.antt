@@ -24,7 +24,7 @@ use Rattle.sift_run.specs.declared.files.ReadFiles.{Ghosts as Gives}
 use Rattle.archive_run.specs.Databases.{UsesDatabase}
 use Rattle.archive_run.specs.Refusals.{IsCommandErrorWith}
 use Rattle.archive_run.specs.Working.{RefusesCommand, RefusesCheck, RefusesExport, FailsOnDatabase, RefusesGet, ImportsFile, RefusesImport, ExportsWholeList, RefusesOpening, report_line}
-use Rattle.archive_run.specs.declared.databases.Databases.{Ghosts as Keeps}
+use Rattle.archive_port.specs.declared.databases.Databases.{Ghosts as Keeps}
 use Rattle.archive_run.specs.declared.faults.RunError.{RunError}
 use Rattle.archive_run.specs.declared.faults.RunError.TheVariants.{Run}
 use Rattle.archive_run.specs.declared.world.Environment.{Environment}

@@ -18,7 +18,7 @@ use Rattle.archive_run.specs.Orders.{RunsByPolicy, RunsOnDay}
 use Rattle.archive_run.specs.Working.{RefusesOpening}
 use Rattle.sift_run.specs.Streams.{OutputStreamState, output_stream_state}
 use Rattle.sift_run.specs.declared.clock.DayClock.{Ghosts as Tells}
-use Rattle.archive_run.specs.declared.databases.Databases.{Ghosts as Keeps}
+use Rattle.archive_port.specs.declared.databases.Databases.{Ghosts as Keeps}
 use Rattle.archive_run.specs.declared.faults.RunError.{RunError}
 use Rattle.archive_run.specs.declared.faults.RunError.TheVariants.{Run, Net}
 use Rattle.sift_run.specs.declared.faults.CommandError.TheVariants.{Read, Write, Memory}

@@ -26,7 +26,7 @@ use Rattle.sift_run.specs.declared.files.FileError.TheVariants as file
 use Rattle.sift_run.specs.declared.files.StreamedFiles.{Ghosts as Opens}
 use Rattle.archive_run.specs.Databases.{UsesDatabase, GivesNoDatabase}
 use Rattle.archive_run.specs.Files.{ReadsOpenedFile, GivesNoInput}
-use Rattle.archive_run.specs.declared.databases.Databases.{Ghosts as Keeps}
+use Rattle.archive_port.specs.declared.databases.Databases.{Ghosts as Keeps}
 use Rattle.archive_run.specs.declared.faults.RunError.{RunError}
 use Rattle.archive_run.specs.declared.faults.RunError.TheVariants.{Run, Store, Desk, Import, Damaged, Denied}
 

@@ -2,7 +2,6 @@
 //! ports of a machine. What it shares with a sift alone is `sift_run`'s.
 #![tactic(auto)]
 
-mod databases;
 mod faults;
 mod ordering;
 mod running;
@@ -11,7 +10,6 @@ mod threaders;
 mod working;
 mod world;
 
-pub use databases::Databases;
 pub use faults::RunError;
 pub use running::run;
 pub use threaders::Threaders;

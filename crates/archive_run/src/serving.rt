@@ -5,14 +5,13 @@ ghost use Rattle.archive_listen.specs.declared.faults.ListenError.{ListenError};
 ghost use Rattle.archive_run.specs.Databases.{LeavesOrUsesDatabase};
 ghost use Rattle.archive_run.specs.Serving.{AnnouncesThenServesAll, RunsServe, RunServesDatabase, RefusesServing, ServesOpenStore, RunServesDatabaseOnDay, max_cache_bytes, server_output};
 
-use crate::databases::Databases;
 use crate::faults::RunError;
 use crate::ordering::{asking_day, named_policy};
 use crate::threaders::Threaders;
 use crate::world::{Environment, Platform};
 use archive_args::ServeArgs;
 use archive_listen::{BoundListener, BufferedSink, Ports};
-use archive_port::ArchiveStore;
+use archive_port::{ArchiveStore, Databases};
 use archive_serve::{ServingContext, ServingError, serve};
 use civil_time::Day;
 use mbox_core::device::Sink;

@@ -8,14 +8,13 @@ ghost use Rattle.sift_run.specs.Streams.{output_stream_state};
 ghost use Rattle.archive_port.specs.Checking.{ChecksArchive};
 ghost use Rattle.archive_port.specs.Crashes.{WritesNothing};
 
-use crate::databases::Databases;
 use crate::faults::RunError;
 use archive_args::{CheckArgs, ImportArgs, StoreArgs};
 use archive_commands::{Answer, GetError, carry_out, get};
 use archive_desk::{DeskError, Report, export};
 use archive_import::import_from;
 use archive_listen::BufferedSink;
-use archive_port::{ArchiveStore, CheckError, StoreFault};
+use archive_port::{ArchiveStore, CheckError, Databases, StoreFault};
 use archive_results::Ask;
 use sift_run::{CommandError, FileError, StreamedFiles};
 use std::alloc::Global;

@@ -1,14 +1,13 @@
 //! What a run is over: one device of each kind.
-use crate::databases::Databases;
 use crate::threaders::Threaders;
 use archive_listen::{BufferedSink, Ports};
-use archive_port::ArchiveStore;
+use archive_port::{ArchiveStore, Databases};
 use mbox_core::device::{Sink, Source};
 use sift_run::{DayClock, ReadFiles, StreamedFiles};
 
 /// The kinds of devices that a run is over. No value of it is ever made.
 pub trait Platform {
-    ghost use Rattle.archive_run.specs.Remembering.{ClosedDatabaseHoldsArchive, OpenedStoreHoldsArchive, UnopenedDatabaseHoldsArchive};
+    ghost use Rattle.archive_port.specs.Remembering.{ClosedDatabaseHoldsArchive, OpenedStoreHoldsArchive, UnopenedDatabaseHoldsArchive};
 
     /// What an opened archive is.
     type Archive: ArchiveStore + Drop;

@@ -22,7 +22,7 @@ use Rattle.archive_serve.specs.Runs.{ExchangesAreAnsweredWithCause}
 use Rattle.archive_args.specs.Values.{ServeValues}
 use Rattle.archive_args.specs.declared.orders.Order.TheVariants.{Table, Import}
 use Rattle.archive_run.specs.Holding.{HasServed, RunsOrderOnArchive}
-use Rattle.archive_run.specs.Remembering.{ClosedDatabaseHoldsArchive, OpenedStoreHoldsArchive, UnopenedDatabaseHoldsArchive}
+use Rattle.archive_port.specs.Remembering.{ClosedDatabaseHoldsArchive, OpenedStoreHoldsArchive, UnopenedDatabaseHoldsArchive}
 use Rattle.archive_run.specs.Runs.{RunsOrder}
 use Rattle.archive_run.specs.Environments.{DeviceContracts}
 use Rattle.archive_run.specs.declared.world.Environment.{Environment}

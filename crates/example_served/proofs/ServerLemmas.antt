@@ -24,12 +24,12 @@ use Rattle.sift_run.specs.declared.faults.CommandError.TheVariants as fault
 use Rattle.sift_run.proofs.StatusLemmas.{memory_alone}
 use Rattle.archive_run.specs.Databases.{GivesNoDatabase, UsesDatabase}
 use Rattle.archive_run.specs.Holding.{HasServedFewer}
-use Rattle.archive_run.specs.Remembering.{ClosedDatabaseHoldsArchive, OpenedStoreHoldsArchive, UnopenedDatabaseHoldsArchive}
+use Rattle.archive_port.specs.Remembering.{ClosedDatabaseHoldsArchive, OpenedStoreHoldsArchive, UnopenedDatabaseHoldsArchive}
 use Rattle.archive_run.specs.Runs.{OrderIsCarriedOut, OrderIsRefused, RunsOrder, RunReportsOrderStop}
 use Rattle.archive_run.specs.Serving.{AnnouncesThenServesFewer, RefusesServing, ServerOutput, server_output}
 use Rattle.archive_run.specs.Working.{RefusesOpening}
 use Rattle.archive_run.specs.Environments.{DeviceContracts}
-use Rattle.archive_run.specs.declared.databases.Databases.{Ghosts as Keeps}
+use Rattle.archive_port.specs.declared.databases.Databases.{Ghosts as Keeps}
 use Rattle.archive_run.specs.declared.faults.RunError.{RunError}
 use Rattle.archive_run.specs.declared.faults.RunError.TheVariants.{Run, Store, Net}
 use Rattle.archive_run.specs.declared.world.Environment.{Environment}

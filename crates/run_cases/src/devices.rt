@@ -8,7 +8,8 @@ use crate::short_files::FailingFiles;
 use archive_listen::{
     AcceptError, BoundListener, Connection, ListenError, Listener, Ports, ROOM, WriteBuffer,
 };
-use archive_run::{Databases, Platform, Threaders};
+use archive_port::Databases;
+use archive_run::{Platform, Threaders};
 use archive_store::Store;
 use civil_time::Day;
 use http_server::Log;
@@ -116,7 +117,7 @@ impl Ports for NoPorts {
 
 /// Databases that hold what the stores which were opened from them remembered when they were closed. `T` is what a store's pages lie in.
 pub trait TestedDatabases<T: Alter>: Databases<Store<T>> {
-    ghost use Rattle.archive_run.specs.Remembering.{ClosedDatabaseHoldsArchive, OpenedStoreHoldsArchive, UnopenedDatabaseHoldsArchive};
+    ghost use Rattle.archive_port.specs.Remembering.{ClosedDatabaseHoldsArchive, OpenedStoreHoldsArchive, UnopenedDatabaseHoldsArchive};
     ghost use Rattle.archive_store.specs.State.{state_of};
 
     ghost opens_held: { OpenedStoreHoldsArchive (state_of T.Store) Self.Databases };

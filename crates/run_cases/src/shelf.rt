@@ -3,7 +3,7 @@ ghost use Rattle.std.specs.Prelude.{◌≡◌, None, IfErr};
 ghost use Rattle.archive_port.specs.Replies.{refusal_of_fault};
 
 use anyhow::bail;
-use archive_run::Databases;
+use archive_port::Databases;
 use archive_store::{AdoptStop, Store, StoreFault, database_fault};
 use sqlite::{Connection, FileStore, Files, Options};
 use sqlite_disk::Memory;

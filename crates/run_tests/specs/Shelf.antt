@@ -15,7 +15,7 @@ use Rattle.archive_store.specs.Told.{HasNoStepLimit, HoldsTables, archive_in}
 use Rattle.archive_store.specs.declared.adopting.AdoptStop.{AdoptStop}
 use Rattle.archive_store.specs.State.{state_of}
 use Rattle.archive_store.specs.declared.store.Store.{Store}
-use Rattle.archive_run.specs.Remembering.{StoreHoldsArchive}
+use Rattle.archive_port.specs.Remembering.{StoreHoldsArchive}
 
 -- The archive of the database that is kept, or the empty one where there is none.
 abbrev pub KeptDatabaseHoldsArchive : Option (Held MemStore) → Archive → Type 0

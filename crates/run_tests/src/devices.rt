@@ -6,7 +6,8 @@ ghost use Rattle.run_tests.specs.Taps.{exchanges_of_taps};
 use archive_listen::{
     AcceptError, BoundListener, Connection, ListenError, Listener, Ports, ROOM, WriteBuffer,
 };
-use archive_run::{Databases, Platform, Threaders};
+use archive_port::Databases;
+use archive_run::{Platform, Threaders};
 use archive_store::{Store, StoreFault};
 use civil_time::Day;
 use http_server::Log;
