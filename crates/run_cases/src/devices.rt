@@ -5,10 +5,10 @@ ghost use Rattle.run_cases.specs.Taps.{exchanges_of_taps};
 
 use crate::shelf::TestDatabases;
 use crate::short_files::FailingFiles;
+use archive_files::ArchiveDatabases;
 use archive_listen::{
     AcceptError, BoundListener, Connection, ListenError, Listener, Ports, ROOM, WriteBuffer,
 };
-use archive_port::Databases;
 use archive_run::{Platform, Threaders};
 use archive_store::Store;
 use civil_time::Day;
@@ -115,20 +115,8 @@ impl Ports for NoPorts {
     }
 }
 
-/// Databases that hold what the stores which were opened from them remembered when they were closed. `T` is what a store's pages lie in.
-pub trait TestedDatabases<T: Alter>: Databases<Store<T>> {
-    ghost use Rattle.archive_port.specs.Remembering.{ClosedDatabaseHoldsArchive, OpenedStoreHoldsArchive, UnopenedDatabaseHoldsArchive};
-    ghost use Rattle.archive_store.specs.State.{state_of};
-
-    ghost opens_held: { OpenedStoreHoldsArchive (state_of T.Store) Self.Databases };
-
-    ghost closes_held: { ClosedDatabaseHoldsArchive (state_of T.Store) Self.Databases };
-
-    ghost unopened_held: { UnopenedDatabaseHoldsArchive Self.Databases };
-}
-
 // Of these it is not said what they hold.
-impl TestedDatabases<FileStore<Memory>> for TestDatabases {
+impl ArchiveDatabases<FileStore<Memory>> for TestDatabases {
     ghost opens_held = { λ old new file store archive held. absurd held };
 
     ghost closes_held = { λ old device new file before after archive held. absurd held };
@@ -141,7 +129,7 @@ pub struct TestPlatform<'a, RT, T, B> {
     of: PhantomData<(&'a RT, T, B)>,
 }
 
-impl<'a, RT: Files + AllocGlobal, T: Alter + Drop, B: TestedDatabases<T> + Drop> Platform
+impl<'a, RT: Files + AllocGlobal, T: Alter + Drop, B: ArchiveDatabases<T> + Drop> Platform
     for TestPlatform<'a, RT, T, B> {
     type Archive = Store<T>;
 

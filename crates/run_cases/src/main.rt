@@ -22,10 +22,11 @@ mod shelf;
 mod short_files;
 
 use anyhow::{Context, bail};
+use archive_files::ArchiveDatabases;
 use archive_listen::{BufferedSink, WriteBuffer};
 use archive_run::{Environment, run};
 use civil_time::Day;
-use devices::{FixedClock, NoPorts, NoThreaders, TestPlatform, TestedDatabases};
+use devices::{FixedClock, NoPorts, NoThreaders, TestPlatform};
 use mbox_core::device::{Counted, Tap, read_all, write_bytes};
 use shelf::TestDatabases;
 use short_files::FailingFiles;
@@ -71,7 +72,7 @@ struct Streams {
 }
 
 /// A run over these devices: the databases as it left them, and what came of it.
-fn run_over<'a, RT: Files + AllocGlobal, T: Alter + Drop, B: TestedDatabases<T> + Drop>(
+fn run_over<'a, RT: Files + AllocGlobal, T: Alter + Drop, B: ArchiveDatabases<T> + Drop>(
     alloc: Global,
     words: &[&str],
     databases: B,
