@@ -595,6 +595,56 @@ SHARED = {
     **{f"crates/{it}/src/lib.rt": "pub fn f() {}\n" for it in ("low", "desk_tests", "pages_tests")},
     **{f"crates/{it}/src/lib.rt": "#[test]\nfn f() {}\n" for it in ("memory_tests", "stored_tests")},
 }
+# Two programs that are tried together, and a third whose `main` is of another kind.
+PROGRAMS = {
+    "crates.txt": "low: memchr\nsift: low\nprobe: low anyhow\nlisten_probe: low\n",
+    "HANDLES": "Handles allowed: none.\n",
+    "crates/low/src/lib.rt": "fn f() {}\n",
+    "crates/sift/src/main.rt": "//! Sifts.\n#![tactic(auto)]\n\nmod a;\n\nfn main(rt: HostRuntime) -> ExitCode {\n    a::b(&rt)\n}\n",
+    "crates/sift/src/a.rt": "use crate::c;\n",
+    "crates/sift/status": "3\n",
+    "crates/sift/stdin": "in\n",
+    "crates/sift/stdout": "out\n",
+    "crates/probe/src/main.rt": "fn main(rt: HostRuntime) -> anyhow::Result<()> {\n}\n",
+    "crates/probe/args": "one\ntwo\n",
+    "crates/probe/data/a.toml": "x",
+    "crates/listen_probe/src/main.rt": "fn main() {}\n",
+}
+CASE = "case={} run=ended status={} runners=1 output={} proved=no\n"
+ENDED = {"tells": f"{CASE.format('probe', 0, 'expected')}{CASE.format('sift', 3, 'expected')}cases=2 ended=2 fault=0 differs=0 no-answer=0 proved=no\n"}
+
+
+def of_two(wanted, /, *lines, tells):
+    """A case of two programs that are one, of which this is said."""
+    return says("quick.py", ["sift", "probe"], PROGRAMS, wanted, *lines, tells=tells + "cases=2 proved=no\n")
+
+
+def is_one_program():
+    """Each program is a module of one, and a case of it: its name before its input, its words, and what it has to write."""
+    joins = """import pathlib, sys
+import quick
+top, *names = sys.argv[1:]
+quick.join_programs(pathlib.Path(top), names)
+quick.put_cases(pathlib.Path(top, "cases"), names)
+"""
+    with repository({**PROGRAMS, "tools/joins.py": joins}) as (top, stand_in), tempfile.TemporaryDirectory() as room:
+        at = pathlib.Path(room)
+        (at / "crates.txt").write_text("low: memchr\n", encoding="utf-8")
+        run(top, stand_in, "joins.py", [room, "sift", "probe"])
+        texts = {str(it.relative_to(at)): it.read_text(encoding="utf-8") for it in at.glob("**/*") if it.is_file()}
+        source = "crates/joined_program/src"
+        root = texts.pop(f"{source}/main.rt")
+        calls = ['"sift" => Ok(sift::main(rt)),', '"probe" => probe::main(rt).map(|()| ExitCode::SUCCESS),']
+        return [f"lacks {it}" for it in ["mod sift;\nmod probe;\n", *calls] if it not in root] + equal(texts, {
+            "crates.txt": "low: memchr\njoined_program: low anyhow\n",
+            f"{source}/sift.rt": "//! Sifts.\n\nmod a;\n\npub fn main(rt: HostRuntime) -> ExitCode {\n    a::b(&rt)\n}\n",
+            f"{source}/sift/a.rt": "use crate::sift::c;\n",
+            f"{source}/probe.rt": "pub fn main(rt: HostRuntime) -> anyhow::Result<()> {\n}\n",
+            "cases/sift": "sift\nin\n", "cases/sift.stdout": "out\n",
+            "cases/probe": "probe\n", "cases/probe.stdout": "", "cases/probe.args": "one\ntwo\n",
+        })
+
+
 BOTH = {"writes": "test store_tests::a ... ok\ntest run_tests::b ... ok\n", "tells": "run=ended status=3 runners=1 proved=no\n"}
 
 
@@ -650,6 +700,23 @@ QUICK = {
     "who alone does": says("quick.py", ["pages_tests"], SHARED, 2, faults="quick: pages_tests has no test and no program: memory_tests runs its cases\n"),
     "all of them": says("quick.py", [], TESTED, 1, "1 passed, 1 failed", **{**PASSES, "tells": TRIED}),
     "an unknown crate": says("quick.py", ["none"], TESTED, 1, faults="quick: crates.txt has no crate none"),
+    "two programs that are one": says("quick.py", ["sift", "probe"], PROGRAMS, 0, "2 passed, 0 failed", **ENDED),
+    "how they are tried": asks("quick.py", ["sift", "probe"], PROGRAMS, ["--cases", "cases", "--data", "in joined_program"], ["in sift", "in probe", "--"], **ENDED),
+    "one of two, as it is": asks("quick.py", ["probe"], PROGRAMS, ["in probe", "--", "two"], ["--cases", "in joined_program"], **ENDED),
+    "one whose main is of another kind": asks("quick.py", [], PROGRAMS, ["in joined_program", "in listen_probe"], ["in sift"], **ENDED),
+    "one of two writes something else": of_two(1, "quick: sift: it wrote something else than its file stdout", "1 passed, 1 failed",
+        tells=CASE.format("probe", 0, "expected") + "| out\n" + CASE.format("sift", 3, "differs")),
+    "one of two ends with another status": of_two(1, "quick: sift: it came to no such end: case=sift run=ended status=0 runners=1 output=expected proved=no", "1 passed, 1 failed",
+        tells=CASE.format("sift", 0, "expected") + CASE.format("probe", 0, "expected")),
+    "one of two does not end": of_two(1, "quick: probe: it came to no such end: checked: no-answer / case=probe run=no-answer proved=no", "1 passed, 1 failed",
+        tells=CASE.format("sift", 3, "expected") + "checked: no-answer\ncase=probe run=no-answer proved=no\n"),
+    "output that was compared with nothing": of_two(1, "1 passed, 1 failed",
+        tells=CASE.format("sift", 3, "expected") + "case=probe run=ended status=0 runners=1 proved=no\n"),
+    "nothing is said of one": of_two(1, "1 passed, 1 failed", tells=CASE.format("sift", 3, "expected")),
+    "nothing is said after one": says("quick.py", ["sift", "probe"], {**PROGRAMS, "crates/sift/status": "0\n"}, 1, "1 passed, 1 failed", tells=CASE.format("sift", 0, "expected")),
+    "two that are refused": says("quick.py", ["sift", "probe"], PROGRAMS, 1, "quick: sift: it came to no such end: no main / run=none proved=no",
+        "quick: probe: it came to no such end: no main / run=none proved=no", "0 passed, 2 failed", tells="no main\nrun=none proved=no\n"),
+    "each program is a module": is_one_program,
     "what a program is run on": asks("quick.py", ["shown"], TESTED, ["--data", "--", "one", "in shown", "in"], [], **PASSES),
 }
 

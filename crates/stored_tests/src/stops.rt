@@ -67,12 +67,14 @@ fn again(
     Ok((said, is_whole))
 }
 
-/// The latest call at which a log that stops ends an import of the text, by halving. That of an import in pieces comes no earlier, or
-/// `stops_late` fails.
+/// The latest call at which a log that stops ended an import of the text when this was written.
+const LAST: u64 = 161;
+
+/// The latest call at which a log that stops ends an import of the text: `LAST`, if that and the next call say so, and else by halving. That of
+/// an import in pieces comes no earlier, or `stops_late` fails.
 fn last_stop(alloc: Global, files: &Held, mbox: &[u8]) -> Result<u64, Fail> {
-    let (mut stops, mut lasts) = (0, 2048);
-    for _turn in 0..11 {
-        let calls = stops / 2 + lasts / 2;
+    let (mut stops, mut lasts, mut calls) = (0u64, 2048u64, LAST);
+    for _turn in 0..13 {
         let fuses = stopping(alloc, files, calls, CALLS)?;
         let (first, _files) = import_into(alloc, fuses, mbox, How::Whole, &mut nothing(alloc)?)?;
         if done(first).1 {
@@ -80,8 +82,17 @@ fn last_stop(alloc: Global, files: &Held, mbox: &[u8]) -> Result<u64, Fail> {
         } else {
             stops = calls;
         }
+        let between = lasts.wrapping_sub(stops);
+        if between == 1 {
+            return Ok(stops);
+        }
+        calls = if stops == LAST {
+            LAST.wrapping_add(1)
+        } else {
+            stops.wrapping_add(between / 2)
+        };
     }
-    Ok(stops)
+    Err(Fail::from("a latest call"))
 }
 
 /// An import stops at this late call, in its second transaction: the first transaction stands. One that stops at half of the calls is made
