@@ -10,7 +10,7 @@ program is run on its files `args`, `stdin` and `data`; what it writes has to be
 0. A test or a program that does not end in 900 seconds has failed. The last line is 'N passed, M failed', and the status is 0 where M is 0. If a
 crate that is named has neither, that is said; if none has any, nothing runs, and the status is 2.
 """
-import concurrent.futures, os, re, subprocess, sys, tempfile, time
+import concurrent.futures, os, re, subprocess, sys, tempfile, threading, time
 
 import part
 
@@ -290,12 +290,36 @@ def told_of(called, trial):
 
 
 def lanes():
-    """Returns how many trials of crates that stand on `sqlite` run side by side, and how many others beside them, as memory allows."""
+    """Returns how many lanes there are for all trials, and how many for those of crates that do not stand on `sqlite`, as memory allows."""
     with open("/proc/meminfo", encoding="ascii") as it:
         free = int(re.search(r"MemAvailable:\s+(\d+)", it.read())[1]) // 1024
     processors = len(os.sched_getaffinity(0))
     large = max(1, min(processors, free // LARGE))
     return large, max(0, min(processors - large, (free - large * LARGE) // SMALL))
+
+
+class Waiting:
+    """The trials that have not begun."""
+
+    def __init__(self, trials):
+        self.trials, self.lock = [*trials], threading.Lock()
+
+    def take(self, may_be_large):
+        """Takes the next trial for a lane: one of a crate that stands on `sqlite` first, if it may be one. None if there is no more for it."""
+        with self.lock:
+            fit = [it for it in self.trials if it[1]] if may_be_large else []
+            fit += [it for it in self.trials if not it[1]]
+            if fit:
+                self.trials.remove(fit[0])
+            return fit[0] if fit else None
+
+
+def run_lane(waiting, may_be_large):
+    """Makes trials one after the other, and returns what came of each."""
+    results = []
+    while trial := waiting.take(may_be_large):
+        results.append(told_of(trial[0], trial[2]))
+    return results
 
 
 def main(words):
@@ -310,17 +334,15 @@ def main(words):
         print(has_neither(it), file=sys.stderr)
     if words and without == asked:
         return 2
-    trials = trials_of(asked)
+    waiting = Waiting(trials_of(asked))
     large, small = lanes()
-    pool = concurrent.futures.ThreadPoolExecutor
-    with pool(large) as one, pool(small or 1) as other:
-        begun = [(one if is_large or not small else other).submit(told_of, called, trial) for called, is_large, trial in trials]
+    with concurrent.futures.ThreadPoolExecutor(large + small) as pool:
+        begun = [pool.submit(run_lane, waiting, at < large) for at in range(large + small)]
         try:
-            results = [it.result() for it in begun]
+            results = [it for lane in begun for it in lane.result()]
         except BaseException:
             # (those that are under way end by themselves)
-            for it in begun:
-                it.cancel()
+            waiting.trials = []
             raise
     passed, failed = sum(it[0] for it in results), [line for it in results for line in it[1]]
     for line in failed:
