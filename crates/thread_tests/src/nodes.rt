@@ -77,13 +77,13 @@ fn answers_of_links<L: Ledger>(alloc: Global, blank: Blank) -> Result<(bool, boo
 {
     let mut steps = Steps::<L>::new(blank);
     let mut chain = Nodes::new(alloc, 4)?;
-    let _made = nodes::link(&mut chain, 0, 1, &mut steps);
-    let _made = nodes::link(&mut chain, 1, 2, &mut steps);
-    let _made = nodes::link(&mut chain, 2, 3, &mut steps);
-    let closes = nodes::link(&mut chain, 3, 0, &mut steps);
-    let held = nodes::link(&mut chain, 0, 3, &mut steps);
+    let _made = nodes::link(&mut chain, 1, 0, &mut steps);
+    let _made = nodes::link(&mut chain, 2, 1, &mut steps);
+    let _made = nodes::link(&mut chain, 3, 2, &mut steps);
+    let closes = nodes::link(&mut chain, 0, 3, &mut steps);
+    let held = nodes::link(&mut chain, 3, 0, &mut steps);
     nodes::unlink(&mut chain, 3, &mut steps);
-    Ok((closes, held, nodes::link(&mut chain, 0, 3, &mut steps)))
+    Ok((closes, held, nodes::link(&mut chain, 3, 0, &mut steps)))
 }
 
 #[test]
@@ -101,10 +101,10 @@ fn answers_of_relinks<L: Ledger>(alloc: Global, blank: Blank) -> Result<(bool, b
 {
     let mut steps = Steps::<L>::new(blank);
     let mut chain = Nodes::new(alloc, 3)?;
-    let _made = nodes::link(&mut chain, 0, 1, &mut steps);
-    let moved = nodes::relink(&mut chain, 2, 1, &mut steps);
-    let closes = nodes::relink(&mut chain, 1, 2, &mut steps);
-    Ok((moved, closes, nodes::relink(&mut chain, 1, 0, &mut steps)))
+    let _made = nodes::link(&mut chain, 1, 0, &mut steps);
+    let moved = nodes::relink(&mut chain, 1, 2, &mut steps);
+    let closes = nodes::relink(&mut chain, 2, 1, &mut steps);
+    Ok((moved, closes, nodes::relink(&mut chain, 0, 1, &mut steps)))
 }
 
 #[test]
@@ -129,7 +129,7 @@ fn rows_of_two<L: Ledger>(
     let entries = two_entries(alloc)?;
     let mut links = Nodes::new(alloc, 2)?;
     if linked {
-        let _made = nodes::link(&mut links, 0, 1, &mut steps);
+        let _made = nodes::link(&mut links, 1, 0, &mut steps);
     }
     Ok(threader.rows(alloc, &entries, true, links, &mut steps)?)
 }
