@@ -1,7 +1,8 @@
 -- Rows that a unique key keeps apart: what a table holds after a write that the database took.
 use Rattle.std.proofs.Common.{◌≡◌, ◌≢◌, ℕ, ℤ, Bool, true, false, List, [], ◌∷◌, map, refl, sym, ap, ap₂, subst, ◌∙◌}
-use Rattle.std.specs.Prelude.{◌&&◌, ◌||◌, not, bytes_eq}
+use Rattle.std.specs.Prelude.{◌&&◌, not, bytes_eq}
 use Rattle.std.specs.List.{AllByRecursion, list_any}
+use Rattle.std.proofs.lemmas.Bool.{or_parts}
 use Rattle.std.specs.Ordering.{is_ne, ordering_reverse}
 use Rattle.std.specs.declared.cmp.Ordering.TheVariants.{Less}
 use Rattle.sqlite.specs.declared.types.Value.{Value}
@@ -13,7 +14,6 @@ use Rattle.sqlite.specs.Tree.{Trees, IsTable, rowid}
 use Rattle.sqlite_sql.specs.declared.ops.BinaryOp.TheVariants.{Compare}
 use Rattle.sqlite_sql.specs.declared.ops.CompareOp.TheVariants.{Eq}
 use Rattle.sqlite_schema.specs.Rules.{agree, clashes, differ, passes, Keeps}
-use Rattle.sqlite_schema.specs.declared.schema.Constraint.{Constraint}
 use Rattle.sqlite_schema.specs.declared.schema.Constraint.TheVariants.{Unique, ForeignKey}
 use Rattle.sqlite_value.specs.Keys.{plain, first_key}
 use Rattle.sqlite_value.proofs.OrderLemmas.{value_cmp_total}
@@ -22,10 +22,6 @@ use Rattle.archive_tables.specs.Schema.{schema_2, archive_schema, option_table, 
 use Rattle.archive_tables.specs.Tables.{NumberedRecord, numbered_row, numbered_from_row, HoldsRecords, HaveDistinctKeys}
 use Rattle.archive_tables.proofs.RowLemmas.{records_are}
 use Rattle.archive_tables.proofs.SelectLemmas.{alone, truth_back, text_is}
-
-none_of : (a b : Bool) → (a || b) ≡ false → (a ≡ false) × (b ≡ false)
-none_of true b h = absurd cc
-none_of false b h = (refl, h)
 
 -- numbers of which one is above the other
 differs : (a b : ℤ) → value_cmp (Int b) (Int a) ≡ Less → differ (Int a) (Int b) ≡ true
@@ -60,15 +56,15 @@ module _ {R : Type 0} (cells : R → Row) (word : R → List ℕ) (first : (n : 
       → list_any (has_key_of (numbered_row cells r)) (rows_of all) ≡ false → list_any (same_word r.content) (its all) ≡ false
   not_again r [] above none = refl
   not_again r (s ∷ all) above none =
-      let both = none_of _ _ none in
+      let both = or_parts _ _ none in
       rw (sym (test_is r s above.0) ∙ both.0) (not_again r all above.1 both.1)
 
   apart : (all : List (NumberedRecord R)) → IsTable (rows_of all) → AllByRecursion (λ row. clashes plain (1 ∷ []) (rows_of all) row ≡ false) (rows_of all) → HaveDistinctKeys same_word (its all)
   apart [] up none = tt
   apart (r ∷ all) up none =
       let rest = all_weaker (λ row. clashes plain (1 ∷ []) (rows_of (r ∷ all)) row ≡ false) (λ row. clashes plain (1 ∷ []) (rows_of all) row ≡ false)
-      (λ row no. (none_of _ _ no).1) (rows_of all) none.1 in
-      (not_again r all up.0 (none_of _ _ none.0).1, apart all up.1 rest)
+      (λ row no. (or_parts _ _ no).1) (rows_of all) none.1 in
+      (not_again r all up.0 (or_parts _ _ none.0).1, apart all up.1 rest)
 
   -- records whose rows have no key twice
   pub apart_by_key : (read : Row → R) (back : (n : ℤ) (r : R) → read (Int n ∷ cells r) ≡ r) (rows : List Row) → HoldsRecords cells read rows
@@ -80,12 +76,8 @@ module _ {R : Type 0} (cells : R → Row) (word : R → List ℕ) (first : (n : 
 
 -- ---- `list_option` and `address` have one key each
 
-is_unique : Constraint → Bool
-is_unique Unique = true
-is_unique _ = false
-
 pub is_no_foreign_key : Unique ≢ ForeignKey
-is_no_foreign_key e = absurd (let bad = ap is_unique e in cc)
+is_no_foreign_key e = cc
 
 not_so : (b : Bool) → (not b && true) ≡ true → b ≡ false
 not_so true h = absurd cc
@@ -93,8 +85,7 @@ not_so false h = refl
 
 pub one_option_a_list : (next : Trees) → Keeps Unique archive_schema next → AllByRecursion (λ row. clashes plain (1 ∷ []) (next 13) row ≡ false) (next 13)
 one_option_a_list next keeps =
-    all_weaker (λ row. passes Unique archive_schema next option_table row ≡ true) (λ row. clashes plain (1 ∷ []) (next 13) row ≡ false)
-    (λ row h. not_so _ h) (next 13) keeps.1.1.1.1.1.1.0
+    all_weaker (λ row. passes Unique archive_schema next option_table row ≡ true) (λ row. clashes plain (1 ∷ []) (next 13) row ≡ false) (λ row h. not_so _ h) (next 13) keeps.1.1.1.1.1.1.0
 
 pub one_option_a_list_2 : (next : Trees) → Keeps Unique schema_2 next → AllByRecursion (λ row. clashes plain (1 ∷ []) (next 13) row ≡ false) (next 13)
 one_option_a_list_2 next keeps =

@@ -21,7 +21,7 @@ use Rattle.sqlite.specs.State.{State, Fails, IsNotRun, IsNoStatement, FailsToQue
 use Rattle.sqlite.proofs.Callers.{IsPlain, command_of}
 use Rattle.archive_tables.specs.Schema.{archive_schema}
 use Rattle.archive_tables.specs.Tables.{IsOpenArchive}
-use Rattle.archive_tables.specs.Rows.{IsTextReadError}
+use Rattle.archive_tables.specs.Rows.{out_of_memory_error, IsTextReadError}
 use Rattle.archive_tables.specs.Calls.{IsMemoryOrDiskError, LeavesRowsUnchanged, FaultKeepsRowsOrRollsBack}
 use Rattle.archive_tables.proofs.SelectLemmas.{plain_query}
 
@@ -72,13 +72,6 @@ module _ (s : Schema) (sql : List ℕ) (body : Query) (names : List (List ℕ)) 
       let db : it.0 ≡ old.now = subst (λ b. IsSourceOf b old.now it.0) (ap (λ x. reads_listing x sql) has ∙ unlisted) it.1 in
       absurd (never_refused e (subst₂ (λ c d. RefusesToRead old.step_limit c d params e) (ap command_of known ∙ is) db it.2))
 
-module _ (sql : List ℕ) (body : Query) (names : List (List ℕ)) (is : command_of (understood archive_schema sql) ≡ Select (record { lets = []; body = body }) names)
-    (plain : IsPlain (understood archive_schema sql)) (unlisted : reads_listing archive_schema sql ≡ false) (params : Row) (fits : Fits sql (length params) (understood archive_schema sql))
-    (typed : accepts_program archive_schema [] body params ≡ true) (calm : (db : Trees) → ¬ ProgramOverflows db params [] [] body)
-    (old new : State) {behind : Option Database} (k : IsOpenArchive behind old) (free : old.step_limit ≡ None) where
-  pub any_question_fails_by : (e : Error) → FailsToQuery sql params old new e → IsMemoryOrDiskError old new e
-  any_question_fails_by = schema_question_fails_by archive_schema sql body names is plain unlisted params fits typed calm old new k.is_open k.schema free
-
 -- a plain query computes no sum
 pub calm : (t : ℕ) (terms shown : List Term) (order : List (Term × Key)) (params : Row) (db : Trees) → ¬ ProgramOverflows db params [] [] (plain_query t terms shown order)
 calm t terms shown order params db (inl grouped) = grouped
@@ -90,13 +83,10 @@ module _ (sql : List ℕ) (t : ℕ) (terms shown : List Term) (order : List (Ter
     (typed : accepts_program archive_schema [] (plain_query t terms shown order) params ≡ true)
     (old new : State) {behind : Option Database} (k : IsOpenArchive behind old) (free : old.step_limit ≡ None) where
   pub question_fails_by : (e : Error) → FailsToQuery sql params old new e → IsMemoryOrDiskError old new e
-  question_fails_by = any_question_fails_by sql (plain_query t terms shown order) names is plain unlisted params fits typed (calm t terms shown order params) old new k free
+  question_fails_by =
+      schema_question_fails_by archive_schema sql (plain_query t terms shown order) names is plain unlisted params fits typed (calm t terms shown order params) old new k.is_open k.schema free
 
 -- ---- a result whose error has a cause
-
-pub each_error : {A E : Type 0} (r : Result A E) (P Q : E → Type 0) → ((e : E) → P e → Q e) → IfErr r P → IfErr r Q
-each_error (Ok a) P Q why it = tt
-each_error (Err e) P Q why it = why e it
 
 -- the exit of a `?`
 pub carried : {A E : Type 0} (r : Result A E) (e : E) (Q : E → Type 0) → IsErrAnd r (λ f. f ≡ e) → Q e → IfErr r Q
@@ -114,11 +104,11 @@ stays_rests None old new it = λ up. it
 stays_rests (Some db) old new it = λ up. inl it
 
 -- what a row that shows a text says of its fault
-pub read_fails_by : {X : Type 0} (old new : State) (text : X → List ℕ) (found : Option X) (x : X) (e : Error) → found ≡ Some x → IsTextReadError (text x) e
-    → IsMemoryOrDiskError old new e ⊎ IsSomeAnd found (λ x. ¬ IsUtf8 (text x))
-read_fails_by old new text found x e is (inl none) = inl (inl none)
-read_fails_by old new text found x e is (inr bad) = inr (subst (λ o. IsSomeAnd o (λ x. ¬ IsUtf8 (text x))) (sym is) bad.0)
+pub text_unread : {X : Type 0} (text : X → List ℕ) (found : Option X) (x : X) (e : Error) → found ≡ Some x → IsTextReadError (text x) e
+    → (e ≡ out_of_memory_error) ⊎ IsSomeAnd found (λ x. ¬ IsUtf8 (text x))
+text_unread text found x e is (inl none) = inl none
+text_unread text found x e is (inr bad) = inr (subst (λ o. IsSomeAnd o (λ x. ¬ IsUtf8 (text x))) (sym is) bad.0)
 
-pub good_text_fails_by : (old new : State) (text : List ℕ) (e : Error) → IsUtf8 text → IsTextReadError text e → IsMemoryOrDiskError old new e
-good_text_fails_by old new text e good (inl none) = inl none
-good_text_fails_by old new text e good (inr bad) = absurd (bad.0 good)
+pub good_text_unread : (text : List ℕ) (e : Error) → IsUtf8 text → IsTextReadError text e → e ≡ out_of_memory_error
+good_text_unread text e good (inl none) = none
+good_text_unread text e good (inr bad) = absurd (bad.0 good)

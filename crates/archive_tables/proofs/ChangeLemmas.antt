@@ -1,15 +1,16 @@
 -- What UPDATE and DELETE make of a table in which at most one row is hit.
-use Rattle.std.proofs.Common.{◌≡◌, ◌⊎◌, inl, inr, ℤ, List, [], ◌∷◌, ◌++◌, map, filter, cond, Bool, true, false, not, refl, sym, ap, ap₂, subst, ◌∙◌}
+use Rattle.std.proofs.Common.{◌≡◌, ◌⊎◌, inl, inr, ℤ, List, [], ◌∷◌, ◌++◌, map, filter, Bool, true, false, not, refl, sym, ap, ap₂, subst, ◌∙◌}
 use Rattle.std.specs.Prelude.{if◌then◌else◌, ◌||◌}
 use Rattle.std.specs.List.{AllByRecursion, list_any}
 use Rattle.std.specs.Ordering.{ordering_reverse}
 use Rattle.std.specs.declared.cmp.Ordering.TheVariants.{Less, Equal, Greater}
-use Rattle.std.proofs.lemmas.Bool.{cases_Bool}
+use Rattle.std.proofs.lemmas.Bool.{cases_Bool, or_parts}
 use Rattle.std.proofs.lemmas.Cmp.{tied_itself}
 use Rattle.sqlite.specs.declared.types.Value.{Value}
 use Rattle.sqlite.specs.declared.types.Value.TheVariants.{Int}
 use Rattle.sqlite.specs.Order.{Row, value_cmp}
 use Rattle.sqlite.specs.Tree.{IsTable, put_row, without_rowid, rowid}
+use Rattle.sqlite_trees.proofs.ListLemmas.{map-map, filter-map}
 use Rattle.sqlite_value.proofs.OrderLemmas.{value_cmp_total}
 use Rattle.archive_tables.specs.Tables.{NumberedRecord, numbered_row, numbered_from_row, HoldsRecords, HaveDistinctKeys}
 use Rattle.archive_tables.proofs.RowLemmas.{holds_from, records_are}
@@ -25,32 +26,29 @@ module _ {R : Type 0} (same : R → R → Bool) where
   apart_mapped g keeps [] apart = tt
   apart_mapped g keeps (x ∷ xs) apart = (any_mapped g x x xs keeps ∙ apart.0, apart_mapped g keeps xs apart.1)
 
-  none_of : (a b : Bool) → (a || b) ≡ false → (a ≡ false) × (b ≡ false)
-  none_of true b h = absurd cc
-  none_of false b h = (refl, h)
-
   none_filtered : (q p : R → Bool) (xs : List R) → list_any q xs ≡ false → list_any q (filter p xs) ≡ false
   none_filtered q p [] none = refl
   none_filtered q p (x ∷ xs) none =
-      let both = none_of (q x) (list_any q xs) none in
+      let both = or_parts (q x) (list_any q xs) none in
       let rest = none_filtered q p xs both.1 in
-      elim (p x) as (λ b. list_any q (cond b (x ∷ filter p xs) (filter p xs)) ≡ false) [ true ↦ rw both.0 rest | false ↦ rest ]
+      elim (cases_Bool (p x)) [ inl kept ↦ rw kept (rw both.0 rest) | inr dropped ↦ rw dropped rest ]
 
   pub apart_filtered : (p : R → Bool) (xs : List R) → HaveDistinctKeys same xs → HaveDistinctKeys same (filter p xs)
   apart_filtered p [] apart = tt
-  apart_filtered p (x ∷ xs) apart =
-      elim (p x) as (λ b. HaveDistinctKeys same (cond b (x ∷ filter p xs) (filter p xs)))
-      [ true ↦ (none_filtered (same x) p xs apart.0, apart_filtered p xs apart.1) | false ↦ apart_filtered p xs apart.1 ]
+  apart_filtered p (x ∷ xs) apart = elim (cases_Bool (p x)) [
+    | inl kept ↦ rw kept (none_filtered (same x) p xs apart.0, apart_filtered p xs apart.1)
+    | inr dropped ↦ rw dropped (apart_filtered p xs apart.1)
+  ]
 
   any_more : (q : R → Bool) (xs : List R) (new : R) → list_any q xs ≡ false → q new ≡ false → list_any q (xs ++ new ∷ []) ≡ false
   any_more q [] new none last = rw last refl
-  any_more q (x ∷ xs) new none last = let both = none_of (q x) (list_any q xs) none in rw both.0 (any_more q xs new both.1 last)
+  any_more q (x ∷ xs) new none last = let both = or_parts (q x) (list_any q xs) none in rw both.0 (any_more q xs new both.1 last)
 
   -- one more that is the same as none of them
   pub apart_more : (xs : List R) (new : R) → ((a b : R) → same a b ≡ same b a) → list_any (same new) xs ≡ false → HaveDistinctKeys same xs → HaveDistinctKeys same (xs ++ new ∷ [])
   apart_more [] new flips none apart = (refl, tt)
   apart_more (x ∷ xs) new flips none apart =
-      let both = none_of (same new x) (list_any (same new) xs) none in
+      let both = or_parts (same new x) (list_any (same new) xs) none in
       (any_more (same x) xs new apart.0 (flips x new ∙ both.0), apart_more xs new flips both.1 apart.1)
 
 -- ---- rows
@@ -127,8 +125,7 @@ module _ {R : Type 0} (cells : R → Row) (read : Row → R) (back : (n : ℤ) (
     ]
 
     its_moved : (all : List (NumberedRecord R)) → its (map moved all) ≡ map changed (its all)
-    its_moved [] = refl
-    its_moved (r ∷ all) = ap (λ l. changed r.content ∷ l) (its_moved all)
+    its_moved all = map-map (λ (r : NumberedRecord R). r.content) moved all ∙ sym (map-map changed (λ (r : NumberedRecord R). r.content) all)
 
     above_moved : (n : ℤ) (all : List (NumberedRecord R)) → AreAbove n all → AreAbove n (map moved all)
     above_moved n [] above = tt
@@ -195,8 +192,7 @@ module _ {R : Type 0} (cells : R → Row) (read : Row → R) (back : (n : ℤ) (
   ]
 
   its_left : (all : List (NumberedRecord R)) → its (filter left all) ≡ filter (λ r. not (wanted r)) (its all)
-  its_left [] = refl
-  its_left (r ∷ all) = elim (cases_Bool (wanted r.content)) [ inl found ↦ rw found (its_left all) | inr other ↦ rw other (ap (λ l. r.content ∷ l) (its_left all)) ]
+  its_left all = sym (filter-map (λ r. not (wanted r)) (λ (r : NumberedRecord R). r.content) all)
 
   above_left : (n : ℤ) (all : List (NumberedRecord R)) → AreAbove n all → AreAbove n (filter left all)
   above_left n [] above = tt

@@ -1,6 +1,6 @@
 -- What a crash may leave after a statement: what it left before, or what the statement commits.
-use Rattle.std.proofs.Common.{◌≡◌, ◌⊎◌, inl, inr, ℕ, ℤ, ◌+◌, List, Ok, Err, Result, refl, sym, ap, subst, ◌∙◌, true, false, Bool, Some, None, Option}
-use Rattle.std.specs.Prelude.{⊤, IsTrue, unwrap_or, if◌then◌else◌}
+use Rattle.std.proofs.Common.{◌≡◌, ◌⊎◌, inl, inr, ℕ, ℤ, List, Ok, Err, Result, refl, sym, ap, subst, ◌∙◌, false, Some, None, Option}
+use Rattle.std.specs.Prelude.{⊤, IsTrue, unwrap_or}
 use Rattle.sqlite.specs.Order.{Row}
 use Rattle.sqlite_ast.specs.declared.Statement.{Statement}
 use Rattle.sqlite_ast.specs.declared.Statement.TheVariants as written
@@ -13,10 +13,9 @@ use Rattle.sqlite_schema.specs.declared.command.Returning.{Returning}
 use Rattle.sqlite_schema.specs.declared.command.Command.{Command}
 use Rattle.sqlite_schema.specs.declared.command.Command.TheVariants.{Insert, InsertOr, Update, Delete, Begin, Commit, Rollback, Release}
 use Rattle.sqlite_resolve.specs.declared.compiled.Compiled.{Compiled}
-use Rattle.sqlite_resolve.specs.Lowering.{Checked, and_then}
-use Rattle.sqlite_resolve.specs.Scope.{Name}
-use Rattle.sqlite_resolve.specs.Compile.{first, with_command, meaning, planned, compiled, command, returning, timed, small}
-use Rattle.sqlite.specs.Listing.{understood, reads_listing, listing_schema, if_select}
+use Rattle.sqlite_resolve.specs.Lowering.{Checked}
+use Rattle.sqlite_resolve.specs.Compile.{first, returning}
+use Rattle.sqlite.specs.Listing.{understood}
 use Rattle.sqlite.specs.Effect.{Database}
 use Rattle.sqlite.specs.Does.{Tally, Does}
 use Rattle.sqlite.specs.declared.run.Mode.{Mode}
@@ -28,11 +27,11 @@ use Rattle.archive_tables.specs.Schema.{archive_schema}
 use Rattle.archive_tables.specs.Tables.{IsOpenArchive, IsArchiveAtRest, AreArchiveTables, archive_in_trees, archive_of}
 use Rattle.archive_tables.specs.Making.{IsCreatingTables, IsInTransactionWithSchema, IsMigratingTables, IsReadyToCommit}
 use Rattle.archive_tables.specs.Calls.{CommitsChange}
-use Rattle.archive_tables.specs.Crashes.{IsArchiveStored, IsCommitOf, CrashAddsNothing, CrashAddsOnly, CrashLeavesOldOrChanged, CrashAddsOnlyCommit}
+use Rattle.archive_tables.specs.Crashes.{IsArchiveStored, IsCommitOf, CrashAddsNothing, CrashAddsOnly, CrashAddsOnlyCommit}
 use Rattle.sqlite.specs.Store.{Ghosts}
 use Rattle.sqlite.specs.Held.{Held, state}
 use Rattle.archive_tables.proofs.RunLemmas.{value_is}
-use Rattle.archive_tables.proofs.LastLemmas.{then_gives, select_gives}
+use Rattle.archive_tables.proofs.LastLemmas.{compiled_as}
 use Rattle.archive_tables.proofs.RefusalLemmas.{WritesRows, WritesNothing, shows_nothing}
 
 -- ---- a question, whatever the schema is
@@ -50,30 +49,10 @@ unfolding returning
 returns_none schema base (written.Select q) ours = refl
 returns_none schema base _ ours = absurd ours
 
-from_parsed : (schema : Schema) (r : Checked Parsed) (c : Compiled) → IsQuestionText r → and_then r (λ p. and_then (planned schema p) (λ plan. Ok (with_command p plan))) ≡ Ok c
-    → c.returning ≡ None
-unfolding planned meaning
-from_parsed schema (Err e) c ours is = absurd ours
-from_parsed schema (Ok p) c ours is =
-    let formats = timed schema p.formats p.statement in
-    let base = small p.names + small formats in
-    then_gives (planned schema p) (λ plan. Ok (with_command p plan)) c is (λ plan plans made.
-    then_gives (meaning schema p base) (λ (found : Command × Option Returning). Ok (formats, found)) plan plans (λ found means given.
-    then_gives (returning schema base p.statement) (λ (shown : Option Returning). and_then (command schema p.formats base p.statement) (λ k. Ok (k, shown))) found means (λ shown shows rest.
-    then_gives (command schema p.formats base p.statement) (λ k. Ok (k, shown)) found rest (λ k commands pair.
-    let none : shown ≡ None = value_is (sym shows ∙ returns_none schema base p.statement ours) in
-    let first_is : shown ≡ found.1 = ap (λ (x : Command × Option Returning). x.1) (value_is pair) in
-    let next_is : found.1 ≡ plan.1.1 = ap (λ (x : List Name × (Command × Option Returning)). x.1.1) (value_is given) in
-    let last_is : plan.1.1 ≡ c.returning = ap (λ (x : Compiled). x.returning) (value_is made) in
-    sym last_is ∙ sym next_is ∙ sym first_is ∙ none))))
-
 understood_none : (schema : Schema) (sql : List ℕ) (c : Compiled) → IsQuestionText (first sql) → understood schema sql ≡ Ok c → c.returning ≡ None
-unfolding understood compiled
-understood_none schema sql c ours is = one_of (reads_listing schema sql) is
-  where
-    one_of : (t : Bool) → (if t then if_select (compiled listing_schema sql) else compiled schema sql) ≡ Ok c → c.returning ≡ None
-    one_of true listing = from_parsed listing_schema (first sql) c ours (select_gives _ c listing)
-    one_of false here = from_parsed schema (first sql) c ours here
+understood_none schema sql c ours is =
+    let it = compiled_as schema sql c is in
+    value_is (sym it.returns ∙ returns_none it.schema it.base it.parsed.statement (subst IsQuestionText it.reads ours))
 
 never_shows : (sql : List ℕ) (params : Row) (s : State) (db : Trees) → IsQuestionText (first sql) → ¬ CommitsShowing sql params s db
 unfolding CommitsShowing
@@ -104,11 +83,9 @@ EndsNothing (Release name) = ⊥
 EndsNothing _ = ⊤
 
 rows_end_nothing : (k : Command) → WritesRows k → EndsNothing k
-rows_end_nothing (Insert at from) ours = tt
-rows_end_nothing (InsertOr at how from clauses) ours = tt
-rows_end_nothing (Update at q) ours = tt
-rows_end_nothing (Delete at q) ours = tt
-rows_end_nothing _ ours = absurd ours
+rows_end_nothing Commit ours = ours
+rows_end_nothing (Release name) ours = ours
+rows_end_nothing _ ours = tt
 
 no_value : {A E : Type 0} {a : A} {e : E} → ◌≡◌ {A = Result A E} (Ok a) (Err e) → ⊥
 no_value is = cc
@@ -242,21 +219,14 @@ module _ (sql : List ℕ) (schema : Schema) (k : Command) (is : command_of (unde
     | inr made ↦ absurd (never_within db made)
   ]
 
--- ---- what COMMIT leaves of tables that are held
+-- ---- what COMMIT leaves of the tables of an archive
 
-pub commit_is_stored : (behind : Option Database) (s : State) (db : Trees) → IsOpenArchive behind s → IsCommitOf s db → IsArchiveStored (archive_of s) db
-commit_is_stored behind s db held it = record {
-  lists = subst (λ (t : Trees). Lists (t catalog_tree) archive_schema) (sym it.0) (subst (λ (x : Schema). Lists (s.now.trees catalog_tree) x) held.schema (it.1 held.is_open).0.lists);
-  tables = subst AreArchiveTables (sym it.0) held.tables;
-  archive_is = ap archive_in_trees it.0;
-}
-
--- of tables that are made, or brought over
-pub made_is_stored : (before : Database) (archive : Archive) (s : State) (db : Trees) → IsReadyToCommit s before archive → IsCommitOf s db → IsArchiveStored archive db
-made_is_stored before archive s db made it = record {
-  lists = subst (λ (t : Trees). Lists (t catalog_tree) archive_schema) (sym it.0) (subst (λ (x : Schema). Lists (s.now.trees catalog_tree) x) made.schema_is (it.1 made.is_open).0.lists);
-  tables = subst AreArchiveTables (sym it.0) made.are_tables_of_version;
-  archive_is = ap archive_in_trees it.0 ∙ made.archive_is;
+stored_by : (archive : Archive) (s : State) (db : Trees) → IsTrue s.is_open → s.now.schema ≡ archive_schema → AreArchiveTables s.now.trees → archive_in_trees s.now.trees ≡ archive
+    → IsCommitOf s db → IsArchiveStored archive db
+stored_by archive s db up schema tables same it = record {
+  lists = subst (λ (t : Trees). Lists (t catalog_tree) archive_schema) (sym it.0) (subst (λ (x : Schema). Lists (s.now.trees catalog_tree) x) schema (it.1 up).0.lists);
+  tables = subst AreArchiveTables (sym it.0) tables;
+  archive_is = ap archive_in_trees it.0 ∙ same;
 }
 
 -- ---- one call after the other
@@ -265,36 +235,8 @@ module _ {S : Type 0} (g : Ghosts S) where
   pub quiet_then : (old mid new : Held S) → CrashAddsNothing g old mid → (HasCleanDisk (state g new) → HasCleanDisk (state g mid)) → CrashAddsNothing g mid new → CrashAddsNothing g old new
   quiet_then old mid new first was last clean db may = first (was clean) db (last clean db may)
 
-  pub adds_after : (old mid new : Held S) (Is : Trees → Type 0) → CrashAddsNothing g old mid → (HasCleanDisk (state g new) → HasCleanDisk (state g mid)) → CrashAddsOnly g mid new Is
-      → CrashAddsOnly g old new Is
-  adds_after old mid new Is first was last clean db may = elim (last clean db may) [ inl before ↦ inl (first (was clean) db before) | inr is ↦ inr is ]
-
-  pub adds_before : (old mid new : Held S) (Is : Trees → Type 0) → CrashAddsOnly g old mid Is → (HasCleanDisk (state g new) → HasCleanDisk (state g mid)) → CrashAddsNothing g mid new
-      → CrashAddsOnly g old new Is
-  adds_before old mid new Is first was last clean db may = first (was clean) db (last clean db may)
-
-  pub adds_none : (old new : Held S) (Is : Trees → Type 0) → CrashAddsNothing g old new → CrashAddsOnly g old new Is
-  adds_none old new Is quiet clean db may = inl (quiet clean db may)
-
   pub adds_as : (old new : Held S) (a b : Archive) → a ≡ b → CrashAddsOnly g old new (IsArchiveStored a) → CrashAddsOnly g old new (IsArchiveStored b)
   adds_as old new a b same adds clean db may = elim (adds clean db may) [ inl before ↦ inl before | inr is ↦ inr (subst (λ x. IsArchiveStored x db) same is) ]
-
-  pub adds_weaker : (old new : Held S) (Is So : Trees → Type 0) → ((db : Trees) → Is db → So db) → CrashAddsOnly g old new Is → CrashAddsOnly g old new So
-  adds_weaker old new Is So weaker adds clean db may = elim (adds clean db may) [ inl before ↦ inl before | inr is ↦ inr (weaker db is) ]
-
-  -- what a write adds outside a transaction
-  pub alone_adds : (old new : Held S) (Needs : Archive → Type 0) (change : Archive → Archive) → CrashLeavesOldOrChanged g old new Needs change → Needs (archive_of (state g old))
-      → IsArchiveAtRest (state g old)
-      → CrashAddsOnly g old new (IsArchiveStored (change (archive_of (state g old))))
-  alone_adds old new Needs change crash needs kept clean db may = elim (crash None kept needs clean db may) [ inl before ↦ inl before | inr it ↦ inr it.1 ]
-
-  -- a write within a transaction
-  pub within_adds : (old new : Held S) (before : Database) (Needs : Archive → Type 0) (change : Archive → Archive) → IsOpenArchive (Some before) (state g old) → Needs (archive_of (state g old))
-      → CrashLeavesOldOrChanged g old new Needs change → CrashAddsNothing g old new
-  within_adds old new before Needs change held needs crash clean db may = elim (crash (Some before) held needs clean db may) [
-    | inl earlier ↦ earlier
-    | inr it ↦ absurd (let e = it.0 in cc)
-  ]
 
   pub never_adds : (old new : Held S) (before : Database) (Is : Trees → Type 0) → CrashAddsOnly g old new (λ db. (◌≡◌ {A = Option Database} (Some before) None) × Is db) → CrashAddsNothing g old new
   never_adds old new before Is adds clean db may = elim (adds clean db may) [ inl earlier ↦ earlier | inr it ↦ absurd (let e = it.0 in cc) ]
@@ -303,7 +245,7 @@ module _ {S : Type 0} (g : Ghosts S) where
       → CrashAddsOnly g old new (IsArchiveStored archive)
   commit_made old new before archive made crash clean db may = elim (crash clean db may) [
     | inl earlier ↦ inl earlier
-    | inr it ↦ inr (made_is_stored before archive (state g old) db made it)
+    | inr it ↦ inr (stored_by archive (state g old) db made.is_open made.schema_is made.are_tables_of_version made.archive_is it)
   ]
 
   -- COMMIT of tables that are held
@@ -311,7 +253,7 @@ module _ {S : Type 0} (g : Ghosts S) where
       → CrashAddsOnly g old new (IsArchiveStored (archive_of (state g old)))
   commit_over old new before held crash clean db may = elim (crash clean db may) [
     | inl earlier ↦ inl earlier
-    | inr it ↦ inr (commit_is_stored (Some before) (state g old) db held it)
+    | inr it ↦ inr (stored_by (archive_of (state g old)) (state g old) db held.is_open held.schema held.tables refl it)
   ]
 
 -- ---- a transaction that brings tables over

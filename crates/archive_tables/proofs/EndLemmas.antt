@@ -107,6 +107,17 @@ shown_same : (old new : State) (sql : List ℕ) (params : Row) → IsQuestionTex
 shown_same old new sql params asks (Ok rows) shown = question_sees old new sql params rows.items asks shown
 shown_same old new sql params asks (Err e) shown = tt
 
+-- what is said of the archive is said of its rows
+of_rows : {S : Type 0} {g : Ghosts S} {old new : Held S} {A : Type 0} {r : Result A Error} {Says : Archive → A → Type 0} {Unread : Type 0}
+    → AnswersFromRows g old new r (λ trees. Says (archive_in_trees trees)) Unread → AnswersFromDatabase g old new r Says Unread
+of_rows it = record {
+  answer_holds = it.answer_holds;
+  fault_has_cause = it.fault_has_cause;
+  same_database = it.same_database;
+  crash_adds_nothing = it.crash_adds_nothing;
+  ends_call = it.ends_call;
+}
+
 module _ {S : Type 0} {g : Ghosts S} {old new : Held S} (sql : List ℕ) (params : Row) (asks : IsQuestionText (first sql)) where
   module _ (q : Result (Vec Row Global) Error) (s : Survives (state g old) (state g new) (CommitsShowing sql params (state g old)))
       (ok : HasCleanDisk (state g new) → IfOk q (λ rows. Shown sql params (state g old) (state g new) rows.items))
@@ -128,17 +139,23 @@ module _ {S : Type 0} {g : Ghosts S} {old new : Held S} (sql : List ℕ) (params
     failed_ends r Q is = query_ends r (λ clean. answers_none r Q _ is)
 
     -- the whole clause there
-    pub asks_fails : {A : Type 0} {Says : Archive → A → Type 0} {Unread : Type 0} (r : Result A Error) (e : Error) → IsErrAnd r (λ f. f ≡ e)
+    pub asks_rows_fails : {A : Type 0} {Says : Trees → A → Type 0} {Unread : Type 0} (r : Result A Error) (e : Error) → IsErrAnd r (λ f. f ≡ e)
         → (HasCleanDisk (state g new) → (behind : Option Database) → IsOpenArchive behind (state g old) → FaultKeepsRowsOrRollsBack behind (state g old) (state g new))
         → (HasCleanDisk (state g new) → IsArchiveAtRest (state g old) → (state g old).step_limit ≡ None → IsMemoryOrDiskError (state g old) (state g new) e ⊎ Unread)
-        → AnswersFromDatabase g old new r Says Unread
-    asks_fails {A} {Says} {Unread} r e is rests why = record {
+        → AnswersFromRows g old new r Says Unread
+    asks_rows_fails {A} {Says} {Unread} r e is rests why = record {
       answer_holds = λ clean behind k. on_fault _ _ r is (rests clean behind k);
       fault_has_cause = λ clean k free. carried r e (λ f. IsMemoryOrDiskError (state g old) (state g new) f ⊎ Unread) is (why clean k free);
       same_database = λ clean. answers_none r _ _ is;
       crash_adds_nothing = λ clean db may. question_adds_nothing (state g old) (state g new) sql params asks s clean db may;
       ends_call = failed_ends r _ is;
     }
+
+    pub asks_fails : {A : Type 0} {Says : Archive → A → Type 0} {Unread : Type 0} (r : Result A Error) (e : Error) → IsErrAnd r (λ f. f ≡ e)
+        → (HasCleanDisk (state g new) → (behind : Option Database) → IsOpenArchive behind (state g old) → FaultKeepsRowsOrRollsBack behind (state g old) (state g new))
+        → (HasCleanDisk (state g new) → IsArchiveAtRest (state g old) → (state g old).step_limit ≡ None → IsMemoryOrDiskError (state g old) (state g new) e ⊎ Unread)
+        → AnswersFromDatabase g old new r Says Unread
+    asks_fails r e is rests why = of_rows (asks_rows_fails r e is rests why)
 
     -- where its faults have a cause within a transaction, too
     pub anywhere_fails : {A : Type 0} {Says : Archive → A → Type 0} (r : Result A Error) (e : Error) → IsErrAnd r (λ f. f ≡ e)
@@ -153,29 +170,7 @@ module _ {S : Type 0} {g : Ghosts S} {old new : Held S} (sql : List ℕ) (params
       ends_call = failed_ends r _ is;
     }
 
-    pub asks_rows_fails : {A : Type 0} {Says : Trees → A → Type 0} {Unread : Type 0} (r : Result A Error) (e : Error) → IsErrAnd r (λ f. f ≡ e)
-        → (HasCleanDisk (state g new) → (behind : Option Database) → IsOpenArchive behind (state g old) → FaultKeepsRowsOrRollsBack behind (state g old) (state g new))
-        → (HasCleanDisk (state g new) → IsArchiveAtRest (state g old) → (state g old).step_limit ≡ None → IsMemoryOrDiskError (state g old) (state g new) e ⊎ Unread)
-        → AnswersFromRows g old new r Says Unread
-    asks_rows_fails {A} {Says} {Unread} r e is rests why = record {
-      answer_holds = λ clean behind k. on_fault _ _ r is (rests clean behind k);
-      fault_has_cause = λ clean k free. carried r e (λ f. IsMemoryOrDiskError (state g old) (state g new) f ⊎ Unread) is (why clean k free);
-      same_database = λ clean. answers_none r _ _ is;
-      crash_adds_nothing = λ clean db may. question_adds_nothing (state g old) (state g new) sql params asks s clean db may;
-      ends_call = failed_ends r _ is;
-    }
-
     -- where its rows are the answer
-    pub asks_shows : {Says : Archive → Vec Row Global → Type 0} {Unread : Type 0} → AnswerHoldsOfArchive g old new q Says → FailsByFaultOr g old new q Unread
-        → AnswersFromDatabase g old new q Says Unread
-    asks_shows over caused = record {
-      answer_holds = over;
-      fault_has_cause = caused;
-      same_database = λ clean. shown_same (state g old) (state g new) sql params asks q (ok clean);
-      crash_adds_nothing = λ clean db may. question_adds_nothing (state g old) (state g new) sql params asks s clean db may;
-      ends_call = shown_ends;
-    }
-
     pub asks_rows_shows : {Says : Trees → Vec Row Global → Type 0} {Unread : Type 0} → AnswerHoldsOfRows g old new q Says → FailsByFaultOr g old new q Unread → AnswersFromRows g old new q Says Unread
     asks_rows_shows over caused = record {
       answer_holds = over;
@@ -185,31 +180,11 @@ module _ {S : Type 0} {g : Ghosts S} {old new : Held S} (sql : List ℕ) (params
       ends_call = shown_ends;
     }
 
+    pub asks_shows : {Says : Archive → Vec Row Global → Type 0} {Unread : Type 0} → AnswerHoldsOfArchive g old new q Says → FailsByFaultOr g old new q Unread
+        → AnswersFromDatabase g old new q Says Unread
+    asks_shows over caused = of_rows (asks_rows_shows over caused)
+
     -- and where it answers
-    pub asks_answers : {A : Type 0} {Says : Archive → A → Type 0} {Unread : Type 0} (a : A) (rows : List Row)
-        → (HasCleanDisk (state g new) → Shown sql params (state g old) (state g new) rows)
-        → (HasCleanDisk (state g new) → (behind : Option Database) → IsOpenArchive behind (state g old) → Says (archive_of (state g old)) a × LeavesRowsUnchanged behind (state g old) (state g new))
-        → AnswersFromDatabase g old new (Ok a) Says Unread
-    asks_answers a rows shown over = record {
-      answer_holds = over;
-      fault_has_cause = λ clean k free. tt;
-      same_database = λ clean. question_sees (state g old) (state g new) sql params rows asks (shown clean);
-      crash_adds_nothing = λ clean db may. question_adds_nothing (state g old) (state g new) sql params asks s clean db may;
-      ends_call = answered_ends a rows shown;
-    }
-
-    pub anywhere_answers : {A : Type 0} {Says : Archive → A → Type 0} (a : A) (rows : List Row)
-        → (HasCleanDisk (state g new) → Shown sql params (state g old) (state g new) rows)
-        → (HasCleanDisk (state g new) → (behind : Option Database) → IsOpenArchive behind (state g old) → Says (archive_of (state g old)) a × LeavesRowsUnchanged behind (state g old) (state g new))
-        → AnswersOrFailsByFault g old new (Ok a) Says
-    anywhere_answers a rows shown over = record {
-      answer_holds = over;
-      fault_has_cause = λ clean behind k free. tt;
-      same_database = λ clean. question_sees (state g old) (state g new) sql params rows asks (shown clean);
-      crash_adds_nothing = λ clean db may. question_adds_nothing (state g old) (state g new) sql params asks s clean db may;
-      ends_call = answered_ends a rows shown;
-    }
-
     pub asks_rows_answers : {A : Type 0} {Says : Trees → A → Type 0} {Unread : Type 0} (a : A) (rows : List Row)
         → (HasCleanDisk (state g new) → Shown sql params (state g old) (state g new) rows)
         → (HasCleanDisk (state g new) → (behind : Option Database) → IsOpenArchive behind (state g old)
@@ -218,6 +193,24 @@ module _ {S : Type 0} {g : Ghosts S} {old new : Held S} (sql : List ℕ) (params
     asks_rows_answers a rows shown over = record {
       answer_holds = over;
       fault_has_cause = λ clean k free. tt;
+      same_database = λ clean. question_sees (state g old) (state g new) sql params rows asks (shown clean);
+      crash_adds_nothing = λ clean db may. question_adds_nothing (state g old) (state g new) sql params asks s clean db may;
+      ends_call = answered_ends a rows shown;
+    }
+
+    pub asks_answers : {A : Type 0} {Says : Archive → A → Type 0} {Unread : Type 0} (a : A) (rows : List Row)
+        → (HasCleanDisk (state g new) → Shown sql params (state g old) (state g new) rows)
+        → (HasCleanDisk (state g new) → (behind : Option Database) → IsOpenArchive behind (state g old) → Says (archive_of (state g old)) a × LeavesRowsUnchanged behind (state g old) (state g new))
+        → AnswersFromDatabase g old new (Ok a) Says Unread
+    asks_answers a rows shown over = of_rows (asks_rows_answers a rows shown over)
+
+    pub anywhere_answers : {A : Type 0} {Says : Archive → A → Type 0} (a : A) (rows : List Row)
+        → (HasCleanDisk (state g new) → Shown sql params (state g old) (state g new) rows)
+        → (HasCleanDisk (state g new) → (behind : Option Database) → IsOpenArchive behind (state g old) → Says (archive_of (state g old)) a × LeavesRowsUnchanged behind (state g old) (state g new))
+        → AnswersOrFailsByFault g old new (Ok a) Says
+    anywhere_answers a rows shown over = record {
+      answer_holds = over;
+      fault_has_cause = λ clean behind k free. tt;
       same_database = λ clean. question_sees (state g old) (state g new) sql params rows asks (shown clean);
       crash_adds_nothing = λ clean db may. question_adds_nothing (state g old) (state g new) sql params asks s clean db may;
       ends_call = answered_ends a rows shown;

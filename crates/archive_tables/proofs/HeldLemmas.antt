@@ -1,5 +1,5 @@
 -- A transaction over the tables: BEGIN, COMMIT and ROLLBACK.
-use Rattle.std.proofs.Common.{◌≡◌, ◌⊎◌, inl, inr, ℕ, [], length, Ok, Err, Result, arith, refl, sym, ap, subst, ◌∙◌, false, true, Some, None}
+use Rattle.std.proofs.Common.{◌≡◌, inl, inr, ℕ, [], length, Ok, Err, Result, arith, refl, sym, ap, subst, ◌∙◌, false, true, Some, None}
 use Rattle.std.specs.Prelude.{IsTrue, MatchResult}
 use Rattle.std.proofs.lemmas.Bool.{cases_Bool}
 use Rattle.sqlite.specs.declared.error.Error.{Error}
@@ -9,14 +9,14 @@ use Rattle.sqlite.specs.Command.TheVariants.{Begin, Commit, Rollback}
 use Rattle.sqlite.specs.Schema.{Schema}
 use Rattle.sqlite.specs.Listing.{understood}
 use Rattle.sqlite.specs.Effect.{Database}
-use Rattle.sqlite.specs.State.{State, Executes, ExecutesIn, shows_rows, IsNotRun, IsNoStatement, IsUnchanged, IsRolledBack}
+use Rattle.sqlite.specs.State.{State, Executes, ExecutesIn, shows_rows, IsNotRun, IsNoStatement, IsRolledBack}
 use Rattle.sqlite.proofs.Callers.{IsPlain, command_of, runs_as}
 use Rattle.sqlite_tied.specs.Compute.{everything}
 use Rattle.archive_tables.specs.Schema.{archive_schema}
-use Rattle.archive_tables.specs.Tables.{IsOpenArchive, IsArchiveAtRest}
+use Rattle.archive_tables.specs.Tables.{IsOpenArchive, IsArchiveAtRest, AreArchiveTables}
 use Rattle.archive_tables.specs.Making.{IsRolledBackIfOpen, IsRollbackPendingOrDone}
 use Rattle.archive_tables.specs.Calls.{LeavesRowsUnchanged, FaultKeepsRowsOrRollsBack, FaultKeepsRows, IsRolledBackTo, IsOpenArchiveOrRolledBack}
-use Rattle.archive_tables.proofs.RunLemmas.{execute_fails, rests, goes_back, kept_at}
+use Rattle.archive_tables.proofs.RunLemmas.{execute_fails, rests, kept_at}
 use Rattle.archive_tables.proofs.MakeLemmas.{begin_text, commit_text, commit_is, commit_plain, rollback_text, undoes}
 
 -- ---- BEGIN
@@ -93,34 +93,12 @@ ends old new e within (inr ran) =
       ]
     ]
 
-back_is : (db : Database) (old new : State) → IsRolledBackTo db old → IsUnchanged old new ⊎ IsRolledBack old new → IsTrue new.is_open → IsRolledBackTo db new
-back_is db old new k how up = let r = rests old new k.0 how up in (r.0, r.1 ∙ k.1)
-
-from_held : (db : Database) (old new : State) (r : Result ℕ Error) → IsOpenArchive (Some db) old → Executes rollback_text [] old new r → IsTrue new.is_open → IsRolledBackTo db new
-from_held db old new (Ok count) k h up =
-    let it = undoes old new count h up in
-    kept_at new db up (it.1 ∙ k.committed_is) (it.2 ∙ k.committed_is) it.3 k.rollback_leaves_archive.0 k.rollback_leaves_archive.1
-from_held db old new (Err e) k h up = goes_back db old new k (ends old new e k.autocommit h) up
-
-from_back : (db : Database) (old new : State) (r : Result ℕ Error) → IsRolledBackTo db old → Executes rollback_text [] old new r → IsTrue new.is_open → IsRolledBackTo db new
-from_back db old new (Ok count) k h up =
-    let it = undoes old new count h up in
-    let r = kept_at new old.now up (it.1 ∙ k.0.committed_is) (it.2 ∙ k.0.committed_is) it.3 k.0.schema k.0.tables in
-    (r.0, r.1 ∙ k.1)
-from_back db old new (Err e) k h up = back_is db old new k (execute_fails old new rollback_text [] e h) up
-
 -- the connection was open, where it is
 pub was_open : (old new : State) (r : Result ℕ Error) → Executes rollback_text [] old new r → IsTrue new.is_open → IsTrue old.is_open
 was_open old new (Ok count) h up = (undoes old new count h up).0
 was_open old new (Err e) h up = elim (execute_fails old new rollback_text [] e h) [ inl same ↦ same.0.was_open | inr undone ↦ undone.was_open up ]
 
-pub leaves_over : (db : Database) (old new : State) (r : Result ℕ Error) → IsOpenArchiveOrRolledBack db old → Executes rollback_text [] old new r → IsTrue new.is_open → IsRolledBackTo db new
-leaves_over db old new r k h up = elim (k (was_open old new r h up)) [
-  | inl held ↦ from_held db old new r held h up
-  | inr back ↦ from_back db old new r back h up
-]
-
--- ---- the same of any database
+-- ---- to any database
 
 from_within : (before : Database) (old new : State) (r : Result ℕ Error) → old.committed ≡ before → old.in_transaction ≡ true → Executes rollback_text [] old new r → IsRolledBackIfOpen new before
 from_within before old new (Ok count) behind within h up =
@@ -147,3 +125,17 @@ goes_back_to before old new r stopped h up =
       | inl within ↦ from_within before old new r k.0 within h up
       | inr back ↦ from_outside before old new r k.0 back.0 back.1 h up
     ]
+
+-- ---- to an archive
+
+pub leaves_over : (db : Database) (old new : State) (r : Result ℕ Error) → IsOpenArchiveOrRolledBack db old → Executes rollback_text [] old new r → IsTrue new.is_open → IsRolledBackTo db new
+leaves_over db old new r k h up =
+    let it = goes_back_to db old new r (λ was. elim (k was) [
+      | inl held ↦ (held.committed_is, inl held.autocommit)
+      | inr back ↦ (back.0.committed_is ∙ back.1, inr (back.1, back.0.autocommit))
+    ]) h up in
+    let kept : (db.schema ≡ archive_schema) × AreArchiveTables db.trees = elim (k (was_open old new r h up)) [
+      | inl held ↦ held.rollback_leaves_archive
+      | inr back ↦ subst (λ (d : Database). (d.schema ≡ archive_schema) × AreArchiveTables d.trees) back.1 (back.0.schema, back.0.tables)
+    ] in
+    kept_at new db up it.0 it.1 it.2 kept.0 kept.1

@@ -19,14 +19,11 @@ use Rattle.sqlite_syntax.specs.declared.statement.Parsed.{Parsed}
 use Rattle.sqlite_trees.specs.Tree.{Trees}
 use Rattle.sqlite_schema.specs.declared.schema.Schema.{Schema}
 use Rattle.sqlite_schema.specs.declared.schema.Table.{Table}
-use Rattle.sqlite_schema.specs.Names.{table_named, index_named, view_named}
-use Rattle.std.specs.Option.{option_or}
 use Rattle.sqlite_schema.specs.declared.command.Returning.{Returning}
 use Rattle.sqlite_schema.specs.declared.command.Command.{Command}
-use Rattle.sqlite_schema.specs.declared.command.Command.TheVariants.{Select, Insert, InsertOr, Update, Delete, CreateTable, CreateIndex, DropTable, DropIndex, Begin, Commit}
-use Rattle.sqlite_schema.specs.declared.command.Command.TheVariants.{Rollback, Savepoint as Save, Release, RollbackTo, Nothing, CreateView, DropView, Rows}
+use Rattle.sqlite_schema.specs.declared.command.Command.TheVariants.{Select, CreateTable, Begin, Commit, Rollback, Savepoint as Save, Release, RollbackTo, Nothing, Rows}
 use Rattle.sqlite_resolve.specs.declared.compiled.Compiled.{Compiled}
-use Rattle.sqlite_resolve.specs.declared.error.CompileError.TheVariants.{NoSuchTable, Misuse, Unsupported}
+use Rattle.sqlite_resolve.specs.declared.error.CompileError.TheVariants.{NoSuchTable, Unsupported}
 use Rattle.sqlite_resolve.specs.Lowering.{Checked, and_then}
 use Rattle.sqlite_resolve.specs.Scope.{Name}
 use Rattle.sqlite_resolve.specs.Body.{table_at}
@@ -35,7 +32,7 @@ use Rattle.sqlite_resolve.specs.Write.{updated, deleted}
 use Rattle.sqlite_resolve.specs.Given.{upserts}
 use Rattle.sqlite_resolve.specs.Define as define
 use Rattle.sqlite_resolve.specs.Compile.{first, with_command, meaning, planned, compiled, command, insert, insert_or, insert_or_abort, update, delete, create_table}
-use Rattle.sqlite_resolve.specs.Compile.{create_index, is_attached, is_reserved, creates, target, on_table, new_rows, returning, timed, small}
+use Rattle.sqlite_resolve.specs.Compile.{create_index, is_attached, is_reserved, target, on_table, new_rows, returning, timed, small}
 use Rattle.sqlite.specs.Listing.{understood, reads_listing, listing_schema, if_select, is_select}
 use Rattle.sqlite.specs.State.{State, HasCleanDisk, Survives, Runs, IsUnchanged, IsRolledBack, ExecutesIn, Executes, shows_rows, Shown, ShowsRows, FailsToShow, FailsToQuery, IsNotRun}
 use Rattle.archive_tables.specs.Calls.{ClosesOnlyByFault, KeepsConnectionUnlessDiskFails}
@@ -86,14 +83,6 @@ survives_lasts old new P s shut = record {
 module _ (old new : State) (how : Option Returning) (text : List ℕ) (params : Row) (count : ℕ) where
   ran_open : (k : Command) → Runs old new how k text params count → (k ≡ Rollback) ⊎ IsTrue old.is_open
   ran_open (Select q names) h = absurd h
-  ran_open (Insert at from) h = inr h.shown.was_open
-  ran_open (InsertOr at way from clauses) h = inr h.shown.was_open
-  ran_open (Update at q) h = inr h.shown.was_open
-  ran_open (Delete at q) h = inr h.shown.was_open
-  ran_open CreateTable h = inr h.shown.was_open
-  ran_open (CreateIndex at) h = inr h.shown.was_open
-  ran_open (DropTable at) h = inr h.shown.was_open
-  ran_open (DropIndex at) h = inr h.shown.was_open
   ran_open Begin h = inr h.1.was_open
   ran_open Commit h = inr h.1.was_open
   ran_open Rollback h = inl refl
@@ -102,8 +91,7 @@ module _ (old new : State) (how : Option Returning) (text : List ℕ) (params : 
   ran_open (RollbackTo name) h = inr h.2.2.was_open
   ran_open (Rows values width names) h = inr h.0.0.was_open
   ran_open Nothing h = inr h.0.0.was_open
-  ran_open CreateView h = inr h.shown.was_open
-  ran_open (DropView at) h = inr h.shown.was_open
+  ran_open _ h = inr h.shown.was_open
 
   ran_up : (k : Command) → Runs old new how k text params count → IsTrue new.is_open → IsTrue old.is_open
   ran_up k h up = elim (ran_open k h) [
@@ -149,30 +137,20 @@ module _ (schema : Schema) where
 
   insert_other : (base : ℕ) (name : Name) (columns : List Name) (rows : NewRows) → GivesOther (insert schema base name columns rows)
   unfolding insert
-  insert_other base name columns rows =
-      table_other name (λ at table. and_then (new_rows schema table base columns rows) (λ s. Ok (Insert at s)))
-      (λ at table. then_other (new_rows schema table base columns rows) (λ s. Ok (Insert at s)) (λ s. tt))
+  insert_other base name columns rows = table_other name _ (λ at table. then_other (new_rows schema table base columns rows) _ (λ s. tt))
 
   insert_or_other : (base : ℕ) (way : Conflict) (name : Name) (columns : List Name) (rows : NewRows) (clauses : List Upsert) → GivesOther (insert_or schema base way name columns rows clauses)
   unfolding insert_or
   insert_or_other base way name columns rows clauses =
-      table_other name (λ at table. and_then (new_rows schema table base columns rows) (λ s. and_then (upserts schema at table base clauses) (λ found. Ok (InsertOr at way s found))))
-      (λ at table. then_other (new_rows schema table base columns rows) (λ s. and_then (upserts schema at table base clauses) (λ found. Ok (InsertOr at way s found)))
-      (λ s. then_other (upserts schema at table base clauses) (λ found. Ok (InsertOr at way s found)) (λ found. tt)))
+      table_other name _ (λ at table. then_other (new_rows schema table base columns rows) _ (λ s. then_other (upserts schema at table base clauses) _ (λ found. tt)))
 
   update_other : (name : Name) (sets : List (Name × Expr)) (test : Option Expr) → GivesOther (update schema name sets test)
   unfolding update
-  update_other name sets test =
-      table_other name (λ at table. and_then (updated schema at table sets test) (λ d. and_then (program schema [] d) (λ p. Ok (Update at p))))
-      (λ at table. then_other (updated schema at table sets test) (λ d. and_then (program schema [] d) (λ p. Ok (Update at p)))
-      (λ d. then_other (program schema [] d) (λ p. Ok (Update at p)) (λ p. tt)))
+  update_other name sets test = table_other name _ (λ at table. then_other (updated schema at table sets test) _ (λ d. then_other (program schema [] d) _ (λ p. tt)))
 
   delete_other : (name : Name) (test : Option Expr) → GivesOther (delete schema name test)
   unfolding delete
-  delete_other name test =
-      table_other name (λ at table. and_then (deleted schema at table test) (λ d. and_then (program schema [] d) (λ p. Ok (Delete at p))))
-      (λ at table. then_other (deleted schema at table test) (λ d. and_then (program schema [] d) (λ p. Ok (Delete at p)))
-      (λ d. then_other (program schema [] d) (λ p. Ok (Delete at p)) (λ p. tt)))
+  delete_other name test = table_other name _ (λ at table. then_other (deleted schema at table test) _ (λ d. then_other (program schema [] d) _ (λ p. tt)))
 
   -- an object is new, or is there
   abbrev if_new : Checked Command → Bool → Checked Command
@@ -184,20 +162,12 @@ module _ (schema : Schema) where
   create_table_other : (formats : List Name) (def : MadeTable) → GivesOther (create_table schema formats def)
   unfolding create_table
   create_table_other formats def =
-      let there = creates def.if_missing def.name (option_or (table_named schema def.name) (view_named schema def.name)) (index_named schema def.name) in
-      let made : Table → Checked Command = λ t. if length t.computed == length t.stamps.places && not def.resolves then Ok CreateTable else Err Unsupported in
-      one_other (is_attached schema def.name) (Err Unsupported) (and_then there (if_new (and_then (define.table formats def) made))) tt
-      (new_other there (and_then (define.table formats def) made) (then_other (define.table formats def) made
-      (λ t. one_other (length t.computed == length t.stamps.places && not def.resolves) (Ok CreateTable) (Err Unsupported) tt tt)))
+      one_other (is_attached schema def.name) _ _ tt
+      (new_other _ _ (then_other (define.table formats def) _ (λ t. one_other (length t.computed == length t.stamps.places && not def.resolves) (Ok CreateTable) (Err Unsupported) tt tt)))
 
   create_index_other : (def : MadeIndex) → GivesOther (create_index schema def)
   unfolding create_index
-  create_index_other def =
-      let there = creates def.if_missing def.name (index_named schema def.name) (option_or (table_named schema def.name) (view_named schema def.name)) in
-      let made : ℕ → Table → Checked Command = λ at table. and_then (define.index table def) (λ _. Ok (CreateIndex at)) in
-      one_other (is_reserved def.table) (Err Misuse) (on_table schema def.table (λ at table. and_then there (if_new (made at table)))) tt
-      (table_other def.table (λ at table. and_then there (if_new (made at table)))
-      (λ at table. new_other there (made at table) (then_other (define.index table def) (λ _. Ok (CreateIndex at)) (λ _. tt))))
+  create_index_other def = one_other (is_reserved def.table) _ _ tt (table_other def.table _ (λ at table. new_other _ _ (then_other (define.index table def) _ (λ _. tt))))
 
   command_other : (formats : List Name) (base : ℕ) (s : Statement) → IsOurs s → GivesOther (command schema formats base s)
   unfolding command insert_or_abort
@@ -212,28 +182,39 @@ module _ (schema : Schema) where
   command_other formats base (written.CreateIndex def) ours = create_index_other def
   command_other formats base _ ours = absurd ours
 
-pub then_gives : {A B : Type 0} {X : Type 0} (r : Checked A) (f : A → Checked B) (b : B) → and_then r f ≡ Ok b → ((a : A) → r ≡ Ok a → f a ≡ Ok b → X) → X
+-- ---- how a text is compiled, whatever the schema is
+
+pub record CompiledAs (sql : List ℕ) (c : Compiled) : Type 0 where
+  pub parsed : Parsed
+  pub reads : first sql ≡ Ok parsed
+  pub schema : Schema
+  pub base : ℕ
+  pub returns : returning schema base parsed.statement ≡ Ok c.returning
+  pub commands : command schema parsed.formats base parsed.statement ≡ Ok c.command
+
+then_gives : {A B : Type 0} {X : Type 0} (r : Checked A) (f : A → Checked B) (b : B) → and_then r f ≡ Ok b → ((a : A) → r ≡ Ok a → f a ≡ Ok b → X) → X
 then_gives (Ok a) f b is next = next a refl is
 then_gives (Err e) f b is next = absurd cc
 
--- what a text that was read is compiled to
-from_parsed : (schema : Schema) (r : Checked Parsed) (c : Compiled) → IsOurText r → and_then r (λ p. and_then (planned schema p) (λ plan. Ok (with_command p plan))) ≡ Ok c
-    → IsOther c.command
+from_parsed : (sql : List ℕ) (schema : Schema) (c : Compiled) (r : Checked Parsed) → first sql ≡ r → and_then r (λ p. and_then (planned schema p) (λ plan. Ok (with_command p plan))) ≡ Ok c
+    → CompiledAs sql c
 unfolding planned meaning
-from_parsed schema (Err e) c ours is = absurd ours
-from_parsed schema (Ok p) c ours is =
+from_parsed sql schema c (Err e) reads is = absurd cc
+from_parsed sql schema c (Ok p) reads is =
     let formats = timed schema p.formats p.statement in
     let base = small p.names + small formats in
     then_gives (planned schema p) (λ plan. Ok (with_command p plan)) c is (λ plan plans made.
     then_gives (meaning schema p base) (λ (found : Command × Option Returning). Ok (formats, found)) plan plans (λ found means given.
     then_gives (returning schema base p.statement) (λ (shown : Option Returning). and_then (command schema p.formats base p.statement) (λ k. Ok (k, shown))) found means (λ shown shows rest.
     then_gives (command schema p.formats base p.statement) (λ k. Ok (k, shown)) found rest (λ k commands pair.
-    let first_is : k ≡ found.0 = ap (λ (x : Command × Option Returning). x.0) (value_is pair) in
-    let next_is : found.0 ≡ plan.1.0 = ap (λ (x : List Name × (Command × Option Returning)). x.1.0) (value_is given) in
-    let last_is : plan.1.0 ≡ c.command = ap (λ (x : Compiled). x.command) (value_is made) in
-    subst IsOther (first_is ∙ next_is ∙ last_is) (subst GivesOther commands (command_other schema p.formats base p.statement ours))))))
+    let same : found ≡ plan.1 = ap (λ (x : List Name × (Command × Option Returning)). x.1) (value_is given) in
+    let shown_is : shown ≡ c.returning =
+    ap (λ (x : Command × Option Returning). x.1) (value_is pair ∙ same) ∙ ap (λ (x : Compiled). x.returning) (value_is made) in
+    let command_is : k ≡ c.command =
+    ap (λ (x : Command × Option Returning). x.0) (value_is pair ∙ same) ∙ ap (λ (x : Compiled). x.command) (value_is made) in
+    record { parsed = p; reads = reads; schema = schema; base = base; returns = shows ∙ ap Ok shown_is; commands = commands ∙ ap Ok command_is }))))
 
-pub select_gives : (r : Checked Compiled) (c : Compiled) → if_select r ≡ Ok c → r ≡ Ok c
+select_gives : (r : Checked Compiled) (c : Compiled) → if_select r ≡ Ok c → r ≡ Ok c
 select_gives (Ok d) c is = one_of (is_select d.command) is
   where
     one_of : (t : Bool) → (if t then Ok d else Err NoSuchTable) ≡ Ok c → ◌≡◌ {A = Checked Compiled} (Ok d) (Ok c)
@@ -241,13 +222,18 @@ select_gives (Ok d) c is = one_of (is_select d.command) is
     one_of false bad = absurd cc
 select_gives (Err e) c is = absurd cc
 
-understood_other : (schema : Schema) (sql : List ℕ) (c : Compiled) → IsOurText (first sql) → understood schema sql ≡ Ok c → IsOther c.command
+pub compiled_as : (schema : Schema) (sql : List ℕ) (c : Compiled) → understood schema sql ≡ Ok c → CompiledAs sql c
 unfolding understood compiled
-understood_other schema sql c ours is = one_of (reads_listing schema sql) is
+compiled_as schema sql c is = one_of (reads_listing schema sql) is
   where
-    one_of : (t : Bool) → (if t then if_select (compiled listing_schema sql) else compiled schema sql) ≡ Ok c → IsOther c.command
-    one_of true listing = from_parsed listing_schema (first sql) c ours (select_gives _ c listing)
-    one_of false here = from_parsed schema (first sql) c ours here
+    one_of : (t : Bool) → (if t then if_select (compiled listing_schema sql) else compiled schema sql) ≡ Ok c → CompiledAs sql c
+    one_of true listing = from_parsed sql listing_schema c (first sql) refl (select_gives _ c listing)
+    one_of false here = from_parsed sql schema c (first sql) refl here
+
+understood_other : (schema : Schema) (sql : List ℕ) (c : Compiled) → IsOurText (first sql) → understood schema sql ≡ Ok c → IsOther c.command
+understood_other schema sql c ours is =
+    let it = compiled_as schema sql c is in
+    subst GivesOther it.commands (command_other it.schema it.parsed.formats it.base it.parsed.statement (subst IsOurText it.reads ours))
 
 -- only ROLLBACK is answered where the connection is shut
 module _ (old new : State) (sql : List ℕ) (params : Row) where

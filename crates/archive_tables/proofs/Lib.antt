@@ -4,6 +4,8 @@ pub mod RowLemmas
 pub mod TableLemmas
 pub mod OrderLemmas
 pub mod SelectLemmas
+pub mod AskLemmas
+pub mod WriteLemmas
 pub mod ListLemmas
 pub mod ListedLemmas
 pub mod PersonLemmas
@@ -34,3 +36,5 @@ pub mod MoveLemmas
 pub mod TurnLemmas
 pub mod CreateLemmas
 pub mod RefusedLemmas
+pub mod QuestionLemmas
+pub mod SortLemmas

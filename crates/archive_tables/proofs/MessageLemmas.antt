@@ -1,13 +1,12 @@
 -- The statements on `message`.
-use Rattle.std.proofs.Common.{◌≡◌, inl, inr, ℕ, ℤ, pos, List, [], ◌∷◌, ◌++◌, map, length, Bool, fold, codes, Ok, Err, Result, arith, refl, sym, ap, ap₂, subst, ◌∙◌, false, None, Some, Option}
-use Rattle.std.specs.Prelude.{◌&&◌, ◌||◌, MatchResult, filter, zip, not, nat_eq}
+use Rattle.std.proofs.Common.{◌≡◌, inl, inr, ℕ, ℤ, pos, List, [], ◌∷◌, ◌++◌, map, length, Bool, fold, codes, Ok, arith, refl, sym, ap, ap₂, subst, ◌∙◌, false, None, Some, Option}
+use Rattle.std.specs.Prelude.{◌&&◌, filter, zip, not, nat_eq}
 use Rattle.std.proofs.lemmas.List.{length-map, map-append}
-use Rattle.sqlite_trees.proofs.ListLemmas.{map-map}
+use Rattle.sqlite_trees.proofs.ListLemmas.{map-map, filter-map}
 use Rattle.sqlite.specs.Query.{output}
 use Rattle.std.specs.List.{list_any}
 use Rattle.std.specs.Ordering.{is_lt, int_cmp}
 use Rattle.std.proofs.lemmas.Bool.{cases_Bool}
-use Rattle.sqlite.specs.declared.error.Error.{Error}
 use Rattle.sqlite.specs.declared.types.Value.TheVariants.{Null, Int, Text, Blob}
 use Rattle.sqlite.specs.Order.{Row}
 use Rattle.sqlite.specs.Term.{Term, lit, col}
@@ -15,30 +14,30 @@ use Rattle.sqlite.specs.Source.TheVariants.{Values}
 use Rattle.sqlite.specs.Command.TheVariants.{Insert}
 use Rattle.sqlite.specs.Edit.{Edit, edit_of, edited, taken_by, next_rowid, at_least}
 use Rattle.sqlite.specs.Rowids.TheVariants.{Above}
-use Rattle.sqlite.specs.Does.{Tally, Does}
-use Rattle.sqlite.specs.Rows.{Written, Counts, CountsIn, counting, count_of, higher}
+use Rattle.sqlite.specs.Rows.{Written, Inserts, Counts, CountsIn, counting, count_of, higher}
 use Rattle.sqlite.specs.Table.{Table}
 use Rattle.sqlite.specs.Tree.{Trees, put_row}
 use Rattle.sqlite.specs.Listing.{understood}
-use Rattle.sqlite.specs.Effect.{Database}
-use Rattle.sqlite.specs.State.{State, mode_of, Executes}
-use Rattle.sqlite.proofs.Callers.{IsPlain, command_of, statement_of, runs_as, one_step}
+use Rattle.sqlite.proofs.Callers.{one_step}
+use Rattle.sqlite_resolve.specs.Compile.{first}
 use Rattle.sqlite_tied.specs.Compute.{everything}
 use Rattle.sqlite_rules.specs.Action as Action
 use Rattle.sqlite_schema.specs.declared.schema.Keys.TheVariants.{Enforced}
 use Rattle.archive_model.specs.Records.{Message, IndexColumns, Archive}
 use Rattle.archive_model.specs.Filing.{IndexedMessage}
-use Rattle.archive_tables.specs.Schema.{archive_schema, message_table, sequence_table}
 use Rattle.archive_model.specs.Questions.{is_message_at_key}
-use Rattle.archive_tables.specs.Tables.{IsOpenArchive, NumberedRecord, numbered_row, HoldsRecords, message_from_row, indexed_message_cells}
-use Rattle.archive_tables.specs.Tables.{index_columns_from_row, indexed_message_from_row, archive_of, int_or_null_value, int_of_value, same_message_key, HaveDistinctKeys}
+use Rattle.archive_tables.specs.Schema.{archive_schema, message_table, sequence_table}
+use Rattle.archive_tables.specs.Tables.{AreArchiveTables, NumberedRecord, numbered_row, HoldsRecords, HaveDistinctKeys, message_from_row, indexed_message_cells, archive_in_trees}
+use Rattle.archive_tables.specs.Tables.{index_columns_from_row, indexed_message_from_row, int_or_null_value, int_of_value, same_message_key}
 use Rattle.archive_tables.specs.Rows.{unmarked_message}
-use Rattle.archive_tables.specs.Calls.{ChangesArchive, FaultKeepsRowsOrRollsBack}
-use Rattle.archive_tables.proofs.RunLemmas.{passed, value_is, no_action, cast_null, cast_int, kept_by, rests, execute_fails}
+use Rattle.archive_tables.specs.Statements.{Statement, insert_message_statement}
+use Rattle.archive_tables.proofs.RunLemmas.{passed, value_is, no_action, cast_null, cast_int}
 use Rattle.archive_tables.proofs.RowLemmas.{put_past, raised, positive_more}
 use Rattle.archive_tables.proofs.TableLemmas.{SameBut, same_but, messages_change}
 use Rattle.archive_tables.proofs.ChangeLemmas.{apart_more}
-use Rattle.archive_tables.proofs.SelectLemmas.{plain_query, by_number, env_of, passes, Picks, shows, count_wanted, any_wanted, text_flips}
+use Rattle.archive_tables.proofs.SelectLemmas.{plain_query, by_number, env_of, passes, Picks, shows, count_wanted, any_is_some, text_flips}
+use Rattle.archive_tables.proofs.AskLemmas.{KeepsRecords}
+use Rattle.archive_tables.proofs.WriteLemmas.{Write, WriteText, write_of, left_by, task_on}
 
 pub embargo_back : (o : Option ℤ) → int_of_value (int_or_null_value o) ≡ o
 embargo_back None = refl
@@ -46,6 +45,9 @@ embargo_back (Some n) = refl
 
 pub filed_back : (n : ℤ) (f : IndexedMessage) → indexed_message_from_row (Int n ∷ indexed_message_cells f) ≡ f
 filed_back n f = ap (λ o. (record f.0 { embargo = o }, f.1)) (embargo_back f.0.embargo)
+
+pub kept : KeepsRecords message_table indexed_message_cells indexed_message_from_row
+kept = record { back = filed_back; low = λ db. refl; holds = λ db k. k.messages }
 
 -- ---- rows of messages, whatever is filed of them
 
@@ -61,15 +63,9 @@ filed_are (row ∷ rows) = ap (λ l. indexed_message_from_row row ∷ l) (filed_
 
 pub wanted_messages : {X : Type 0} (wanted : Message → Bool) (show : Message → X) (rows : List Row)
     → map (λ (f : IndexedMessage). show f.0) (filter (λ (f : IndexedMessage). wanted f.0) (map indexed_message_from_row rows)) ≡ map show (filter wanted (map message_from_row rows))
-wanted_messages wanted show [] = refl
-wanted_messages wanted show (row ∷ rows) = elim (cases_Bool (wanted (message_from_row row))) [
-  | inl kept ↦ rw kept (ap (λ l. show (message_from_row row) ∷ l) (wanted_messages wanted show rows))
-  | inr dropped ↦ rw dropped (wanted_messages wanted show rows)
-]
-
-any_of_messages : (wanted : Message → Bool) (rows : List Row) → list_any (λ (f : IndexedMessage). wanted f.0) (map indexed_message_from_row rows) ≡ list_any wanted (map message_from_row rows)
-any_of_messages wanted [] = refl
-any_of_messages wanted (row ∷ rows) = ap (λ b. wanted (message_from_row row) || b) (any_of_messages wanted rows)
+wanted_messages wanted show rows =
+    sym (map-map show (λ (f : IndexedMessage). f.0) (filter (λ (f : IndexedMessage). wanted f.0) (map indexed_message_from_row rows)))
+    ∙ ap (map show) (sym (filter-map wanted (λ (f : IndexedMessage). f.0) (map indexed_message_from_row rows))) ∙ ap (λ l. map show (filter wanted l)) (messages_are rows)
 
 count_of_messages : (wanted : Message → Bool) (rows : List Row)
     → length (filter (λ (f : IndexedMessage). wanted f.0) (map indexed_message_from_row rows)) ≡ length (filter wanted (map message_from_row rows))
@@ -101,9 +97,7 @@ module _ (terms shown : List Term) (params : Row) (wanted : Message → Bool) (t
 
   pub has_messages : (rows picked : List Row) → HoldsRecords indexed_message_cells indexed_message_from_row rows → Picks (plain_query 8 terms shown []) params rows picked
       → not (nat_eq (length picked) 0) ≡ list_any wanted (map message_from_row rows)
-  has_messages rows picked k it =
-      any_wanted indexed_message_cells indexed_message_from_row filed_back (plain_query 8 terms shown []) params (λ (f : IndexedMessage). wanted f.0) tests rows picked k it ∙ any_of_messages
-      wanted rows
+  has_messages rows picked k it = ap (λ n. not (nat_eq n 0)) (counts_messages rows picked k it) ∙ any_is_some wanted (map message_from_row rows)
 
 pub flips : (a b : Message) → same_message_key a b ≡ same_message_key b a
 flips a b = ap₂ ◌&&◌ (text_flips b.list a.list) (text_flips b.key a.key)
@@ -116,14 +110,6 @@ add_text = codes "INSERT INTO message (list, key, sender, arrival, text, withdra
 abbrev new_cells : List Term
 new_cells = lit Null ∷ lit Null ∷ col 0 0 ∷ col 0 1 ∷ col 0 2 ∷ col 0 3 ∷ col 0 4 ∷ lit (Int (pos 0)) ∷ lit Null ∷ col 0 5 ∷ col 0 6 ∷ col 0 7 ∷ []
 
-add_is : command_of (understood archive_schema add_text) ≡ Insert 4 (Values new_cells 12)
-unfolding understood everything
-add_is = refl
-
-add_plain : IsPlain (understood archive_schema add_text)
-unfolding understood everything
-add_plain = (refl, refl)
-
 -- the sequence's table alone follows the count
 counts : (limit : Option ℕ) (params : Row) (mid next : Trees) (counter : Option Row) (top : ℤ)
     → Counts (record { limit = limit; keys = Enforced; schema = archive_schema; table = message_table; params = params }) mid counter top (Ok next)
@@ -131,15 +117,8 @@ counts : (limit : Option ℕ) (params : Row) (mid next : Trees) (counter : Optio
 unfolding everything
 counts limit params mid next counter top h = elim (cases_Bool (is_lt (int_cmp (count_of counter) top))) [
   | inl more ↦ counted counter (rw more at h)
-  | inr enough ↦ subst (SameBut 10 mid) (value_is (sym (rw enough at h))) (record {
-    version = λ _. refl;
-    lists = λ _. refl;
-    persons = λ _. refl;
-    grants = λ _. refl;
-    messages = λ _. refl;
-    options = λ _. refl;
-    addresses = λ _. refl;
-  })
+  | inr enough ↦ subst (SameBut 10 mid) (value_is (sym (rw enough at h)))
+      (same_but 10 mid mid (λ e. refl, (λ e. refl, (λ e. refl, (λ e. refl, (λ e. refl, (λ e. refl, (λ e. refl, (λ e. refl, tt)))))))))
 ]
   where
     written : (edit : Edit) → edit.table ≡ sequence_table → Action.Writes archive_schema Enforced mid edit (Ok next) → SameBut 10 mid next
@@ -158,8 +137,8 @@ module _ (list key sender : List ℕ) (arrival : ℤ) (text : List ℕ) (filing 
   abbrev new : Message
   new = unmarked_message list key sender arrival text
 
-  abbrev params_of : Row
-  params_of = Text list ∷ Text key ∷ Blob sender ∷ Int arrival ∷ Blob text ∷ Int filing.sent ∷ Int filing.month ∷ Blob filing.author ∷ []
+  abbrev its : Statement
+  its = insert_message_statement new filing
 
   abbrev more : Archive → Archive
   more a = record a { messages = a.messages ++ new ∷ []; index_columns = a.index_columns ++ filing ∷ [] }
@@ -183,38 +162,28 @@ module _ (list key sender : List ℕ) (arrival : ℤ) (text : List ℕ) (filing 
     addresses = λ e. last.addresses (λ f. omega (arith, f)) ∙ first.addresses e;
   }
 
-  adds : {behind : Option Database} (old new_state : State) (count : ℕ) → IsOpenArchive behind old → list_any (is_message_at_key list key) (archive_of old).messages ≡ false
-      → Executes add_text params_of old new_state (Ok count)
-      → ChangesArchive behind old new_state more
-  adds old next count k none h =
-      let params = params_of in
-      let db = old.now.trees in
-      let command = Insert 4 (Values new_cells 12) in
-      let w = runs_as add_text params old next archive_schema k.schema command add_is add_plain count h in
-      let words = statement_of add_text (understood archive_schema add_text) in
-      let done = passed (subst (λ s. Does old.step_limit (mode_of old) params (record old.now { schema = s }) words None command (Ok (w.tally, next.now))) k.schema w.changed) in
-      let now = ap (λ (it : Tally × Database). it.1) (value_is (passed (passed done.2).2).2) in
-      let given = passed done.1 in
+  add_is : WriteText its (Insert 4 (Values new_cells 12)) message_table (λ limit db. Inserts (task_on limit message_table its.parameters) (Values new_cells 12) db)
+  unfolding understood first everything
+  add_is = record { is = refl; knows = record { fits = (refl, refl); plain = (refl, refl); writes = tt }; ours = tt; runs = λ old new words count h. h; does = λ limit db words out h. h }
+
+  pub added : Write its (λ a. list_any (is_message_at_key list key) a.messages ≡ false) more
+  added = write_of add_is _ more (λ limit db w k none h.
+      let given = passed h in
       let counter = passed given.2 in
       let written = passed counter.2 in
       let counted = passed written.2 in
       let top = count_of counter.0 in
       let edit = edit_of db message_table [] (Above top) 0 given.0 in
-      let applied = one_step archive_schema _ db written.0 edit (no_action 8 (taken_by db edit) edit.news) written.1 in
-      let later = counts old.step_limit params written.0 counted.0 counter.0 (fold higher top edit.news) counted.1 in
-      let trees : next.now.trees ≡ counted.0 = ap (λ (d : Database). d.trees) now ∙ ap (λ (it : Written). it.trees) (value_is counted.2) in
+      let left = left_by db edit written.0 written.1 in
+      let later = counts limit its.parameters written.0 counted.0 counter.0 (fold higher top edit.news) counted.1 in
+      let trees : w.trees ≡ counted.0 = ap (λ (it : Written). it.trees) (value_is counted.2) in
       let far = raised top (next_rowid (db 8)) in
-      let put = put_past indexed_message_cells indexed_message_from_row filed_back (db 8) (fresh db top) far k.tables.messages in
-      let rows : next.now.trees 8 ≡ put_row (numbered_row indexed_message_cells (fresh db top)) (db 8) =
-      ap (λ (t : Trees). t 8) trees ∙ later.messages (λ e. omega (arith, e)) ∙ applied.rows ∙ puts db top given.0 given.1.1 in
-      let same = subst (SameBut 8 db) (sym trees) (after db written.0 counted.0 (same_but 8 db written.0 applied.tables) later) in
+      let put = put_past indexed_message_cells indexed_message_from_row filed_back (db 8) (fresh db top) far k.messages in
+      let rows : counted.0 8 ≡ put_row (numbered_row indexed_message_cells (fresh db top)) (db 8) =
+      later.messages (λ e. omega (arith, e)) ∙ left.rows_are ∙ puts db top given.0 given.1.1 in
       let both = one_filed (put_row (numbered_row indexed_message_cells (fresh db top)) (db 8)) (db 8) (new, filing) put.1 in
-      let apart = subst (HaveDistinctKeys same_message_key) (sym both.0) (apart_more same_message_key (archive_of old).messages new flips none k.tables.messages_distinct) in
-      let positive = positive_more indexed_message_cells indexed_message_from_row filed_back (db 8) (fresh db top) far k.tables.messages k.tables.rowids_are_positive in
-      let it = messages_change db next.now.trees k.tables same _ rows put.0 apart positive in
-      (kept_by old next k w.shown (ap (λ (d : Database). d.schema) now) it.0, it.1 ∙ ap₂ (λ l n. record (archive_of old) { messages = l; index_columns = n }) both.0 both.1)
-
-  pub tries_to_add : (behind : Option Database) (old next : State) (r : Result ℕ Error) → IsOpenArchive behind old → Executes add_text params_of old next r
-      → MatchResult r (λ _. list_any (is_message_at_key list key) (archive_of old).messages ≡ false → ChangesArchive behind old next more) (λ _. FaultKeepsRowsOrRollsBack behind old next)
-  tries_to_add behind old next (Ok count) k h = λ none. adds old next count k none h
-  tries_to_add behind old next (Err e) k h = rests old next k (execute_fails old next add_text params_of e h)
+      let apart = subst (HaveDistinctKeys same_message_key) (sym both.0) (apart_more same_message_key (map message_from_row (db 8)) new flips none k.messages_distinct) in
+      let positive = positive_more indexed_message_cells indexed_message_from_row filed_back (db 8) (fresh db top) far k.messages k.rowids_are_positive in
+      let it = messages_change db counted.0 k (after db written.0 counted.0 left.same later) _ rows put.0 apart positive in
+      subst (λ (t : Trees). AreArchiveTables t × (archive_in_trees t ≡ more (archive_in_trees db))) (sym trees)
+      (it.0, it.1 ∙ ap₂ (λ l n. record (archive_in_trees db) { messages = l; index_columns = n }) both.0 both.1))

@@ -99,11 +99,7 @@ its_shows_nothing (CreateIndex at) how ours none = rw none
 its_shows_nothing _ how ours none = absurd ours
 
 pub shows_nothing : (k : Command) (how : Option Returning) → WritesRows k → how ≡ None → (is_query k || (not false && (is_pragma k || is_some how))) ≡ false
-shows_nothing (Insert at from) how ours none = rw none
-shows_nothing (InsertOr at way from clauses) how ours none = rw none
-shows_nothing (Update at q) how ours none = rw none
-shows_nothing (Delete at q) how ours none = rw none
-shows_nothing _ how ours none = absurd ours
+shows_nothing k how ours none = its_shows_nothing k how (rows_are_its k ours) none
 
 -- ---- a write on tables that are held
 

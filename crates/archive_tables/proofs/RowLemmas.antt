@@ -9,6 +9,7 @@ use Rattle.std.specs.declared.cmp.Ordering.TheVariants.{Less}
 use Rattle.std.proofs.lemmas.Int.{ints}
 use Rattle.std.proofs.lemmas.Bool.Decides.{nat_tests}
 use Rattle.std.proofs.lemmas.Bool.{cases_Bool}
+use Rattle.std.proofs.lemmas.List.{map-append}
 use Rattle.sqlite.specs.declared.types.Value.TheVariants.{Int}
 use Rattle.sqlite.specs.Order.{Row, value_cmp}
 use Rattle.sqlite.specs.Tree.{IsTable, put_row, rowid}
@@ -86,11 +87,6 @@ module _ {R : Type 0} (cells : R → Row) (read : Row → R) (back : (n : ℤ) (
   pub records_are : (rows : List Row) → HoldsRecords cells read rows → map read rows ≡ map (λ (r : NumberedRecord R). r.content) (map (numbered_from_row read) rows)
   records_are rows k = (holds_from rows (map (numbered_from_row read) rows) k.rows_read_back k.is_table).1
 
-  one_more : (all : List (NumberedRecord R)) (r : NumberedRecord R) → (rows_of all ++ numbered_row cells r ∷ [] ≡ rows_of (all ++ r ∷ []))
-      × (map (λ (x : NumberedRecord R). x.content) (all ++ r ∷ []) ≡ map (λ (x : NumberedRecord R). x.content) all ++ r.content ∷ [])
-  one_more [] r = (refl, refl)
-  one_more (x ∷ all) r = (ap (λ l. numbered_row cells x ∷ l) (one_more all r).0, ap (λ l. x.content ∷ l) (one_more all r).1)
-
   -- a row whose number is not below the next one goes to the end
   pub put_past : (rows : List Row) (new : NumberedRecord R) → (next_rowid rows ≡ new.number) ⊎ (next_rowid rows <ℤ new.number) → HoldsRecords cells read rows
       → HoldsRecords cells read (put_row (numbered_row cells new) rows) × (map read (put_row (numbered_row cells new) rows) ≡ map read rows ++ new.content ∷ [])
@@ -99,9 +95,9 @@ module _ {R : Type 0} (cells : R → Row) (read : Row → R) (back : (n : ℤ) (
       let all = map (numbered_from_row read) rows in
       let num = subst (AllByRecursion HasNumber) (sym k.rows_read_back) (have_numbers all) in
       let last = put_last (numbered_row cells new) new.number rows refl (below_more _ _ rows far (all_below (pos 1) rows k.is_table num)) in
-      let more = one_more all new in
-      let it = holds_from _ _ (last ∙ ap (λ l. l ++ numbered_row cells new ∷ []) k.rows_read_back ∙ more.0) (IsTable-put_row (numbered_row cells new) rows k.is_table) in
-      (it.0, it.1 ∙ more.1 ∙ ap (λ l. l ++ new.content ∷ []) (sym (records_are rows k)), last)
+      let it = holds_from _ _ (last ∙ ap (λ l. l ++ numbered_row cells new ∷ []) k.rows_read_back ∙ sym (map-append (numbered_row cells) all (new ∷ [])))
+      (IsTable-put_row (numbered_row cells new) rows k.is_table) in
+      (it.0, it.1 ∙ map-append (λ (r : NumberedRecord R). r.content) all (new ∷ []) ∙ ap (λ l. l ++ new.content ∷ []) (sym (records_are rows k)), last)
 
   -- above zero stays the rows' numbers: the new one is above the last, or the first
   positive_next : (rows : List Row) → AllByRecursion HasNumber rows → AllByRecursion (λ row. value_cmp (Int (pos 0)) (rowid row) ≡ Less) rows → (first : ℤ) → pos 0 <ℤ first

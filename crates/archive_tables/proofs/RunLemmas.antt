@@ -85,15 +85,12 @@ pub goes_back : (db : Database) (old new : State) → IsOpenArchive (Some db) ol
 goes_back db old new k undone up =
     kept_at new db up ((undone.undone up).0 ∙ k.committed_is) ((undone.undone up).1 ∙ k.committed_is) undone.autocommit k.rollback_leaves_archive.0 k.rollback_leaves_archive.1
 
-rests_over : (behind : Option Database) (old new : State) → IsOpenArchive behind old → IsUnchanged old new ⊎ IsRolledBack old new → FaultKeepsRowsOrRollsBack behind old new
-rests_over None old new k (inl same) = λ up. stays old new k same
-rests_over None old new k (inr undone) = λ up.
-    kept_at new old.now up ((undone.undone up).0 ∙ k.committed_is) ((undone.undone up).1 ∙ k.committed_is) undone.autocommit k.schema k.tables
-rests_over (Some db) old new k (inl same) = λ up. inl (stays old new k same)
-rests_over (Some db) old new k (inr undone) = λ up. inr (goes_back db old new k undone up)
-
 pub rests : {behind : Option Database} (old new : State) → IsOpenArchive behind old → IsUnchanged old new ⊎ IsRolledBack old new → FaultKeepsRowsOrRollsBack behind old new
-rests {behind} old new k how = rests_over behind old new k how
+rests {behind = None} old new k (inl same) = λ up. stays old new k same
+rests {behind = None} old new k (inr undone) = λ up.
+    kept_at new old.now up ((undone.undone up).0 ∙ k.committed_is) ((undone.undone up).1 ∙ k.committed_is) undone.autocommit k.schema k.tables
+rests {behind = Some db} old new k (inl same) = λ up. inl (stays old new k same)
+rests {behind = Some db} old new k (inr undone) = λ up. inr (goes_back db old new k undone up)
 
 -- a write outside a transaction is committed, and one within leaves what is behind
 settles : (behind : Option Database) (old new : State) → IsOpenArchive behind old → new.committed ≡ (if old.in_transaction then old.committed else new.now)

@@ -1,8 +1,9 @@
 -- A query over one table of records, with no group, limit or offset.
-use Rattle.std.proofs.Common.{◌≡◌, inl, inr, ℕ, ℤ, pos, negsuc, Bool, true, false, cond, not, List, [], ◌∷◌, ◌++◌, map, filter}
+use Rattle.std.proofs.Common.{◌≡◌, inl, inr, ℕ, ℤ, pos, negsuc, Bool, true, false, cond, not, List, [], ◌∷◌, map, filter}
 use Rattle.std.proofs.Common.{flat_map, length, Option, None, Some, refl, sym, ap, ap₂, subst, subst₂, ◌∙◌, arith}
-use Rattle.std.specs.Prelude.{nat_eq, ◌||◌, ◌&&◌, bytes_eq, find, slice_get, option_map}
+use Rattle.std.specs.Prelude.{nat_eq, ◌&&◌, bytes_eq, find, slice_get}
 use Rattle.std.specs.Ordering.{is_eq, int_eq, int_cmp}
+use Rattle.std.proofs.Math.Path.{fun_ext}
 use Rattle.std.proofs.lemmas.Bool.{cases_Bool}
 use Rattle.std.proofs.lemmas.Bool.Decides.{nat_tests}
 use Rattle.std.proofs.lemmas.Int.{ints}
@@ -33,7 +34,7 @@ use Rattle.sqlite.proofs.Callers.{IsPlain, command_of, reads_as, one_permutation
 use Rattle.sqlite_value.specs.declared.keys.Key.{Key}
 use Rattle.sqlite_value.specs.Keys.{ascending}
 use Rattle.sqlite_sql.proofs.QueryLemmas.{output_cmp_total}
-use Rattle.sqlite_trees.proofs.ListLemmas.{map-map}
+use Rattle.sqlite_trees.proofs.ListLemmas.{map-map, filter-map}
 use Rattle.archive_tables.specs.Schema.{archive_schema}
 use Rattle.archive_tables.specs.Tables.{IsOpenArchive, NumberedRecord, numbered_row, numbered_from_row, HoldsRecords}
 use Rattle.archive_tables.specs.Calls.{FaultKeepsRowsOrRollsBack, LeavesRowsUnchanged}
@@ -79,14 +80,11 @@ pub record Picks (q : Query) (params : Row) (rows shown : List Row) : Type 0 whe
 
 pub each_passing : {A B : Type 0} (p : A → Bool) (f : A → B) (xs : List A) → flat_map (λ x. cond (p x) (f x ∷ []) []) xs ≡ map f (filter p xs)
 each_passing p f [] = refl
-each_passing p f (x ∷ xs) =
-    elim (p x) as (λ b. cond b (f x ∷ []) [] ++ flat_map (λ y. cond (p y) (f y ∷ []) []) xs ≡ map f (cond b (x ∷ filter p xs) (filter p xs)))
-    [ true ↦ ap (λ l. f x ∷ l) (each_passing p f xs) | false ↦ each_passing p f xs ]
+each_passing p f (x ∷ xs) = elim (cases_Bool (p x)) [ inl kept ↦ rw kept (ap (λ l. f x ∷ l) (each_passing p f xs)) | inr dropped ↦ rw dropped (each_passing p f xs) ]
 
 pub any_is_some : {A : Type 0} (p : A → Bool) (xs : List A) → not (nat_eq (length (filter p xs)) 0) ≡ list_any p xs
 any_is_some p [] = refl
-any_is_some p (x ∷ xs) =
-    elim (p x) as (λ b. not (nat_eq (length (cond b (x ∷ filter p xs) (filter p xs))) 0) ≡ (b || list_any p xs)) [ true ↦ grind arith | false ↦ any_is_some p xs ]
+any_is_some p (x ∷ xs) = elim (cases_Bool (p x)) [ inl kept ↦ rw kept (grind arith) | inr dropped ↦ rw dropped (any_is_some p xs) ]
 
 -- ---- tests in WHERE
 
@@ -127,32 +125,21 @@ found_passes p (y ∷ xs) x is = elim (cases_Bool (p y)) [
   | inr failing ↦ found_passes p xs x (rw failing at is)
 ]
 
-pub first_part : (a b : Bool) → (a && b) ≡ true → a ≡ true
-first_part true b both = refl
-first_part false b both = absurd cc
-
 -- the first row shows the first record that is wanted
 module _ {A : Type 0} (p : A → Bool) (show : A → Row) (xs : List A) (rows : List Row) (are : rows ≡ map show (filter p xs)) where
-  shown_first : (ys : List A) → slice_get (map show ys) 0 ≡ option_map show (slice_get ys 0)
-  shown_first [] = refl
-  shown_first (y ∷ ys) = refl
+  first_of : (ys : List A) → rows ≡ map show ys → (row : Row) → slice_get rows 0 ≡ Some row → (x : A) × (slice_get ys 0 ≡ Some x) × (row ≡ show x)
+  first_of [] is row first = absurd (let none = rw is at first in cc)
+  first_of (y ∷ ys) is row first = (y, refl, let some = rw is at first in cc)
 
-  first_is : slice_get rows 0 ≡ option_map show (find p xs)
-  first_is = ap (λ l. slice_get l 0) are ∙ shown_first (filter p xs) ∙ ap (option_map show) (first_kept p xs)
-
-  of_some : (o : Option A) (row : Row) → option_map show o ≡ Some row → (x : A) × (o ≡ Some x) × (row ≡ show x)
-  of_some None row is = absurd cc
-  of_some (Some x) row is = (x, refl, cc)
-
-  of_none : (o : Option A) → option_map show o ≡ None → o ≡ None
-  of_none None is = refl
-  of_none (Some x) is = absurd cc
+  none_of : (ys : List A) → rows ≡ map show ys → slice_get rows 0 ≡ None → slice_get ys 0 ≡ None
+  none_of [] is none = refl
+  none_of (y ∷ ys) is none = absurd (let some = rw is at none in cc)
 
   pub first_found : (row : Row) → slice_get rows 0 ≡ Some row → (x : A) × (find p xs ≡ Some x) × (row ≡ show x)
-  first_found row first = of_some (find p xs) row (sym first_is ∙ first)
+  first_found row first = let it = first_of (filter p xs) are row first in (it.0, sym (first_kept p xs) ∙ it.1, it.2)
 
   pub none_found : slice_get rows 0 ≡ None → find p xs ≡ None
-  none_found first = of_none (find p xs) (sym first_is ∙ first)
+  none_found none = sym (first_kept p xs) ∙ none_of (filter p xs) are none
 
 -- ---- an answer
 
@@ -229,19 +216,8 @@ module _ {R : Type 0} (cells : R → Row) (read : Row → R) (back : (n : ℤ) (
   its = map (λ (r : NumberedRecord R). r.content)
 
   passing : (all : List (NumberedRecord R)) → filter (passes q.filter params) (map (numbered_row cells) all) ≡ map (numbered_row cells) (filter (λ (r : NumberedRecord R). wanted r.content) all)
-  passing [] = refl
-  passing (r ∷ all) =
-      rw (tests r.number r.content) (elim (wanted r.content) as (λ b. cond b (numbered_row cells r ∷ filter (passes q.filter params) (map (numbered_row cells) all))
-      (filter (passes q.filter params) (map (numbered_row cells) all))
-      ≡ map (numbered_row cells) (cond b (r ∷ filter (λ (x : NumberedRecord R). wanted x.content) all) (filter (λ (x : NumberedRecord R). wanted x.content) all)))
-      [ true ↦ ap (λ l. numbered_row cells r ∷ l) (passing all) | false ↦ passing all ])
-
-  filter_its : (all : List (NumberedRecord R)) → its (filter (λ (r : NumberedRecord R). wanted r.content) all) ≡ filter wanted (its all)
-  filter_its [] = refl
-  filter_its (r ∷ all) =
-      elim (wanted r.content) as (λ b. its (cond b (r ∷ filter (λ (x : NumberedRecord R). wanted x.content) all) (filter (λ (x : NumberedRecord R). wanted x.content) all)) ≡ cond b
-      (r.content ∷ filter wanted (its all)) (filter wanted (its all)))
-      [ true ↦ ap (λ l. r.content ∷ l) (filter_its all) | false ↦ filter_its all ]
+  passing all = filter-map (passes q.filter params) (numbered_row cells) all
+      ∙ ap (λ p. map (numbered_row cells) (filter p all)) (fun_ext (λ (r : NumberedRecord R). tests r.number r.content))
 
   -- the rows that pass are those of the records that are wanted
   pub hits : (rows : List Row) → HoldsRecords cells read rows → (filter (passes q.filter params) rows ≡ map (numbered_row cells)
@@ -249,7 +225,7 @@ module _ {R : Type 0} (cells : R → Row) (read : Row → R) (back : (n : ℤ) (
       × (its (filter (λ (r : NumberedRecord R). wanted r.content) (map (numbered_from_row read) rows)) ≡ filter wanted (map read rows))
   hits rows k = (
     ap (filter (passes q.filter params)) k.rows_read_back ∙ passing (map (numbered_from_row read) rows),
-    filter_its (map (numbered_from_row read) rows) ∙ ap (filter wanted) (sym (records_are cells read back rows k)),
+    sym (filter-map wanted (λ (r : NumberedRecord R). r.content) (map (numbered_from_row read) rows)) ∙ ap (filter wanted) (sym (records_are cells read back rows k)),
   )
 
   pub count_wanted : (rows shown : List Row) → HoldsRecords cells read rows → Picks q params rows shown → length shown ≡ length (filter wanted (map read rows))
@@ -274,15 +250,13 @@ module _ (t : ℕ) (terms shown : List Term) (params : Row) where
       → AllByRecursion (λ o. output_cmp query (out row) o ≡ Less) (map out (filter p rows))
   later p row [] all = tt
   later p row (s ∷ rows) all =
-      elim (p s) as (λ b. AllByRecursion (λ o. output_cmp query (out row) o ≡ Less) (map out (cond b (s ∷ filter p rows) (filter p rows))))
-      [ true ↦ (rw all.0, later p row rows all.1) | false ↦ later p row rows all.1 ]
+      elim (cases_Bool (p s)) [ inl kept ↦ rw kept (rw all.0, later p row rows all.1) | inr dropped ↦ rw dropped (later p row rows all.1) ]
 
   rising : (p : Row → Bool) (rows : List Row) → IsTable rows → IsStrictlySortedBy (output_cmp query) (map out (filter p rows))
   unfolding IsStrictlySortedBy
   rising p [] up = tt
   rising p (row ∷ rows) up =
-      elim (p row) as (λ b. IsStrictlySortedBy (output_cmp query) (map out (cond b (row ∷ filter p rows) (filter p rows))))
-      [ true ↦ (later p row rows up.0, rising p rows up.1) | false ↦ rising p rows up.1 ]
+      elim (cases_Bool (p row)) [ inl kept ↦ rw kept (later p row rows up.0, rising p rows up.1) | inr dropped ↦ rw dropped (rising p rows up.1) ]
 
   pub in_order : (rows picked : List Row) → IsTable rows → Picks query params rows picked → picked ≡ map (λ row. (out row).1) (filter (passes terms params) rows)
   in_order rows picked up it =

@@ -1,7 +1,5 @@
 -- Statements one after the other: what refuses the first of them, or those behind it.
-use Rattle.std.proofs.Common.{◌≡◌, ◌⊎◌, inl, inr, List, [], ◌∷◌, ◌++◌, ℕ, Result, Ok, Err, refl, sym, subst, arith, None}
-use Rattle.std.specs.Prelude.{IsTrue, IsErrAnd, IfErr, OnOk}
-use Rattle.sqlite_disk.specs.Disk.{MoreFaults}
+use Rattle.std.proofs.Common.{◌⊎◌, inl, inr, List, [], ◌∷◌, ◌++◌, refl, subst, arith}
 use Rattle.sqlite.specs.declared.error.Error.{Error}
 use Rattle.sqlite.specs.Effect.{Database}
 use Rattle.sqlite.specs.State.{State}
@@ -24,9 +22,6 @@ refused_then (st ∷ first) rest a b carried it = inr (carried.0, carried.1, ref
 -- one statement alone
 pub one_carried : (st : Statement) (a b : Database) → StatementExecutesTo st a b → StatementsExecuteTo (st ∷ []) a b
 one_carried st a b it = (b, it, refl)
-
-pub one_refused : (st : Statement) (a : Database) → IsStatementRefused st a → IsAnyStatementRefused (st ∷ []) a
-one_refused st a it = inl it
 
 -- ---- why some steps failed: those behind the first ones, and the first ones themselves
 

@@ -1,68 +1,30 @@
-use Rattle.std.proofs.Common.{ap, sym, ◌∙◌, rules, inl}
-use Rattle.std.specs.Prelude.{◌≡◌, Some, None, slice_get, option_map, find}
+use Rattle.std.proofs.Common.{ap, sym, ◌∙◌, rules}
+use Rattle.std.specs.Prelude.{Some, option_map}
 use Rattle.archive_model.specs.Records.{Address}
-use Rattle.archive_model.specs.Questions.{is_address_of}
-use Rattle.archive_tables.specs.Tables.{archive_of}
-use Rattle.archive_tables.specs.Rows.{name_result_row}
-use Rattle.archive_tables.proofs.CauseLemmas.{read_fails_by, stays_rests}
-use Rattle.sqlite.specs.Held.{state}
-use Rattle.archive_tables.proofs.SelectLemmas.{first_found, none_found}
-use Rattle.archive_tables.proofs.AddressLemmas.{found, not_found, not_found_caused}
-use Rattle.archive_tables.proofs.EndLemmas.{asks_answers, asks_fails}
-use Rattle.sqlite_tied.specs.Compute.{everything}
-use Rattle.sqlite_resolve.specs.Compile.{first}
-use Rattle.archive_tables.proofs.CrashLemmas.{IsQuestionText}
-use Rattle.std.specs.Prelude.{codes}
+use Rattle.archive_tables.proofs.AddressLemmas.{find_address}
+use Rattle.archive_tables.proofs.CauseLemmas.{text_unread}
+use Rattle.archive_tables.proofs.AskLemmas.{of_archive, fails, finds, finds_none, finds_unread}
 use Rattle.archive_tables.proofs.texts.addresses.find_address.Goals as goal
-
-asks : IsQuestionText (first (codes "SELECT address FROM address WHERE person = ?1 ORDER BY rowid"))
-unfolding first everything
-asks = tt
 
 pub returns-in_err-rows : goal.returns-in_err-rows
 returns-in_err-rows g c =
-    let old = state g.S.Store c.args.conn.now in
-    let new = state g.S.Store c.query_all.new.self in
-    let error = c.in_err-rows.field-0.0 in
-    asks_fails _ _ asks c.query_all.result c.query_all.ensures.survives c.query_all.ensures.ok c.query_all.ensures.err c.from_residual.result error c.from_residual.ensures.1
-    (λ clean behind k. not_found c.args.person.now old new k error (rw c.params-to_sql.ensures at (c.in_err-rows.ensures.err clean)))
-    (λ clean k free. inl (not_found_caused c.args.person.now old new k error (rw c.params-to_sql.ensures at (c.in_err-rows.ensures.err clean)) free))
+    of_archive (fails (find_address c.args.person.now) c.query_all.result c.query_all.ensures.survives c.query_all.ensures.ok c.query_all.ensures.err (rw c.params-to_sql.ensures)
+    c.in_err-rows.field-0.0 c.from_residual.ensures.1 c.in_err-rows.ensures.err)
 
 pub returns-in_err-read_name-in-Some : goal.returns-in_err-read_name-in-Some
 returns-in_err-read_name-in-Some g c =
-    let old = state g.S.Store c.args.conn.now in
-    let new = state g.S.Store c.query_all.new.self in
-    let rows = c.in_ok-rows.rows.items in
-    let error = c.in_err-read_name-in-Some.field-0.0 in
-    let last = c.from_residual-in_err-read_name-in-Some in
-    let first : slice_get rows 0 ≡ Some c.in-Some.row.now = search rules in
-    asks_fails _ _ asks c.query_all.result c.query_all.ensures.survives c.query_all.ensures.ok c.query_all.ensures.err last.result error last.ensures.1
-    (λ clean behind k. stays_rests behind old new (found c.args.person.now old new k rows (rw c.params-to_sql.ensures at (c.in_ok-rows.ensures.ok clean))).1)
-    (λ clean k free.
-    let found = found c.args.person.now old new k rows (rw c.params-to_sql.ensures at (c.in_ok-rows.ensures.ok clean)) in
-    let it = first_found (is_address_of c.args.person.now) (λ (a : Address). name_result_row a.address) _ rows found.0 c.in-Some.row.now first in
-    read_fails_by old new (λ (a : Address). a.address) (find (is_address_of c.args.person.now) (archive_of old).addresses) it.0 error it.1
-    (c.in_err-read_name-in-Some.ensures.fault it.0.address it.2))
+    let it = c.in_err-read_name-in-Some in
+    of_archive (finds_unread (find_address c.args.person.now) c.query_all.result c.query_all.ensures.survives c.query_all.ensures.ok c.query_all.ensures.err (rw c.params-to_sql.ensures)
+    c.in_ok-rows.rows.items c.in_ok-rows.ensures.ok c.in-Some.row.now (search rules) it.field-0.0 c.from_residual-in_err-read_name-in-Some.ensures.1
+    (λ a is shown. text_unread (λ (a : Address). a.address) _ a it.field-0.0 is (it.ensures.fault a.address shown)))
 
 pub returns-in-Some : goal.returns-in-Some
 returns-in-Some g c =
-    let old = state g.S.Store c.args.conn.now in
-    let new = state g.S.Store c.query_all.new.self in
-    let rows = c.in_ok-rows.rows.items in
-    let first : slice_get rows 0 ≡ Some c.in-Some.row.now = search rules in
-    asks_answers _ _ asks c.query_all.result c.query_all.ensures.survives c.query_all.ensures.ok c.query_all.ensures.err _ rows c.in_ok-rows.ensures.ok
-    (λ clean behind k.
-    let found = found c.args.person.now old new k rows (rw c.params-to_sql.ensures at (c.in_ok-rows.ensures.ok clean)) in
-    let it = first_found (is_address_of c.args.person.now) (λ (a : Address). name_result_row a.address) _ rows found.0 c.in-Some.row.now first in
-    (ap Some (c.in_ok-read_name-in-Some.ensures.read it.0.address it.2) ∙ sym (ap (option_map (λ (a : Address). a.address)) it.1), found.1))
+    of_archive (finds (find_address c.args.person.now) c.query_all.result c.query_all.ensures.survives c.query_all.ensures.ok c.query_all.ensures.err (rw c.params-to_sql.ensures)
+    c.in_ok-rows.rows.items c.in_ok-rows.ensures.ok c.in-Some.row.now (search rules) (λ a is shown.
+    ap Some (c.in_ok-read_name-in-Some.ensures.read a.address shown) ∙ sym (ap (option_map (λ (a : Address). a.address)) is)))
 
 pub returns : goal.returns
 returns g c =
-    let old = state g.S.Store c.args.conn.now in
-    let new = state g.S.Store c.query_all.new.self in
-    let rows = c.in_ok-rows.rows.items in
-    let first : slice_get rows 0 ≡ None = search rules in
-    asks_answers _ _ asks c.query_all.result c.query_all.ensures.survives c.query_all.ensures.ok c.query_all.ensures.err _ rows c.in_ok-rows.ensures.ok
-    (λ clean behind k.
-    let found = found c.args.person.now old new k rows (rw c.params-to_sql.ensures at (c.in_ok-rows.ensures.ok clean)) in
-    (sym (ap (option_map (λ (a : Address). a.address)) (none_found (is_address_of c.args.person.now) (λ (a : Address). name_result_row a.address) _ rows found.0 first)), found.1))
+    of_archive (finds_none (find_address c.args.person.now) c.query_all.result c.query_all.ensures.survives c.query_all.ensures.ok c.query_all.ensures.err (rw c.params-to_sql.ensures)
+    c.in_ok-rows.rows.items c.in_ok-rows.ensures.ok (search rules) (λ none. sym (ap (option_map (λ (a : Address). a.address)) none)))

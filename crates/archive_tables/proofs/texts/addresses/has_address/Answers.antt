@@ -1,35 +1,15 @@
-use Rattle.std.proofs.Common.{ap, ◌∙◌, rules, inl}
-use Rattle.std.specs.Prelude.{◌≡◌, not, ◌==◌, length}
-use Rattle.std.specs.Vec.{vec_len}
-use Rattle.sqlite.specs.Held.{state}
-use Rattle.archive_tables.proofs.AddressLemmas.{has, has_not, has_not_caused}
-use Rattle.archive_tables.proofs.EndLemmas.{asks_answers, asks_fails}
-use Rattle.sqlite_tied.specs.Compute.{everything}
-use Rattle.sqlite_resolve.specs.Compile.{first}
-use Rattle.archive_tables.proofs.CrashLemmas.{IsQuestionText}
-use Rattle.std.specs.Prelude.{codes}
+use Rattle.std.proofs.Common.{ap}
+use Rattle.std.specs.Prelude.{not}
+use Rattle.archive_tables.proofs.AddressLemmas.{has_address}
+use Rattle.archive_tables.proofs.AskLemmas.{of_archive, whether, fails}
 use Rattle.archive_tables.proofs.texts.addresses.has_address.Goals as goal
-
-asks : IsQuestionText (first (codes "SELECT person FROM address WHERE person = ?1"))
-unfolding first everything
-asks = tt
 
 pub returns : goal.returns
 returns g c =
-    let old = state g.S.Store c.args.conn.now in
-    let new = state g.S.Store c.query_all.new.self in
-    let rows = c.in_ok-rows.rows.items in
-    let len : vec_len c.in_ok-rows.rows ≡ length rows = search rules in
-    asks_answers _ _ asks c.query_all.result c.query_all.ensures.survives c.query_all.ensures.ok c.query_all.ensures.err _ rows c.in_ok-rows.ensures.ok
-    (λ clean behind k.
-    let it = has c.args.person.now old new k rows (rw c.params-to_sql.ensures at (c.in_ok-rows.ensures.ok clean)) in
-    (ap not c.is_empty.ensures ∙ ap (λ n. not (n == 0)) len ∙ it.0, it.1))
+    of_archive (whether (has_address c.args.person.now) c.query_all.result c.query_all.ensures.survives c.query_all.ensures.ok c.query_all.ensures.err (rw c.params-to_sql.ensures)
+    c.in_ok-rows.rows c.in_ok-rows.ensures.ok (ap not c.is_empty.ensures))
 
 pub returns-in_err-rows : goal.returns-in_err-rows
 returns-in_err-rows g c =
-    let old = state g.S.Store c.args.conn.now in
-    let new = state g.S.Store c.query_all.new.self in
-    let error = c.in_err-rows.field-0.0 in
-    asks_fails _ _ asks c.query_all.result c.query_all.ensures.survives c.query_all.ensures.ok c.query_all.ensures.err c.from_residual.result error c.from_residual.ensures.1
-    (λ clean behind k. has_not c.args.person.now old new k error (rw c.params-to_sql.ensures at (c.in_err-rows.ensures.err clean)))
-    (λ clean k free. inl (has_not_caused c.args.person.now old new k error (rw c.params-to_sql.ensures at (c.in_err-rows.ensures.err clean)) free))
+    of_archive (fails (has_address c.args.person.now) c.query_all.result c.query_all.ensures.survives c.query_all.ensures.ok c.query_all.ensures.err (rw c.params-to_sql.ensures)
+    c.in_err-rows.field-0.0 c.from_residual.ensures.1 c.in_err-rows.ensures.err)

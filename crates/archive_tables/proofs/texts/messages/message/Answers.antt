@@ -1,68 +1,37 @@
 use Rattle.std.proofs.Common.{ap, sym, subst, ◌∙◌, rules, inl}
 use Rattle.std.proofs.lemmas.Bool.{and_parts}
-use Rattle.std.specs.Prelude.{◌≡◌, Some, None, slice_get, IsUtf8}
+use Rattle.std.specs.Prelude.{◌≡◌, Some, IsUtf8}
 use Rattle.archive_model.specs.Questions.{is_message_at_key}
-use Rattle.archive_tables.specs.Rows.{message_result_row, message_from_result_row}
-use Rattle.archive_tables.proofs.CauseLemmas.{good_text_fails_by, stays_rests}
-use Rattle.sqlite.specs.Held.{state}
-use Rattle.archive_tables.proofs.SelectLemmas.{first_found, none_found, equal_words, first_part, found_passes}
-use Rattle.archive_tables.proofs.MailboxLemmas.{one, not_one, not_one_caused}
-use Rattle.archive_tables.proofs.EndLemmas.{asks_answers, asks_fails}
-use Rattle.sqlite_tied.specs.Compute.{everything}
-use Rattle.sqlite_resolve.specs.Compile.{first}
-use Rattle.archive_tables.proofs.CrashLemmas.{IsQuestionText}
-use Rattle.std.specs.Prelude.{codes}
+use Rattle.archive_tables.specs.Rows.{message_from_result_row}
+use Rattle.archive_tables.proofs.SelectLemmas.{equal_words, found_passes}
+use Rattle.archive_tables.proofs.MailboxLemmas.{one}
+use Rattle.archive_tables.proofs.CauseLemmas.{good_text_unread}
+use Rattle.archive_tables.proofs.AskLemmas.{of_archive, fails, finds, finds_none, finds_unread}
 use Rattle.archive_tables.proofs.texts.messages.message.Goals as goal
-
-asks : IsQuestionText (first (codes "SELECT key, sender, arrival, text, withdrawn, embargo FROM message WHERE list = ?1 AND key = ?2 ORDER BY pos"))
-unfolding first everything
-asks = tt
 
 pub returns-in_err-rows : goal.returns-in_err-rows
 returns-in_err-rows g c =
-    let old = state g.S.Store c.args.conn.now in
-    let new = state g.S.Store c.query_all.new.self in
-    let error = c.in_err-rows.field-0.0 in
-    asks_fails _ _ asks c.query_all.result c.query_all.ensures.survives c.query_all.ensures.ok c.query_all.ensures.err c.from_residual.result error c.from_residual.ensures.1
-    (λ clean behind k. not_one old new c.args.list.now k c.args.key.now error (rw (c.params-to_sql.ensures, c.params-to_sql-2.ensures) at (c.in_err-rows.ensures.err clean)))
-    (λ clean k free. inl (not_one_caused old new c.args.list.now k c.args.key.now error (rw (c.params-to_sql.ensures, c.params-to_sql-2.ensures) at (c.in_err-rows.ensures.err clean)) free))
+    of_archive (fails (one c.args.list.now c.args.key.now) c.query_all.result c.query_all.ensures.survives c.query_all.ensures.ok c.query_all.ensures.err
+    (rw (c.params-to_sql.ensures, c.params-to_sql-2.ensures)) c.in_err-rows.field-0.0 c.from_residual.ensures.1 c.in_err-rows.ensures.err)
 
 pub returns-in_err-read_message-in-Some : goal.returns-in_err-read_message-in-Some
 returns-in_err-read_message-in-Some g c =
-    let old = state g.S.Store c.args.conn.now in
-    let new = state g.S.Store c.query_all.new.self in
-    let rows = c.in_ok-rows.rows.items in
-    let error = c.in_err-read_message-in-Some.field-0.0 in
-    let last = c.from_residual-in_err-read_message-in-Some in
-    let first : slice_get rows 0 ≡ Some c.in-Some.row.now = search rules in
-    asks_fails _ _ asks c.query_all.result c.query_all.ensures.survives c.query_all.ensures.ok c.query_all.ensures.err last.result error last.ensures.1
-    (λ clean behind k. stays_rests behind old new (one old new c.args.list.now k c.args.key.now rows (rw (c.params-to_sql.ensures, c.params-to_sql-2.ensures) at (c.in_ok-rows.ensures.ok clean))).1)
-    (λ clean k free.
-    let found = one old new c.args.list.now k c.args.key.now rows (rw (c.params-to_sql.ensures, c.params-to_sql-2.ensures) at (c.in_ok-rows.ensures.ok clean)) in
-    let it = first_found (is_message_at_key c.args.list.now c.args.key.now) message_result_row _ rows found.0 c.in-Some.row.now first in
-    let same = equal_words it.0.key c.args.key.now (and_parts _ _ (found_passes (is_message_at_key c.args.list.now c.args.key.now) _ it.0 it.1)).1 in
-    inl (good_text_fails_by old new it.0.key error (subst IsUtf8 (sym same) c.utf8.key) (c.in_err-read_message-in-Some.ensures.fault it.0 it.2)))
+    let it = c.in_err-read_message-in-Some in
+    of_archive (finds_unread (one c.args.list.now c.args.key.now) c.query_all.result c.query_all.ensures.survives c.query_all.ensures.ok c.query_all.ensures.err
+    (rw (c.params-to_sql.ensures, c.params-to_sql-2.ensures))
+    c.in_ok-rows.rows.items c.in_ok-rows.ensures.ok c.in-Some.row.now (search rules) it.field-0.0 c.from_residual-in_err-read_message-in-Some.ensures.1
+    (λ m is shown.
+    let same = equal_words m.key c.args.key.now (and_parts _ _ (found_passes (is_message_at_key c.args.list.now c.args.key.now) _ m is)).1 in
+    inl (good_text_unread m.key it.field-0.0 (subst IsUtf8 (sym same) c.utf8.key) (it.ensures.fault m shown))))
 
 pub returns-in-Some : goal.returns-in-Some
 returns-in-Some g c =
-    let old = state g.S.Store c.args.conn.now in
-    let new = state g.S.Store c.query_all.new.self in
-    let rows = c.in_ok-rows.rows.items in
-    let first : slice_get rows 0 ≡ Some c.in-Some.row.now = search rules in
-    asks_answers _ _ asks c.query_all.result c.query_all.ensures.survives c.query_all.ensures.ok c.query_all.ensures.err _ rows c.in_ok-rows.ensures.ok
-    (λ clean behind k.
-    let found = one old new c.args.list.now k c.args.key.now rows (rw (c.params-to_sql.ensures, c.params-to_sql-2.ensures) at (c.in_ok-rows.ensures.ok clean)) in
-    let it = first_found (is_message_at_key c.args.list.now c.args.key.now) message_result_row _ rows found.0 c.in-Some.row.now first in
-    let same : it.0.list ≡ c.args.list.now = equal_words it.0.list c.args.list.now (first_part _ _ (found_passes (is_message_at_key c.args.list.now c.args.key.now) _ it.0 it.1)) in
-    (ap Some (ap (λ l. message_from_result_row l c.in_ok-read_message-in-Some.field-0) (sym same) ∙ c.in_ok-read_message-in-Some.ensures.read it.0 it.2) ∙ sym it.1, found.1))
+    of_archive (finds (one c.args.list.now c.args.key.now) c.query_all.result c.query_all.ensures.survives c.query_all.ensures.ok c.query_all.ensures.err
+    (rw (c.params-to_sql.ensures, c.params-to_sql-2.ensures)) c.in_ok-rows.rows.items c.in_ok-rows.ensures.ok c.in-Some.row.now (search rules) (λ m is shown.
+    let same : m.list ≡ c.args.list.now = equal_words m.list c.args.list.now (and_parts _ _ (found_passes (is_message_at_key c.args.list.now c.args.key.now) _ m is)).0 in
+    ap Some (ap (λ l. message_from_result_row l c.in_ok-read_message-in-Some.field-0) (sym same) ∙ c.in_ok-read_message-in-Some.ensures.read m shown) ∙ sym is))
 
 pub returns : goal.returns
 returns g c =
-    let old = state g.S.Store c.args.conn.now in
-    let new = state g.S.Store c.query_all.new.self in
-    let rows = c.in_ok-rows.rows.items in
-    let first : slice_get rows 0 ≡ None = search rules in
-    asks_answers _ _ asks c.query_all.result c.query_all.ensures.survives c.query_all.ensures.ok c.query_all.ensures.err _ rows c.in_ok-rows.ensures.ok
-    (λ clean behind k.
-    let found = one old new c.args.list.now k c.args.key.now rows (rw (c.params-to_sql.ensures, c.params-to_sql-2.ensures) at (c.in_ok-rows.ensures.ok clean)) in
-    (sym (none_found (is_message_at_key c.args.list.now c.args.key.now) message_result_row _ rows found.0 first), found.1))
+    of_archive (finds_none (one c.args.list.now c.args.key.now) c.query_all.result c.query_all.ensures.survives c.query_all.ensures.ok c.query_all.ensures.err
+    (rw (c.params-to_sql.ensures, c.params-to_sql-2.ensures)) c.in_ok-rows.rows.items c.in_ok-rows.ensures.ok (search rules) (λ none. sym none))

@@ -1,77 +1,50 @@
-use Rattle.std.proofs.Common.{ap, ◌∙◌, rules, w64, inl}
+use Rattle.std.proofs.Common.{ℤ, [], ◌∷◌, ap, ◌∙◌, rules, w64}
 use Rattle.std.proofs.lemmas.Int.{to_z-of_z}
-use Rattle.std.specs.Prelude.{◌≡◌, Some, None, slice_get, option_map}
+use Rattle.std.specs.Prelude.{option_map}
 use Rattle.sqlite.specs.declared.types.Value.TheVariants.{Int}
-use Rattle.sqlite.specs.Held.{state}
+use Rattle.sqlite_resolve.specs.Compile.{first}
+use Rattle.sqlite_tied.specs.Compute.{everything}
 use Rattle.archive_model.specs.Records.{Message}
 use Rattle.archive_model.specs.Filing.{IndexedMessage}
 use Rattle.archive_tables.specs.Tables.{NumberedRecord}
-use Rattle.archive_tables.specs.Rows.{message_result_row, message_at}
-use Rattle.archive_tables.proofs.SelectLemmas.{first_found, none_found}
-use Rattle.archive_tables.proofs.WalkLemmas.{at_found, at_rests, none_at, none_at_caused, is_at}
-use Rattle.archive_tables.proofs.CauseLemmas.{read_fails_by}
-use Rattle.archive_tables.proofs.EndLemmas.{asks_rows_answers, asks_rows_fails}
-use Rattle.sqlite_tied.specs.Compute.{everything}
-use Rattle.sqlite_resolve.specs.Compile.{first}
-use Rattle.archive_tables.proofs.CrashLemmas.{IsQuestionText}
-use Rattle.std.specs.Prelude.{codes}
+use Rattle.archive_tables.specs.Rows.{message_result_row, numbered_indexed_messages}
+use Rattle.archive_tables.proofs.WalkLemmas.{at_text, at_found, none_at, none_at_caused, is_at}
+use Rattle.archive_tables.proofs.CauseLemmas.{text_unread}
+use Rattle.archive_tables.proofs.AskLemmas.{Question, ShowsWanted, fails, finds, finds_none, finds_unread}
 use Rattle.archive_tables.proofs.texts.messages.message_at.Goals as goal
 
-asks : IsQuestionText (first (codes "SELECT key, sender, arrival, text, withdrawn, embargo FROM message WHERE pos = ?1 ORDER BY pos"))
+asked : (place : ℤ) → Question at_text (Int place ∷ []) (ShowsWanted (λ (r : NumberedRecord IndexedMessage). message_result_row r.content.0) (is_at place) numbered_indexed_messages)
 unfolding first everything
-asks = tt
+asked place = record {
+  asks = tt;
+  tells = λ behind old new k rows h. let it = at_found old new k place rows h in (record { are = it.0 }, it.1);
+  rests = λ behind old new k e h. none_at old new k place e h;
+  caused = λ behind old new k e h free. none_at_caused old new k place e h free;
+}
 
 pub returns-in_err-rows : goal.returns-in_err-rows
 returns-in_err-rows g c =
-    let old = state g.S.Store c.args.conn.now in
-    let new = state g.S.Store c.query_all.new.self in
-    let error = c.in_err-rows.field-0.0 in
     let number = c.params-to_sql.ensures ∙ ap Int (to_z-of_z w64 c.args.place c.ranges.place) in
-    asks_rows_fails _ _ asks c.query_all.result c.query_all.ensures.survives c.query_all.ensures.ok c.query_all.ensures.err c.from_residual.result error c.from_residual.ensures.1
-    (λ clean behind k. none_at old new k c.args.place error (rw number at (c.in_err-rows.ensures.err clean)))
-    (λ clean k free. inl (none_at_caused old new k c.args.place error (rw number at (c.in_err-rows.ensures.err clean)) free))
+    fails (asked c.args.place) c.query_all.result c.query_all.ensures.survives c.query_all.ensures.ok c.query_all.ensures.err (rw number)
+    c.in_err-rows.field-0.0 c.from_residual.ensures.1 c.in_err-rows.ensures.err
 
 pub returns-in_err-read_message-in-Some : goal.returns-in_err-read_message-in-Some
 returns-in_err-read_message-in-Some g c =
-    let old = state g.S.Store c.args.conn.now in
-    let new = state g.S.Store c.query_all.new.self in
-    let rows = c.in_ok-rows.rows.items in
-    let error = c.in_err-read_message-in-Some.field-0.0 in
-    let last = c.from_residual-in_err-read_message-in-Some in
-    let first : slice_get rows 0 ≡ Some c.in-Some.row.now = search rules in
+    let it = c.in_err-read_message-in-Some in
     let number = c.params-to_sql.ensures ∙ ap Int (to_z-of_z w64 c.args.place c.ranges.place) in
-    asks_rows_fails _ _ asks c.query_all.result c.query_all.ensures.survives c.query_all.ensures.ok c.query_all.ensures.err last.result error last.ensures.1
-    (λ clean behind k. at_rests old new k c.args.place rows (rw number at (c.in_ok-rows.ensures.ok clean)))
-    (λ clean k free.
-    let found = at_found old new k c.args.place rows (rw number at (c.in_ok-rows.ensures.ok clean)) in
-    let it = first_found (is_at c.args.place) (λ (r : NumberedRecord IndexedMessage). message_result_row r.content.0) _ rows found.0 c.in-Some.row.now first in
-    read_fails_by old new (λ (m : Message). m.key) (message_at old.now.trees c.args.place) it.0.content.0 error
-    (ap (option_map (λ (r : NumberedRecord IndexedMessage). r.content.0)) it.1) (c.in_err-read_message-in-Some.ensures.fault it.0.content.0 it.2))
+    finds_unread (asked c.args.place) c.query_all.result c.query_all.ensures.survives c.query_all.ensures.ok c.query_all.ensures.err (rw number)
+    c.in_ok-rows.rows.items c.in_ok-rows.ensures.ok c.in-Some.row.now (search rules) it.field-0.0 c.from_residual-in_err-read_message-in-Some.ensures.1
+    (λ r is shown. text_unread (λ (m : Message). m.key) _ r.content.0 it.field-0.0 (ap (option_map (λ (r : NumberedRecord IndexedMessage). r.content.0)) is) (it.ensures.fault r.content.0 shown))
 
 pub returns-in-Some : goal.returns-in-Some
 returns-in-Some g c =
-    let old = state g.S.Store c.args.conn.now in
-    let new = state g.S.Store c.query_all.new.self in
-    let rows = c.in_ok-rows.rows.items in
-    let first : slice_get rows 0 ≡ Some c.in-Some.row.now = search rules in
     let number = c.params-to_sql.ensures ∙ ap Int (to_z-of_z w64 c.args.place c.ranges.place) in
-    asks_rows_answers _ _ asks c.query_all.result c.query_all.ensures.survives c.query_all.ensures.ok c.query_all.ensures.err _ rows c.in_ok-rows.ensures.ok
-    (λ clean behind k.
-    let found = at_found old new k c.args.place rows (rw number at (c.in_ok-rows.ensures.ok clean)) in
-    let it = first_found (is_at c.args.place) (λ (r : NumberedRecord IndexedMessage). message_result_row r.content.0) _ rows found.0 c.in-Some.row.now first in
-    ((it.0.content.0, ap (option_map (λ (r : NumberedRecord IndexedMessage). r.content.0)) it.1, c.in_ok-read_message-in-Some.ensures.read it.0.content.0 it.2), found.1))
+    finds (asked c.args.place) c.query_all.result c.query_all.ensures.survives c.query_all.ensures.ok c.query_all.ensures.err (rw number)
+    c.in_ok-rows.rows.items c.in_ok-rows.ensures.ok c.in-Some.row.now (search rules)
+    (λ r is shown. (r.content.0, ap (option_map (λ (r : NumberedRecord IndexedMessage). r.content.0)) is, c.in_ok-read_message-in-Some.ensures.read r.content.0 shown))
 
 pub returns : goal.returns
 returns g c =
-    let old = state g.S.Store c.args.conn.now in
-    let new = state g.S.Store c.query_all.new.self in
-    let rows = c.in_ok-rows.rows.items in
-    let first : slice_get rows 0 ≡ None = search rules in
     let number = c.params-to_sql.ensures ∙ ap Int (to_z-of_z w64 c.args.place c.ranges.place) in
-    asks_rows_answers _ _ asks c.query_all.result c.query_all.ensures.survives c.query_all.ensures.ok c.query_all.ensures.err _ rows c.in_ok-rows.ensures.ok
-    (λ clean behind k.
-    let found = at_found old new k c.args.place rows (rw number at (c.in_ok-rows.ensures.ok clean)) in (
-      ap (option_map (λ (r : NumberedRecord IndexedMessage). r.content.0)) (none_found (is_at c.args.place) (λ (r : NumberedRecord IndexedMessage). message_result_row r.content.0) _ rows found.0
-          first),
-      found.1,
-    ))
+    finds_none (asked c.args.place) c.query_all.result c.query_all.ensures.survives c.query_all.ensures.ok c.query_all.ensures.err (rw number)
+    c.in_ok-rows.rows.items c.in_ok-rows.ensures.ok (search rules) (λ none. ap (option_map (λ (r : NumberedRecord IndexedMessage). r.content.0)) none)

@@ -1,45 +1,24 @@
-use Rattle.std.proofs.Common.{w64, ap, ◌∙◌, ℤ, ◌≡◌, ◌⊎◌, inl, ℕ, List, [], ◌∷◌, map, Option, Ok, Err, Result, IfOk, IfErr, None}
+use Rattle.std.proofs.Common.{◌≡◌, ℕ, ℤ, List, [], ◌∷◌, map, w64, ap, ◌∙◌}
 use Rattle.std.proofs.lemmas.Int.{to_z-of_z}
-use Rattle.std.specs.Prelude.{Vec, MatchResult}
-use Rattle.std.specs.declared.alloc.Global.{Global}
-use Rattle.sqlite.specs.declared.error.Error.{Error}
 use Rattle.sqlite.specs.declared.types.Value.TheVariants.{Text, Int}
-use Rattle.sqlite.specs.Effect.{Database}
-use Rattle.sqlite.specs.Order.{Row}
-use Rattle.sqlite.specs.Held.{state}
-use Rattle.sqlite.specs.State.{State, Shown, FailsToQuery}
-use Rattle.archive_tables.specs.Tables.{IsOpenArchive, IsArchiveAtRest}
-use Rattle.archive_tables.specs.Rows.{month_rowids, rowid_result_row}
-use Rattle.archive_tables.specs.Calls.{LeavesRowsUnchanged, FaultKeepsRowsOrRollsBack, IsMemoryOrDiskError}
-use Rattle.archive_tables.proofs.FiledLemmas.{month_text, month_found, no_month, no_month_caused}
-use Rattle.archive_tables.proofs.EndLemmas.{asks_rows_shows}
-use Rattle.sqlite_tied.specs.Compute.{everything}
 use Rattle.sqlite_resolve.specs.Compile.{first}
-use Rattle.archive_tables.proofs.CrashLemmas.{IsQuestionText}
-use Rattle.std.specs.Prelude.{codes}
+use Rattle.sqlite_tied.specs.Compute.{everything}
+use Rattle.archive_tables.specs.Rows.{month_rowids, rowid_result_row}
+use Rattle.archive_tables.proofs.FiledLemmas.{month_text, month_found, no_month, no_month_caused}
+use Rattle.archive_tables.proofs.AskLemmas.{Question, rows_answer}
 use Rattle.archive_tables.proofs.texts.messages.month_rowids.Goals as goal
 
-asks : IsQuestionText (first (codes "SELECT pos FROM message WHERE list = ?1 AND month = ?2 ORDER BY sent, pos"))
+asked : (list : List ℕ) (month : ℤ) → Question month_text (Text list ∷ Int month ∷ []) (λ db rows. rows ≡ map rowid_result_row (month_rowids db list month))
 unfolding first everything
-asks = tt
-
-found : (behind : Option Database) (old new : State) (list : List ℕ) (it : ℤ) (r : Result (Vec Row Global) Error) → IsOpenArchive behind old
-    → IfOk r (λ rows. Shown month_text (Text list ∷ Int it ∷ []) old new rows.items) → IfErr r (FailsToQuery month_text (Text list ∷ Int it ∷ []) old new)
-    → MatchResult r (λ rows. (rows.items ≡ map rowid_result_row (month_rowids old.now.trees list it)) × LeavesRowsUnchanged behind old new) (λ _. FaultKeepsRowsOrRollsBack behind old new)
-found behind old new list it (Ok rows) k ok err = month_found old new k list it rows.items ok
-found behind old new list it (Err e) k ok err = no_month old new k list it e err
-
-why : (old new : State) (list : List ℕ) (it : ℤ) (r : Result (Vec Row Global) Error) → IsArchiveAtRest old → old.step_limit ≡ None
-    → IfErr r (FailsToQuery month_text (Text list ∷ Int it ∷ []) old new) → IfErr r (λ e. IsMemoryOrDiskError old new e ⊎ ⊥)
-why old new list it (Ok rows) k free err = tt
-why old new list it (Err e) k free err = inl (no_month_caused old new k list it e err free)
+asked list month = record {
+  asks = tt;
+  tells = λ behind old new k rows h. month_found old new k list month rows h;
+  rests = λ behind old new k e h. no_month old new k list month e h;
+  caused = λ behind old new k e h free. no_month_caused old new k list month e h free;
+}
 
 pub returns : goal.returns
 returns g c =
-    let old = state g.S.Store c.args.conn.now in
-    let new = state g.S.Store c.query_all.new.self in
     let number = c.params-to_sql-2.ensures ∙ ap Int (to_z-of_z w64 c.args.month c.ranges.month) in
-    asks_rows_shows _ _ asks c.query_all.result c.query_all.ensures.survives c.query_all.ensures.ok c.query_all.ensures.err
-    (λ clean behind k. found behind old new c.args.list.now c.args.month c.query_all.result k (rw (c.params-to_sql.ensures, number) at (c.query_all.ensures.ok clean))
-    (rw (c.params-to_sql.ensures, number) at (c.query_all.ensures.err clean)))
-    (λ clean k free. why old new c.args.list.now c.args.month c.query_all.result k free (rw (c.params-to_sql.ensures, number) at (c.query_all.ensures.err clean)))
+    rows_answer (asked c.args.list.now c.args.month) c.query_all.result c.query_all.ensures.survives c.query_all.ensures.ok c.query_all.ensures.err
+    (rw (c.params-to_sql.ensures, number)) (λ rows it. it)

@@ -1,43 +1,21 @@
-use Rattle.std.proofs.Common.{◌≡◌, ◌⊎◌, inl, ℕ, List, [], ◌∷◌, map, Option, Ok, Err, Result, IfOk, IfErr, None}
-use Rattle.std.specs.Prelude.{Vec, MatchResult}
-use Rattle.std.specs.declared.alloc.Global.{Global}
-use Rattle.sqlite.specs.declared.error.Error.{Error}
+use Rattle.std.proofs.Common.{◌≡◌, ℕ, List, [], ◌∷◌, map}
 use Rattle.sqlite.specs.declared.types.Value.TheVariants.{Text}
-use Rattle.sqlite.specs.Effect.{Database}
-use Rattle.sqlite.specs.Order.{Row}
-use Rattle.sqlite.specs.Held.{state}
-use Rattle.sqlite.specs.State.{State, Shown, FailsToQuery}
-use Rattle.archive_tables.specs.Tables.{IsOpenArchive, IsArchiveAtRest}
-use Rattle.archive_tables.specs.Rows.{message_rowids_in, rowid_result_row}
-use Rattle.archive_tables.specs.Calls.{LeavesRowsUnchanged, FaultKeepsRowsOrRollsBack, IsMemoryOrDiskError}
-use Rattle.archive_tables.proofs.WalkLemmas.{places_text, places_found, no_places, no_places_caused}
-use Rattle.archive_tables.proofs.EndLemmas.{asks_rows_shows}
-use Rattle.sqlite_tied.specs.Compute.{everything}
 use Rattle.sqlite_resolve.specs.Compile.{first}
-use Rattle.archive_tables.proofs.CrashLemmas.{IsQuestionText}
-use Rattle.std.specs.Prelude.{codes}
+use Rattle.sqlite_tied.specs.Compute.{everything}
+use Rattle.archive_tables.specs.Rows.{message_rowids_in, rowid_result_row}
+use Rattle.archive_tables.proofs.WalkLemmas.{places_text, places_found, no_places, no_places_caused}
+use Rattle.archive_tables.proofs.AskLemmas.{Question, rows_answer}
 use Rattle.archive_tables.proofs.texts.messages.places.Goals as goal
 
-asks : IsQuestionText (first (codes "SELECT pos FROM message WHERE list = ?1 ORDER BY pos"))
+asked : (list : List ℕ) → Question places_text (Text list ∷ []) (λ db rows. rows ≡ map rowid_result_row (message_rowids_in db list))
 unfolding first everything
-asks = tt
-
-found : (behind : Option Database) (old new : State) (list : List ℕ) (r : Result (Vec Row Global) Error) → IsOpenArchive behind old
-    → IfOk r (λ rows. Shown places_text (Text list ∷ []) old new rows.items) → IfErr r (FailsToQuery places_text (Text list ∷ []) old new)
-    → MatchResult r (λ rows. (rows.items ≡ map rowid_result_row (message_rowids_in old.now.trees list)) × LeavesRowsUnchanged behind old new) (λ _. FaultKeepsRowsOrRollsBack behind old new)
-found behind old new list (Ok rows) k ok err = places_found old new k list rows.items ok
-found behind old new list (Err e) k ok err = no_places old new k list e err
-
-why : (old new : State) (list : List ℕ) (r : Result (Vec Row Global) Error) → IsArchiveAtRest old → old.step_limit ≡ None
-    → IfErr r (FailsToQuery places_text (Text list ∷ []) old new) → IfErr r (λ e. IsMemoryOrDiskError old new e ⊎ ⊥)
-why old new list (Ok rows) k free err = tt
-why old new list (Err e) k free err = inl (no_places_caused old new k list e err free)
+asked list = record {
+  asks = tt;
+  tells = λ behind old new k rows h. places_found old new k list rows h;
+  rests = λ behind old new k e h. no_places old new k list e h;
+  caused = λ behind old new k e h free. no_places_caused old new k list e h free;
+}
 
 pub returns : goal.returns
 returns g c =
-    let old = state g.S.Store c.args.conn.now in
-    let new = state g.S.Store c.query_all.new.self in
-    asks_rows_shows _ _ asks c.query_all.result c.query_all.ensures.survives c.query_all.ensures.ok c.query_all.ensures.err
-    (λ clean behind k. found behind old new c.args.list.now c.query_all.result k (rw c.params-to_sql.ensures at (c.query_all.ensures.ok clean))
-    (rw c.params-to_sql.ensures at (c.query_all.ensures.err clean)))
-    (λ clean k free. why old new c.args.list.now c.query_all.result k free (rw c.params-to_sql.ensures at (c.query_all.ensures.err clean)))
+    rows_answer (asked c.args.list.now) c.query_all.result c.query_all.ensures.survives c.query_all.ensures.ok c.query_all.ensures.err (rw c.params-to_sql.ensures) (λ rows it. it)

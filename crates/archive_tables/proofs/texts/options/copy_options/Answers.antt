@@ -1,11 +1,8 @@
-use Rattle.std.proofs.Common.{◌≡◌, ℕ, ℤ, [], Ok, Err, Result, OnOk, refl}
+use Rattle.std.proofs.Common.{ℕ, [], Ok, Err, Result, OnOk, refl}
 use Rattle.sqlite.specs.declared.error.Error.{Error}
-use Rattle.sqlite.specs.Effect.{Database}
 use Rattle.sqlite.specs.Held.{state}
 use Rattle.sqlite.specs.State.{State, Executes}
-use Rattle.archive_model.specs.Records.{Archive}
 use Rattle.archive_tables.specs.Schema.{schema_2}
-use Rattle.archive_tables.specs.Making.{IsInTransactionWithSchema, IsMigratingTables}
 use Rattle.archive_tables.proofs.MoveLemmas.{copies, copy_within, copy_text}
 use Rattle.sqlite_tied.specs.Compute.{everything}
 use Rattle.sqlite_resolve.specs.Compile.{first}
@@ -18,22 +15,22 @@ use Rattle.sqlite.proofs.Callers.{command_of}
 use Rattle.archive_tables.proofs.CrashLemmas.{EndsNothing, within_adds_nothing}
 use Rattle.archive_tables.proofs.texts.options.copy_options.Goals as goal
 
-moves : (old new : State) (before : Database) (said : ℤ) (archive : Archive) → IsMigratingTables old before schema_2 said 1 archive → old.now.trees 13 ≡ [] → (r : Result ℕ Error)
-    → Executes copy_text [] old new r → OnOk r (IsMigratingTables new before schema_2 said 2 archive)
-moves old new before said archive k empty (Ok count) h = copies old new before said archive count k empty h
-moves old new before said archive k empty (Err e) h = tt
+-- what it makes where it succeeds
+where_ok : {P : Type 0} (old new : State) (r : Result ℕ Error) → ((count : ℕ) → Executes copy_text [] old new (Ok count) → P) → Executes copy_text [] old new r → OnOk r P
+where_ok old new (Ok count) makes h = makes count h
+where_ok old new (Err e) makes h = tt
 
 pub returns-clause-moved : goal.returns-clause-moved
-returns-clause-moved g c clean before said archive k empty = moves (state g.S.Store c.args.conn.now) (state g.S.Store c.execute.new.self) before said archive k
-    empty c.execute.result (c.execute.ensures.runs clean)
-
-stays : (old new : State) (before : Database) → IsInTransactionWithSchema old before schema_2 → (r : Result ℕ Error) → Executes copy_text [] old new r
-    → OnOk r (IsInTransactionWithSchema new before schema_2)
-stays old new before k (Ok count) h = copy_within old new before count k h
-stays old new before k (Err e) h = tt
+returns-clause-moved g c clean before said archive k empty =
+    let old = state g.S.Store c.args.conn.now in
+    let new = state g.S.Store c.execute.new.self in
+    where_ok old new c.execute.result (λ count h. copies old new before said archive count k empty h) (c.execute.ensures.runs clean)
 
 pub returns-clause-within : goal.returns-clause-within
-returns-clause-within g c clean before k = stays (state g.S.Store c.args.conn.now) (state g.S.Store c.execute.new.self) before k c.execute.result (c.execute.ensures.runs clean)
+returns-clause-within g c clean before k =
+    let old = state g.S.Store c.args.conn.now in
+    let new = state g.S.Store c.execute.new.self in
+    where_ok old new c.execute.result (λ count h. copy_within old new before count k h) (c.execute.ensures.runs clean)
 
 ours : IsOurText (first copy_text)
 unfolding first everything

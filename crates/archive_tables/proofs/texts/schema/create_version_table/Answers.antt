@@ -1,45 +1,8 @@
-use Rattle.std.proofs.Common.{ℕ, [], Ok, Err, Result, OnOk, refl}
-use Rattle.sqlite.specs.declared.error.Error.{Error}
-use Rattle.sqlite.specs.Effect.{Database}
-use Rattle.sqlite.specs.Held.{state}
-use Rattle.sqlite.specs.State.{State, Executes}
-use Rattle.archive_tables.specs.Schema.{empty_schema, schema_with_version_table, create_version_table}
-use Rattle.archive_tables.specs.Making.{IsCreatingTables}
-use Rattle.archive_tables.proofs.MakeLemmas.{makes_version}
-use Rattle.sqlite_tied.specs.Compute.{everything}
-use Rattle.sqlite_resolve.specs.Compile.{first}
-use Rattle.archive_tables.proofs.LastLemmas.{IsOurText}
-use Rattle.archive_tables.specs.Statements.{create_version_statement}
-use Rattle.archive_tables.proofs.RefusalLemmas.{KnowsIn}
-use Rattle.archive_tables.proofs.EndLemmas.{step_ends}
-use Rattle.sqlite.specs.Listing.{understood}
-use Rattle.sqlite.proofs.Callers.{command_of}
-use Rattle.archive_tables.proofs.CrashLemmas.{EndsNothing, within_adds_nothing}
+use Rattle.archive_tables.proofs.SchemaLemmas.{version_step, version_extends}
+use Rattle.archive_tables.proofs.MakeLemmas.{created, ended}
 use Rattle.archive_tables.proofs.texts.schema.create_version_table.Goals as goal
 
-done : (old new : State) (before : Database) → IsCreatingTables old empty_schema before → (r : Result ℕ Error) → Executes create_version_table [] old new r
-    → OnOk r (IsCreatingTables new schema_with_version_table before)
-done old new before k (Ok count) h = makes_version old new before count k h
-done old new before k (Err e) h = tt
-
-pub returns-clause-made : goal.returns-clause-made
-returns-clause-made g c clean before k = done (state g.S.Store c.args.conn.now) (state g.S.Store c.execute.new.self) before k c.execute.result (c.execute.ensures.runs clean)
-
-ours : IsOurText (first create_version_table)
-unfolding first everything
-ours = tt
-
-knows : KnowsIn empty_schema create_version_statement
-unfolding understood everything
-knows = record { fits = (refl, refl); plain = (refl, refl); writes = tt }
-
-pub returns-clause-ends : goal.returns-clause-ends
-returns-clause-ends g c = step_ends empty_schema create_version_statement _ c.execute.result knows ours c.execute.ensures.survives c.execute.ensures.runs
-
-goes_on : EndsNothing (command_of (understood empty_schema create_version_table))
-unfolding understood everything
-goes_on = tt
-
-pub returns-clause-quiet : goal.returns-clause-quiet
-returns-clause-quiet g c before k clean db may =
-    within_adds_nothing create_version_table empty_schema _ refl goes_on _ before (state g.S.Store c.args.conn.now) (state g.S.Store c.execute.new.self) k c.execute.ensures.survives clean db may
+pub returns : goal.returns
+returns g c =
+    let it = ended g.S.Store c.args.conn.now c.execute.new.self version_step c.execute.result c.execute.ensures.survives c.execute.ensures.runs in
+    record { made = created g.S.Store c.args.conn.now c.execute.new.self version_step c.execute.result c.execute.ensures.runs version_extends; quiet = it.0; ends = it.1 }
