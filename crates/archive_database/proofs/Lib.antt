@@ -2,6 +2,5 @@ pub mod MakingLemmas
 pub mod RankLemmas
 pub mod ReadingLemmas
 pub mod TakingLemmas
-mod HeldLemmas
 mod CauseLemmas
 mod StepsLemmas

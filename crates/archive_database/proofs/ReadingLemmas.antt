@@ -1,9 +1,9 @@
 -- Rows that are read one after the other.
-use Rattle.std.proofs.Common.{◌≡◌, ℕ, zero, suc, arith, ◌+◌, ◌<◌, ◌≤◌, List, [], ◌∷◌, ◌++◌, length, get_or, drop, map, refl, ap, sym, subst, ◌∙◌, inl, inr, Result, Ok, Err}
-use Rattle.std.specs.Prelude.{⊤, IsUtf8, IfErr, IsErrAnd}
+use Rattle.std.proofs.Common.{◌≡◌, ℕ, zero, suc, arith, ◌+◌, ◌<◌, ◌≤◌, List, [], ◌∷◌, ◌++◌, length, get_or, drop, map, refl, ap, sym, subst, ◌∙◌, append-nil, append_assoc, inl, inr, Result, Ok, Err}
+use Rattle.std.specs.Prelude.{IsUtf8, IfErr, IsErrAnd}
 use Rattle.std.specs.List.{All}
 use Rattle.std.proofs.lemmas.List.{drop_more, drop_all}
-use Rattle.std.proofs.lemmas.List.Elements.{All-nil, All-cons, All-head, All-tail}
+use Rattle.std.proofs.lemmas.List.Elements.{All-head, All-tail}
 use Rattle.sqlite.specs.Order.{Row}
 use Rattle.sqlite.specs.declared.error.Error.{Error}
 use Rattle.archive_tables.specs.Rows.{out_of_memory_error, IsTextReadError}
@@ -11,62 +11,41 @@ use Rattle.archive_database.specs.Faults.{database_error_of}
 use Rattle.archive_database.specs.declared.faults.DatabaseError.{DatabaseError}
 use Rattle.archive_database.specs.declared.faults.DatabaseError.TheVariants as fault
 
--- These records were read and these rows are left, and together they are all records that the rows show. P holds of each
--- that is left.
-pub record HasRead {A : Type 0} (shows : A → Row) (P : A → Type 0) (read : List A) (left : List Row) (all : List A) : Type 0 where
+-- These records were read and these rows are left, and together they are all records that the rows show.
+pub record HasRead {A : Type 0} (shows : A → Row) (read : List A) (left : List Row) (all : List A) : Type 0 where
   pub rest : List A
   pub rows : left ≡ map shows rest
-  pub each : All P rest
   pub joined : read ++ rest ≡ all
 
-pub read_none : {A : Type 0} (shows : A → Row) (P : A → Type 0) (rows : List Row) (all : List A) → rows ≡ map shows all → All P all → HasRead shows P [] rows all
-read_none shows P rows all e each = record { rest = all; rows = e; each = each; joined = refl }
+pub read_none : {A : Type 0} (shows : A → Row) (rows : List Row) (all : List A) → rows ≡ map shows all → HasRead shows [] rows all
+read_none shows rows all e = record { rest = all; rows = e; joined = refl }
 
-joined_more : {A : Type 0} (read : List A) (x : A) (rest : List A) → (read ++ x ∷ []) ++ rest ≡ read ++ x ∷ rest
-joined_more [] x rest = refl
-joined_more (r ∷ read) x rest = ap (λ xs. r ∷ xs) (joined_more read x rest)
-
-read_more : {A : Type 0} (shows : A → Row) (P : A → Type 0) (read : List A) (row : Row) (left : List Row) (all : List A) (x : A)
-    → HasRead shows P read (row ∷ left) all → ((y : A) → row ≡ shows y → P y → x ≡ y) → HasRead shows P (read ++ x ∷ []) left all
-read_more {A} shows P read row left all x h same = more h.rest h.rows h.each h.joined
+read_more : {A : Type 0} (shows : A → Row) (read : List A) (row : Row) (left : List Row) (all : List A) (x : A)
+    → HasRead shows read (row ∷ left) all → ((y : A) → row ≡ shows y → x ≡ y) → HasRead shows (read ++ x ∷ []) left all
+read_more {A} shows read row left all x h same = more h.rest h.rows h.joined
   where
-    more : (rest : List A) → row ∷ left ≡ map shows rest → All P rest → read ++ rest ≡ all → HasRead shows P (read ++ x ∷ []) left all
-    more [] e each j = absurd (cc)
-    more (y ∷ rest) e each j =
+    more : (rest : List A) → row ∷ left ≡ map shows rest → read ++ rest ≡ all → HasRead shows (read ++ x ∷ []) left all
+    more [] e j = absurd (cc)
+    more (y ∷ rest) e j =
         let first : row ≡ shows y = cc in
-        record {
-          rest = rest;
-          rows = cc;
-          each = All-tail P y rest each;
-          joined = joined_more read x rest ∙ ap (λ z. read ++ z ∷ rest) (same y first (All-head P y rest each)) ∙ j;
-        }
+        record { rest = rest; rows = cc; joined = append_assoc read (x ∷ []) rest ∙ ap (λ z. read ++ z ∷ rest) (same y first) ∙ j }
 
 -- the row of this number is read after those before it
-pub read_row : {A : Type 0} (shows : A → Row) (P : A → Type 0) (read read' : List A) (rows : List Row) (i : ℕ) (d : Row) (all : List A) (x : A)
-    → HasRead shows P read (drop i rows) all → i < length rows → ((y : A) → get_or rows i d ≡ shows y → P y → x ≡ y)
-    → read' ≡ read ++ x ∷ [] → HasRead shows P read' (drop (i + 1) rows) all
-read_row shows P read read' rows i d all x h within same e =
-    rw e (read_more shows P read (get_or rows i d) (drop (i + 1) rows) all x (subst (λ left. HasRead shows P read left all) (drop_more rows i d within) h) same)
+pub read_row : {A : Type 0} (shows : A → Row) (read read' : List A) (rows : List Row) (i : ℕ) (d : Row) (all : List A) (x : A)
+    → HasRead shows read (drop i rows) all → i < length rows → ((y : A) → get_or rows i d ≡ shows y → x ≡ y)
+    → read' ≡ read ++ x ∷ [] → HasRead shows read' (drop (i + 1) rows) all
+read_row shows read read' rows i d all x h within same e =
+    rw e (read_more shows read (get_or rows i d) (drop (i + 1) rows) all x (subst (λ left. HasRead shows read left all) (drop_more rows i d within) h) same)
 
-nothing_more : {A : Type 0} (read : List A) → read ++ [] ≡ read
-nothing_more [] = refl
-nothing_more (r ∷ read) = ap (λ xs. r ∷ xs) (nothing_more read)
-
-read_all : {A : Type 0} (shows : A → Row) (P : A → Type 0) (read all : List A) → HasRead shows P read [] all → read ≡ all
-read_all {A} shows P read all h = go h.rest h.rows h.joined
+read_all : {A : Type 0} (shows : A → Row) (read all : List A) → HasRead shows read [] all → read ≡ all
+read_all {A} shows read all h = go h.rest h.rows h.joined
   where
     go : (rest : List A) → [] ≡ map shows rest → read ++ rest ≡ all → read ≡ all
-    go [] e j = sym (nothing_more read) ∙ j
+    go [] e j = sym (append-nil read) ∙ j
     go (x ∷ rest) e j = absurd (cc)
 
-pub read_every : {A : Type 0} (shows : A → Row) (P : A → Type 0) (read : List A) (rows : List Row) (i : ℕ) (all : List A)
-    → HasRead shows P read (drop i rows) all → length rows ≤ i → read ≡ all
-read_every shows P read rows i all h past = read_all shows P read all (subst (λ left. HasRead shows P read left all) (drop_all i rows past) h)
-
--- nothing is asked of a record
-pub each_is : {A : Type 0} (xs : List A) → All (λ _. ⊤) xs
-each_is [] = All-nil (λ _. ⊤)
-each_is (x ∷ xs) = All-cons (λ _. ⊤) x xs tt (each_is xs)
+pub read_every : {A : Type 0} (shows : A → Row) (read : List A) (rows : List Row) (i : ℕ) (all : List A) → HasRead shows read (drop i rows) all → length rows ≤ i → read ≡ all
+read_every shows read rows i all h past = read_all shows read all (subst (λ left. HasRead shows read left all) (drop_all i rows past) h)
 
 -- the row of this number shows one of the records
 pub shown_at : {A : Type 0} (shows : A → Row) (P : A → Type 0) (xs : List A) (rows : List Row) (i : ℕ) (d : Row) → rows ≡ map shows xs → i < length rows

@@ -6,7 +6,7 @@ use Rattle.archive_tables.specs.Tables.{archive_of}
 use Rattle.archive_tables.proofs.CrashLemmas.{adds_as}
 use Rattle.archive_tables.proofs.EndLemmas.{archive_stays}
 use Rattle.archive_database.specs.Lists.{archive_with_list, IsListRefused}
-use Rattle.archive_database.proofs.CauseLemmas.{caused_between, by_cause, fails_by}
+use Rattle.archive_database.proofs.CauseLemmas.{adds_then, caused_between, by_cause, fails_by}
 use Rattle.archive_database.proofs.lists.add_list.Goals as goal
 
 pub returns-in-Err-clause-added : goal.returns-in-Err-clause-added
@@ -56,24 +56,16 @@ returns-in_err-begin-clause-crash g c = λ kept clean x may. inl (c.begin.ensure
 pub returns-in-Err-clause-crash : goal.returns-in-Err-clause-crash
 returns-in-Err-clause-crash g c = λ kept clean x may.
     let first = state g.S.Store c.args.conn.now in
-    let clean_2 = c.rollback-undone.ensures.lasts.disk_was_clean clean in
-    let clean_1 = c.write_list.ensures.lasts.disk_was_clean clean_2 in
-    let held = c.in_ok-begin.ensures.held clean_1 kept in
-    let is = ap (λ (a : Archive). archive_with_list a c.args.name.now) (archive_stays held.1) in
-    elim (adds_as g.S.Store c.begin.new.conn c.write_list.new.conn _ (archive_with_list (archive_of first) c.args.name.now) is (c.write_list.ensures.crash first.now held.0)
-    clean_2 x (c.rollback-undone.ensures.ends.crash_adds_nothing clean x may)) [
-      | inl before ↦ inl (c.begin.ensures.ends.crash_adds_nothing clean_1 x before)
-      | inr stored ↦ inr stored
-    ]
+    adds_then g.S.Store c.args.conn.now c.begin.new.conn c.write_list.new.conn _ c.begin.ensures.ends.crash_adds_nothing c.write_list.ensures.lasts.disk_was_clean (λ clean.
+    let held = c.in_ok-begin.ensures.held clean kept in
+    adds_as g.S.Store c.begin.new.conn c.write_list.new.conn _ (archive_with_list (archive_of first) c.args.name.now)
+    (ap (λ (a : Archive). archive_with_list a c.args.name.now) (archive_stays held.1)) (c.write_list.ensures.crash first.now held.0))
+    (c.rollback-undone.ensures.lasts.disk_was_clean clean) x (c.rollback-undone.ensures.ends.crash_adds_nothing clean x may)
 
 pub returns-clause-crash : goal.returns-clause-crash
-returns-clause-crash g c = λ kept clean x may.
+returns-clause-crash g c = λ kept.
     let first = state g.S.Store c.args.conn.now in
-    let clean_1 = c.write_list.ensures.lasts.disk_was_clean clean in
-    let held = c.in_ok-begin.ensures.held clean_1 kept in
-    let is = ap (λ (a : Archive). archive_with_list a c.args.name.now) (archive_stays held.1) in
-    elim (adds_as g.S.Store c.begin.new.conn c.write_list.new.conn _ (archive_with_list (archive_of first) c.args.name.now) is (c.write_list.ensures.crash first.now held.0)
-    clean x may) [
-      | inl before ↦ inl (c.begin.ensures.ends.crash_adds_nothing clean_1 x before)
-      | inr stored ↦ inr stored
-    ]
+    adds_then g.S.Store c.args.conn.now c.begin.new.conn c.write_list.new.conn _ c.begin.ensures.ends.crash_adds_nothing c.write_list.ensures.lasts.disk_was_clean (λ clean.
+    let held = c.in_ok-begin.ensures.held clean kept in
+    adds_as g.S.Store c.begin.new.conn c.write_list.new.conn _ (archive_with_list (archive_of first) c.args.name.now)
+    (ap (λ (a : Archive). archive_with_list a c.args.name.now) (archive_stays held.1)) (c.write_list.ensures.crash first.now held.0))

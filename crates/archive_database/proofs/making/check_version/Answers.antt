@@ -8,9 +8,9 @@ use Rattle.sqlite.specs.Values.{IsInt}
 use Rattle.sqlite.specs.Held.{state}
 use Rattle.archive_tables.specs.Rows.{version_result_rows}
 use Rattle.archive_tables.specs.Tables.{HasVersionRow}
-use Rattle.archive_tables.proofs.LastLemmas.{lasts_same}
+use Rattle.archive_database.proofs.CauseLemmas.{fails_by}
 use Rattle.archive_database.proofs.MakingLemmas.{shows_version, version_shown}
-use Rattle.archive_database.proofs.StepsLemmas.{blames, unread}
+use Rattle.archive_database.proofs.StepsLemmas.{unread}
 use Rattle.archive_database.proofs.making.check_version.Goals as goal
 
 pub returns-clause-version : goal.returns-clause-version
@@ -33,9 +33,8 @@ returns-in_err-rows-clause-ends g c =
     record {
       remains_open = c.versions.ensures.asks.ends_call.remains_open;
       was_open = λ clean. search rules;
-      fault_has_cause = λ clean it free. blames old old new new c.from_residual.result c.in_err-rows.field-0.0 _ (¬ HasVersionRow (pos c.args.number) old.now.trees)
-          c.from_residual.ensures.1 (lasts_same old) (lasts_same new)
-          (λ no. absurd no) (inl (c.in_err-rows.ensures.caused clean c.args.number it.0 it.1 free));
+      fault_has_cause = λ clean it free. fails_by old new c.from_residual.result c.in_err-rows.field-0.0 (¬ HasVersionRow (pos c.args.number) old.now.trees)
+          c.from_residual.ensures.1 (inl (c.in_err-rows.ensures.caused clean c.args.number it.0 it.1 free));
     }
 
 pub returns-in_default-clause-ends : goal.returns-in_default-clause-ends

@@ -1,102 +1,40 @@
 use Rattle.std.proofs.Common.{[], ◌∷◌}
-use Rattle.archive_tables.specs.Making.{IsCreatingTables}
-use Rattle.archive_tables.specs.Statements.{create_version_statement, create_list_statement, create_person_statement}
-use Rattle.archive_database.proofs.StepsLemmas.{one_ends, fails_first, fails_then, done_then}
-use Rattle.sqlite.specs.Held.{state}
-use Rattle.archive_database.proofs.MakingLemmas.{stopped_by, on_err}
-use Rattle.archive_tables.specs.Schema.{empty_schema, schema_with_version_table, schema_with_lists}
-use Rattle.archive_tables.proofs.CrashLemmas.{making_within}
+use Rattle.archive_tables.specs.Schema.{schema_with_version_table, schema_with_lists, schema_with_persons}
+use Rattle.archive_tables.specs.Statements.{create_list_statement, create_person_statement}
+use Rattle.archive_database.proofs.StepsLemmas.{Creating, creates, then_leads, done, fails}
 use Rattle.archive_database.proofs.making.make_first.Goals as goal
 
-pub returns-clause-made : goal.returns-clause-made
-returns-clause-made g c = λ clean before making.
-    let clean_2 = c.in_ok-create_person_table.ensures.ends.remains_open.disk_was_clean clean in
-    let clean_1 = c.in_ok-create_list_table.ensures.ends.remains_open.disk_was_clean clean_2 in
-    c.in_ok-create_person_table.ensures.made clean before (c.in_ok-create_list_table.ensures.made clean_2 before (c.in_ok-create_version_table.ensures.made clean_1 before making))
+pub returns-in_err-create_version_table : goal.returns-in_err-create_version_table
+returns-in_err-create_version_table g c =
+    let version = c.in_err-create_version_table.ensures in
+    let all = fails (Creating schema_with_persons) (creates schema_with_version_table version.ends version.made version.quiet) (create_list_statement ∷ create_person_statement ∷ [])
+    c.from_residual.result c.from_residual.ensures.1 in
+    record { made = all.made; stopped = all.stopped; quiet = all.quiet; ends = all.ends }
 
-pub returns-in_err-create_list_table-clause-stopped : goal.returns-in_err-create_list_table-clause-stopped
-returns-in_err-create_list_table-clause-stopped g c = λ clean before making.
-    let made = c.in_ok-create_version_table.ensures.made (c.in_err-create_list_table.ensures.ends.remains_open.disk_was_clean clean) before making in
-    on_err c.from_residual-in_err-create_list_table.result _
-    (stopped_by (state g.S.Store c.create_version_table.new.conn) (state g.S.Store c.create_list_table.new.conn) before made.committed_is_before made.is_in_transaction
-    (c.in_err-create_list_table.ensures.ends.failure_keeps_or_rolls_back clean))
+pub returns-in_err-create_list_table : goal.returns-in_err-create_list_table
+returns-in_err-create_list_table g c =
+    let version = c.in_ok-create_version_table.ensures in
+    let list = c.in_err-create_list_table.ensures in
+    let exit = c.from_residual-in_err-create_list_table in
+    let all = then_leads (creates schema_with_version_table version.ends version.made version.quiet)
+    (fails (Creating schema_with_persons) (creates schema_with_lists list.ends list.made list.quiet) (create_person_statement ∷ []) exit.result exit.ensures.1) in
+    record { made = all.made; stopped = all.stopped; quiet = all.quiet; ends = all.ends }
 
-pub returns-in_err-create_person_table-clause-stopped : goal.returns-in_err-create_person_table-clause-stopped
-returns-in_err-create_person_table-clause-stopped g c = λ clean before making.
-    let clean_2 = c.in_err-create_person_table.ensures.ends.remains_open.disk_was_clean clean in
-    let clean_1 = c.in_ok-create_list_table.ensures.ends.remains_open.disk_was_clean clean_2 in
-    let made = c.in_ok-create_list_table.ensures.made clean_2 before (c.in_ok-create_version_table.ensures.made clean_1 before making) in
-    on_err c.from_residual-in_err-create_person_table.result _
-    (stopped_by (state g.S.Store c.create_list_table.new.conn) (state g.S.Store c.create_person_table.new.conn) before made.committed_is_before made.is_in_transaction
-    (c.in_err-create_person_table.ensures.ends.failure_keeps_or_rolls_back clean))
+pub returns-in_err-create_person_table : goal.returns-in_err-create_person_table
+returns-in_err-create_person_table g c =
+    let version = c.in_ok-create_version_table.ensures in
+    let list = c.in_ok-create_list_table.ensures in
+    let person = c.in_err-create_person_table.ensures in
+    let exit = c.from_residual-in_err-create_person_table in
+    let all = then_leads (creates schema_with_version_table version.ends version.made version.quiet) (then_leads (creates schema_with_lists list.ends list.made list.quiet)
+    (fails (Creating schema_with_persons) (creates schema_with_persons person.ends person.made person.quiet) [] exit.result exit.ensures.1)) in
+    record { made = all.made; stopped = all.stopped; quiet = all.quiet; ends = all.ends }
 
--- ---- what a stop of the machine leaves
-
-pub returns-in_err-create_version_table-clause-quiet : goal.returns-in_err-create_version_table-clause-quiet
-returns-in_err-create_version_table-clause-quiet g c = λ before making clean db may.
-    c.create_version_table.ensures.quiet before (making_within (state g.S.Store c.args.conn.now) before empty_schema making) clean db may
-
-pub returns-in_err-create_list_table-clause-quiet : goal.returns-in_err-create_list_table-clause-quiet
-returns-in_err-create_list_table-clause-quiet g c = λ before making clean db may.
-    let clean_1 = c.create_list_table.ensures.ends.remains_open.disk_was_clean clean in
-    let made_1 = c.in_ok-create_version_table.ensures.made clean_1 before making in
-    c.create_version_table.ensures.quiet before (making_within (state g.S.Store c.args.conn.now) before empty_schema making) clean_1 db
-    (c.create_list_table.ensures.quiet before (making_within (state g.S.Store c.create_version_table.new.conn) before schema_with_version_table made_1) clean db may)
-
-pub returns-in_err-create_person_table-clause-quiet : goal.returns-in_err-create_person_table-clause-quiet
-returns-in_err-create_person_table-clause-quiet g c = λ before making clean db may.
-    let clean_2 = c.create_person_table.ensures.ends.remains_open.disk_was_clean clean in
-    let clean_1 = c.create_list_table.ensures.ends.remains_open.disk_was_clean clean_2 in
-    let made_1 = c.in_ok-create_version_table.ensures.made clean_1 before making in
-    let made_2 = c.in_ok-create_list_table.ensures.made clean_2 before made_1 in
-    c.create_version_table.ensures.quiet before (making_within (state g.S.Store c.args.conn.now) before empty_schema making) clean_1 db
-    (c.create_list_table.ensures.quiet before (making_within (state g.S.Store c.create_version_table.new.conn) before schema_with_version_table made_1) clean_2 db
-    (c.create_person_table.ensures.quiet before (making_within (state g.S.Store c.create_list_table.new.conn) before schema_with_lists made_2) clean db may))
-
-pub returns-clause-quiet : goal.returns-clause-quiet
-returns-clause-quiet g c = λ before making clean db may.
-    let clean_2 = c.create_person_table.ensures.ends.remains_open.disk_was_clean clean in
-    let clean_1 = c.create_list_table.ensures.ends.remains_open.disk_was_clean clean_2 in
-    let made_1 = c.in_ok-create_version_table.ensures.made clean_1 before making in
-    let made_2 = c.in_ok-create_list_table.ensures.made clean_2 before made_1 in
-    c.create_version_table.ensures.quiet before (making_within (state g.S.Store c.args.conn.now) before empty_schema making) clean_1 db
-    (c.create_list_table.ensures.quiet before (making_within (state g.S.Store c.create_version_table.new.conn) before schema_with_version_table made_1) clean_2 db
-    (c.create_person_table.ensures.quiet before (making_within (state g.S.Store c.create_list_table.new.conn) before schema_with_lists made_2) clean db may))
-
--- ---- how it ends
-
-pub returns-in_err-create_version_table-clause-ends : goal.returns-in_err-create_version_table-clause-ends
-returns-in_err-create_version_table-clause-ends g c =
-    fails_first c.from_residual.result c.in_err-create_version_table.field-0.0 c.from_residual.ensures.1 (λ s before. IsCreatingTables s empty_schema before) (create_version_statement ∷ [])
-    (create_list_statement ∷ create_person_statement ∷ []) (one_ends (λ s before. IsCreatingTables s empty_schema before)
-    (λ before k. (k.is_open, k.schema_is)) c.in_err-create_version_table.ensures.ends)
-
-pub returns-in_err-create_list_table-clause-ends : goal.returns-in_err-create_list_table-clause-ends
-returns-in_err-create_list_table-clause-ends g c =
-    fails_then (λ s before. IsCreatingTables s empty_schema before) (λ s before. IsCreatingTables s schema_with_version_table before) (create_version_statement ∷ []) (create_list_statement ∷ [])
-    (one_ends (λ s before. IsCreatingTables s empty_schema before) (λ before k. (k.is_open, k.schema_is)) c.in_ok-create_version_table.ensures.ends) c.in_ok-create_version_table.ensures.made
-    c.from_residual-in_err-create_list_table.result c.in_err-create_list_table.field-0.0 c.from_residual-in_err-create_list_table.ensures.1 (create_person_statement ∷ [])
-    (one_ends (λ s before. IsCreatingTables s schema_with_version_table before) (λ before k. (k.is_open, k.schema_is)) c.in_err-create_list_table.ensures.ends)
-
-pub returns-in_err-create_person_table-clause-ends : goal.returns-in_err-create_person_table-clause-ends
-returns-in_err-create_person_table-clause-ends g c =
-    fails_then (λ s before. IsCreatingTables s empty_schema before) (λ s before. IsCreatingTables s schema_with_lists before) (create_version_statement ∷ create_list_statement ∷ [])
-    (create_person_statement ∷ [])
-    (done_then (λ s before. IsCreatingTables s empty_schema before) (λ s before. IsCreatingTables s schema_with_version_table before) (create_version_statement ∷ []) (create_list_statement ∷ [])
-    (one_ends (λ s before. IsCreatingTables s empty_schema before) (λ before k. (k.is_open, k.schema_is)) c.in_ok-create_version_table.ensures.ends) c.in_ok-create_version_table.ensures.made _
-    (tt {0}) (one_ends (λ s before. IsCreatingTables s schema_with_version_table before) (λ before k. (k.is_open, k.schema_is)) c.in_ok-create_list_table.ensures.ends))
-    (λ clean before k. c.in_ok-create_list_table.ensures.made clean before
-    (c.in_ok-create_version_table.ensures.made (c.in_ok-create_list_table.ensures.ends.remains_open.disk_was_clean clean) before k))
-    c.from_residual-in_err-create_person_table.result c.in_err-create_person_table.field-0.0 c.from_residual-in_err-create_person_table.ensures.1 []
-    (one_ends (λ s before. IsCreatingTables s schema_with_lists before) (λ before k. (k.is_open, k.schema_is)) c.in_err-create_person_table.ensures.ends)
-
-pub returns-clause-ends : goal.returns-clause-ends
-returns-clause-ends g c =
-    done_then (λ s before. IsCreatingTables s empty_schema before) (λ s before. IsCreatingTables s schema_with_lists before) (create_version_statement ∷ create_list_statement ∷ [])
-    (create_person_statement ∷ [])
-    (done_then (λ s before. IsCreatingTables s empty_schema before) (λ s before. IsCreatingTables s schema_with_version_table before) (create_version_statement ∷ []) (create_list_statement ∷ [])
-    (one_ends (λ s before. IsCreatingTables s empty_schema before) (λ before k. (k.is_open, k.schema_is)) c.in_ok-create_version_table.ensures.ends) c.in_ok-create_version_table.ensures.made _
-    (tt {0}) (one_ends (λ s before. IsCreatingTables s schema_with_version_table before) (λ before k. (k.is_open, k.schema_is)) c.in_ok-create_list_table.ensures.ends))
-    (λ clean before k. c.in_ok-create_list_table.ensures.made clean before
-    (c.in_ok-create_version_table.ensures.made (c.in_ok-create_list_table.ensures.ends.remains_open.disk_was_clean clean) before k)) _ _
-    (one_ends (λ s before. IsCreatingTables s schema_with_lists before) (λ before k. (k.is_open, k.schema_is)) c.in_ok-create_person_table.ensures.ends)
+pub returns : goal.returns
+returns g c =
+    let version = c.in_ok-create_version_table.ensures in
+    let list = c.in_ok-create_list_table.ensures in
+    let person = c.in_ok-create_person_table.ensures in
+    let all = then_leads (creates schema_with_version_table version.ends version.made version.quiet) (then_leads (creates schema_with_lists list.ends list.made list.quiet)
+    (done (creates schema_with_persons person.ends person.made person.quiet))) in
+    record { made = all.made; stopped = all.stopped; quiet = all.quiet; ends = all.ends }

@@ -1,9 +1,8 @@
-use Rattle.std.proofs.Common.{◌≡◌, inl, inr, subst, ◌∙◌, rules}
+use Rattle.std.proofs.Common.{inl, rules}
 use Rattle.sqlite.specs.Held.{state}
-use Rattle.archive_tables.specs.Statements.{IsAnyStatementRefused, migration_statements}
-use Rattle.archive_tables.proofs.LastLemmas.{lasts_then, lasts_same}
+use Rattle.archive_tables.proofs.LastLemmas.{lasts_same}
 use Rattle.archive_database.specs.Adopting.{IsAdoptionRefused}
-use Rattle.archive_database.proofs.MakingLemmas.{told_version, told_none, idle_form, idle_again, is_older}
+use Rattle.archive_database.proofs.MakingLemmas.{told_version, told_none, idle_form}
 use Rattle.archive_database.proofs.StepsLemmas.{passes}
 use Rattle.archive_database.proofs.making.migrate_tables.Goals as goal
 
@@ -25,6 +24,6 @@ returns-in_err-check_version-clause-ends g c =
       was_open = λ clean. search rules;
       fault_has_cause = λ clean it free.
           let told = told_version old.now.schema it.1 c.version_of_objects.result c.version_of_objects.ensures.own c.in-Some.number (search rules) in
-          passes old old new new c.from_residual.result c.in_err-check_version.field-0.0 _ (IsAdoptionRefused old.now) (search rules) (lasts_same old) (lasts_same new)
+          passes old new c.from_residual.result c.in_err-check_version.field-0.0 _ (IsAdoptionRefused old.now) (search rules)
           (λ no. inl (c.in-Some.number, told.0, told.1, no)) (c.in_err-check_version.ensures.ends.fault_has_cause clean (told.0, idle_form c.in-Some.number old it.0 told.1) free);
     }

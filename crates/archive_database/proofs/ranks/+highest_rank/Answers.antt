@@ -5,7 +5,8 @@ use Rattle.archive_model.specs.Records.{Grant}
 use Rattle.archive_tables.specs.Rows.{grant_result_row, out_of_memory_error}
 use Rattle.archive_tables.proofs.CauseLemmas.{carried}
 use Rattle.archive_database.specs.Ranks.{highest_rank_on, highest_rank_with_grant}
-use Rattle.archive_database.proofs.RankLemmas.{one_more, first_and_rest, if_ok, fault_first, fault_later, if_err}
+use Rattle.archive_database.proofs.CauseLemmas.{each_error}
+use Rattle.archive_database.proofs.RankLemmas.{one_more, first_and_rest, if_ok, shown_as}
 use Rattle.archive_database.proofs.ranks.+highest_rank.Goals as goal
 
 pub returns-in_ok-above-in-len1-up-clause-found : goal.returns-in_ok-above-in-len1-up-clause-found
@@ -28,9 +29,10 @@ pub returns-in_ok-above-in-len1-up-clause-fault : goal.returns-in_ok-above-in-le
 returns-in_ok-above-in-len1-up-clause-fault t c =
     let rows = c.args.grants.now in
     let row = c.first-item.result in
-    if_err c.rank_with.result (λ e. (g : Grant) → row ≡ grant_result_row g → e ≡ out_of_memory_error)
+    each_error c.rank_with.result (λ e. (g : Grant) → row ≡ grant_result_row g → e ≡ out_of_memory_error)
     (λ e. (shown : List Grant) → rows ≡ map grant_result_row shown → e ≡ out_of_memory_error)
-    (λ e first. fault_first rows row (take (length rows - 1) (drop 1 rows)) (first_and_rest rows row c.in-len1-up.len_at_least c.first-item.is) first)
+    (λ e first. shown_as (λ shown. e ≡ out_of_memory_error) rows row (take (length rows - 1) (drop 1 rows)) (first_and_rest rows row c.in-len1-up.len_at_least c.first-item.is)
+    (λ g gs here there. first g here))
     c.rank_with.ensures.fault
 
 pub returns-in_err-above-in-len1-up-clause-fault : goal.returns-in_err-above-in-len1-up-clause-fault
@@ -38,4 +40,5 @@ returns-in_err-above-in-len1-up-clause-fault t c =
     let rows = c.args.grants.now in
     let row = c.first-item.result in
     carried c.from_residual.result c.in_err-above-in-len1-up.field-0.0 (λ e. (shown : List Grant) → rows ≡ map grant_result_row shown → e ≡ out_of_memory_error) c.from_residual.ensures.1
-    (fault_later rows row (take (length rows - 1) (drop 1 rows)) (first_and_rest rows row c.in-len1-up.len_at_least c.first-item.is) c.in_err-above-in-len1-up.ensures.fault)
+    (shown_as (λ shown. c.in_err-above-in-len1-up.field-0.0 ≡ out_of_memory_error) rows row (take (length rows - 1) (drop 1 rows))
+    (first_and_rest rows row c.in-len1-up.len_at_least c.first-item.is) (λ g gs here there. c.in_err-above-in-len1-up.ensures.fault gs there))

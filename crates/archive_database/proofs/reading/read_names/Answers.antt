@@ -1,23 +1,23 @@
 use Rattle.std.proofs.Common.{[], ◌∷◌, map, ap, ◌∙◌, arith}
-use Rattle.std.specs.Prelude.{⊤, string_bytes, IsUtf8}
+use Rattle.std.specs.Prelude.{string_bytes, IsUtf8}
 use Rattle.std.proofs.lemmas.List.{map-append}
 use Rattle.archive_tables.specs.Rows.{name_result_row}
-use Rattle.archive_database.proofs.ReadingLemmas.{read_none, read_row, read_every, each_is, shown_at, unread_by, no_good_text}
+use Rattle.archive_database.proofs.ReadingLemmas.{read_none, read_row, read_every, shown_at, unread_by, no_good_text}
 use Rattle.archive_database.proofs.reading.read_names.Goals as goal
 
 pub loop-row-preserved : goal.loop-row-preserved
 loop-row-preserved c = λ names e.
-    read_row name_result_row (λ _. ⊤) (map string_bytes c.loop-row.found.items) _ c.args.rows.now c.loop-row.row-index c.row-item.result names
+    read_row name_result_row (map string_bytes c.loop-row.found.items) _ c.args.rows.now c.loop-row.row-index c.row-item.result names
     (string_bytes c.in_ok-name.name) (c.loop-row.invariant names e) (omega (arith, c.loop-row-test.true))
-    (λ n here _. c.in_ok-name.ensures.read n (c.row-item.is ∙ here))
+    (λ n here. c.in_ok-name.ensures.read n (c.row-item.is ∙ here))
     (ap (map string_bytes) c.in_ok-push.ensures.items ∙ map-append string_bytes c.loop-row.found.items (c.in_ok-name.name ∷ []))
 
 pub returns-clause-read : goal.returns-clause-read
 returns-clause-read c = λ names e.
-    read_every name_result_row (λ _. ⊤) _ c.args.rows.now c.loop-row.row-index names (c.loop-row.invariant names e) c.loop-row-test.false
+    read_every name_result_row _ c.args.rows.now c.loop-row.row-index names (c.loop-row.invariant names e) c.loop-row-test.false
 
 pub loop-row-init : goal.loop-row-init
-loop-row-init c = λ names e. rw c.in_ok-found.ensures.items (read_none name_result_row (λ _. ⊤) c.args.rows.now names e (each_is names))
+loop-row-init c = λ names e. rw c.in_ok-found.ensures.items (read_none name_result_row c.args.rows.now names e)
 
 pub returns-in_err-name-clause-unread : goal.returns-in_err-name-clause-unread
 returns-in_err-name-clause-unread c =
