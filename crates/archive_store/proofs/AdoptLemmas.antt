@@ -1,4 +1,4 @@
--- Why a connection was not taken over.
+-- Why a connection was not taken over, and memory, which never fails as a disk does.
 use Rattle.std.proofs.Common.{◌≡◌, ◌⊎◌, inl, inr, ℕ, zero, suc, Result, Err, None, refl, sym, ap, subst, ◌∙◌, arith}
 use Rattle.sqlite_trees.specs.declared.memory.MemStore.{MemStore}
 use Rattle.sqlite_disk.specs.Disk.{MoreFaults}
@@ -20,6 +20,9 @@ use Rattle.archive_port.specs.declared.faults.StoreFault.TheVariants as faults
 use Rattle.archive_database.specs.Faults.{FailsByDiskOr}
 use Rattle.archive_database.specs.declared.faults.DatabaseError.{DatabaseError}
 use Rattle.archive_database.specs.declared.faults.DatabaseError.TheVariants as inner
+use Rattle.archive_store.specs.Held.{store_connection}
+use Rattle.archive_store.specs.Told.{IsOpen, StaysOpenUnlessDiskFails}
+use Rattle.archive_store.specs.declared.store.Store.{Store}
 
 pub refused_by : {A : Type 0} (old new : State) (done : Result A DatabaseError) (fault : DatabaseError) (Refused : Type 0) → done ≡ Err fault → FailsByDiskOr old new done Refused
     → fault ≡ inner.Database
@@ -34,6 +37,12 @@ has_version some (inr it) = it
 
 never_more : MoreFaults 0 0 → ⊥
 never_more more = absurd (omega (arith, more))
+
+pub memory_stays_open : (old new : Store MemStore) → StaysOpenUnlessDiskFails over_memory old new → IsOpen over_memory old → IsOpen over_memory new
+memory_stays_open old new lasts up = elim (lasts.closes_only_by_fault.stays_open (memory_is_clean (store_connection new)) up) [
+  | inl still ↦ still
+  | inr more ↦ absurd (never_more more)
+]
 
 is_some : (number : ℕ) → IsKnownVersion number → schema_of_version number ≡ empty_schema → ⊥
 is_some zero known is = absurd (omega (arith, known.at_least_one))

@@ -1,15 +1,14 @@
 -- Messages added to one list, many in one transaction.
-use Rattle.std.proofs.Common.{◌≡◌, inl, inr, ℕ, ◌+◌, ◌<◌, ◌≤◌, Bool, true, false, List, [], ◌∷◌, ◌++◌, length, get_or, take, map}
-use Rattle.std.proofs.Common.{filter, refl, ap, sym, subst, ◌∙◌, arith, Option, Some, None, Result, Ok, Err}
-use Rattle.std.specs.Prelude.{IsTrue, IsErrAnd, nat_le, not, bytes_eq, MatchOption, if◌then◌else◌}
+use Rattle.std.proofs.Common.{◌≡◌, inl, inr, ℕ, ◌+◌, ◌<◌, ◌≤◌, Bool, true, false, List, [], ◌∷◌, ◌++◌, length, get_or, take, map, filter, refl, ap, sym, subst, ◌∙◌, arith, Option, Some, None, Result}
+use Rattle.std.proofs.Common.{Ok}
+use Rattle.std.specs.Prelude.{MatchResult, nat_le, not, bytes_eq, MatchOption, if◌then◌else◌}
 use Rattle.std.specs.List.{list_any}
-use Rattle.std.proofs.lemmas.Bool.{cases_Bool}
 use Rattle.std.proofs.lemmas.Bool.Decides.{nat_tests}
-use Rattle.std.proofs.lemmas.List.{map_more}
-use Rattle.std.proofs.lemmas.List.Sums.{sum_by_more}
+use Rattle.std.proofs.lemmas.List.{append-nil, length-append, map_more}
+use Rattle.std.proofs.lemmas.List.Elements.{filter-append}
 use Rattle.std.proofs.lemmas.Slice.Eq.{bytes_eq-Decides}
 use Rattle.sqlite.specs.Effect.{Database}
-use Rattle.sqlite.specs.State.{State}
+use Rattle.sqlite.specs.State.{State, HasCleanDisk}
 use Rattle.mbox_items.specs.Division.{Item}
 use Rattle.archive_model.specs.Records.{Archive, Message}
 use Rattle.archive_model.specs.Commands.{add, CommandReply, Refusal, refused, no_list, too_large, already_known, list_full, taken_in}
@@ -21,12 +20,15 @@ use Rattle.archive_tables.specs.Tables.{IsOpenArchive, IsArchiveAtRest, archive_
 use Rattle.archive_tables.specs.Calls.{ChangesArchive, FaultKeepsRows, FaultKeepsRowsOrRollsBack, LeavesRowsUnchanged, IsOpenArchiveOrRolledBack}
 use Rattle.archive_tables.proofs.EndLemmas.{archive_stays}
 use Rattle.archive_store.specs.Batches.{ListHasMessageCount, AddsMessageToState, HoldsAddedItems, HoldsAddedItemsIfOpen}
-use Rattle.archive_port.specs.Adding.{IsListFullAt, IsRefusedAt, total_text_bytes, tally_of_report}
-use Rattle.archive_port.specs.Replies.{refusal_of_fault, reply_if_added}
-use Rattle.archive_store.specs.Replies.{MatchesModelStep}
+use Rattle.archive_port.specs.Adding.{IsListFullAt, IsRefusedAt, tally_of_report}
 use Rattle.archive_port.specs.declared.reports.AddReport.{AddReport}
-use Rattle.archive_port.specs.declared.faults.StoreFault.{StoreFault}
-use Rattle.archive_port.specs.declared.words.Added.{Added}
+use Rattle.sqlite.specs.declared.error.Error.{Error}
+use Rattle.sqlite.specs.Store.{Ghosts}
+use Rattle.sqlite.specs.Held.{Held, state}
+use Rattle.archive_tables.specs.Crashes.{CrashAddsNothing, CrashAddsOnly, CrashAddsOnlyCommit, IsArchiveStored}
+use Rattle.archive_tables.proofs.CrashLemmas.{commit_over}
+use Rattle.archive_database.specs.Taking.{CrashLeavesWholeMessage}
+use Rattle.archive_store.specs.Crashes.{IsWholeBatch}
 use Rattle.archive_store.proofs.StepEquations.{add_known, add_full, add_new}
 use Rattle.archive_store.proofs.RunLemmas.{run_archive, run_replies, run_nothing}
 
@@ -42,48 +44,30 @@ has_room : (n : ℕ) → n < 50000 → false ≡ nat_le message_limit n
 has_room n h = grind (arith, nat_tests, h)
 
 counted_more : {X : Type 0} (p : X → Bool) (xs : List X) (x : X) → p x ≡ true → length (filter p (xs ++ x ∷ [])) ≡ length (filter p xs) + 1
-counted_more p [] x h = rw h refl
-counted_more p (y ∷ ys) x h = elim (cases_Bool (p y)) [
-  | inl kept ↦ rw kept (omega (arith, counted_more p ys x h))
-  | inr dropped ↦ rw dropped (counted_more p ys x h)
-]
+counted_more p xs x h = rw (filter-append p xs (x ∷ []), h) (length-append (filter p xs) (x ∷ []))
 
 counted_same : {X : Type 0} (p : X → Bool) (xs : List X) (x : X) → p x ≡ false → length (filter p (xs ++ x ∷ [])) ≡ length (filter p xs)
-counted_same p [] x h = rw h refl
-counted_same p (y ∷ ys) x h = elim (cases_Bool (p y)) [
-  | inl kept ↦ rw kept (omega (arith, counted_same p ys x h))
-  | inr dropped ↦ rw dropped (counted_same p ys x h)
-]
+counted_same p xs x h = rw (filter-append p xs (x ∷ []), h) (ap length (append-nil (filter p xs)))
 
 same_word : (a : List ℕ) → bytes_eq a a ≡ true
 same_word a = (bytes_eq-Decides a a).1 refl
 
 module _ (behind : Option Database) (old new : State) (list : List ℕ) (item : Item) (count : ℕ) (n : ListHasMessageCount (archive_of old) list count) where
-  pub large_over : true ≡ is_too_large item → LeavesRowsUnchanged behind old new → AddsMessageToState behind old new list item count (refused too_large)
-  large_over large stays = (
-    stays.0,
-    ap (λ a. (a, refused too_large)) (archive_stays stays.1) ∙ rw (n.list_exists, sym large) refl,
-    subst (λ a. ListHasMessageCount a list count) (sym (archive_stays stays.1)) n,
-  )
+  -- one that changes nothing
+  told_over : (reply : CommandReply) → add_within_limit message_limit (archive_of old) list item ≡ (archive_of old, reply) → LeavesRowsUnchanged behind old new
+      → AddsMessageToState behind old new list item count reply
+  told_over reply is stays = (stays.0, ap (λ a. (a, reply)) (archive_stays stays.1) ∙ sym is, subst (λ a. ListHasMessageCount a list count) (sym (archive_stays stays.1)) n)
 
   module _ (k : List ℕ) (small : false ≡ is_too_large item) where
     pub known_over : k ≡ item_key item → true ≡ list_any (is_message_at_key list k) (archive_of old).messages → LeavesRowsUnchanged behind old new
         → AddsMessageToState behind old new list item count already_known
-    known_over e known stays = (
-      stays.0,
-      ap (λ a. (a, already_known)) (archive_stays stays.1) ∙ sym (add_known message_limit list k item e small (archive_of old) ((tt, sym n.list_exists), known)),
-      subst (λ a. ListHasMessageCount a list count) (sym (archive_stays stays.1)) n,
-    )
+    known_over e known stays = told_over already_known (add_known message_limit list k item e small (archive_of old) ((tt, sym n.list_exists), known)) stays
 
     pub full_over : k ≡ item_key item → false ≡ list_any (is_message_at_key list k) (archive_of old).messages → 50000 ≤ count → LeavesRowsUnchanged behind old new
         → AddsMessageToState behind old new list item count (refused list_full)
-    full_over e none full stays = (
-      stays.0,
-      ap (λ a. (a, refused list_full)) (archive_stays stays.1)
-          ∙ sym (add_full message_limit list k item e small (archive_of old)
-          (((tt, sym n.list_exists), none), subst (λ m. true ≡ nat_le message_limit m) (sym n.message_count_is) (is_full count full))),
-      subst (λ a. ListHasMessageCount a list count) (sym (archive_stays stays.1)) n,
-    )
+    full_over e none full stays =
+        told_over (refused list_full) (add_full message_limit list k item e small (archive_of old)
+        (((tt, sym n.list_exists), none), subst (λ m. true ≡ nat_le message_limit m) (sym n.message_count_is) (is_full count full))) stays
 
     pub new_is : (key : List ℕ) → k ≡ key → key ≡ item_key item → false ≡ list_any (is_message_at_key list k) (archive_of old).messages → count < 50000
         → add_within_limit message_limit (archive_of old) list item ≡ (with_message_under_key (archive_of old) list key item, taken_in)
@@ -107,27 +91,9 @@ module _ (behind : Option Database) (old new : State) (list : List ℕ) (item : 
         )
 
 -- the same outside a transaction, of the tables before a question on them
-module _ (old mid new : State) (list : List ℕ) (same : mid.now ≡ old.now) where
-  pub counted_at : (count : ℕ) → true ≡ has_list (archive_of old) list → length (messages_in (archive_of old) list) ≡ count → ListHasMessageCount (archive_of mid) list count
-  counted_at count there n = subst (λ a. ListHasMessageCount a list count) (sym (archive_stays same)) (record { list_exists = sym there; message_count_is = n })
-
-  pub steps_counted : (item : Item) (after : ℕ) (reply : CommandReply) → AddsMessageToState None mid new list item after reply
-      → (IsArchiveAtRest new × ((archive_of new, reply) ≡ add_within_limit message_limit (archive_of old) list item)) × (IsTrue new.is_open → length (messages_in (archive_of new) list) ≡ after)
-  steps_counted item after reply it = ((it.0, it.1 ∙ ap (λ a. add_within_limit message_limit a list item) (archive_stays same)), λ up. it.2.message_count_is)
-
-  pub rests_counted : (before after : ℕ) → after ≡ before → length (messages_in (archive_of old) list) ≡ before → FaultKeepsRows mid new
-      → FaultKeepsRows old new × (IsTrue new.is_open → length (messages_in (archive_of new) list) ≡ after)
-  rests_counted before after is n rests = (
-    λ up. ((rests up).0, (rests up).1 ∙ same),
-    λ up. subst (λ a. length (messages_in a list) ≡ after) (sym (archive_stays ((rests up).1 ∙ same))) (n ∙ sym is),
-  )
-
--- a fault is no answer
-pub fails_to_add : (old new : State) (step : Archive → StepOutcome) (r : Result Added StoreFault) (Q : StoreFault → Type 0) → IsErrAnd r Q
-    → ((fault : StoreFault) → Q fault → refusal_of_fault fault ≡ None)
-    → FaultKeepsRows old new → MatchesModelStep old new step (reply_if_added r)
-fails_to_add old new step (Ok added) Q none why rests = absurd none
-fails_to_add old new step (Err fault) Q it why rests = rw (why fault it) rests
+pub counted_at : (old mid : State) (list : List ℕ) → mid.now ≡ old.now → (count : ℕ) → true ≡ has_list (archive_of old) list → length (messages_in (archive_of old) list) ≡ count
+    → ListHasMessageCount (archive_of mid) list count
+counted_at old mid list same count there n = subst (λ a. ListHasMessageCount a list count) (sym (archive_stays same)) (record { list_exists = sym there; message_count_is = n })
 
 pub none_of : (old mid : State) (list k key : List ℕ) → k ≡ key → false ≡ list_any (is_message_at_key list k) (archive_of old).messages → mid.now ≡ old.now
     → list_any (is_message_at_key list key) (archive_of mid).messages ≡ false
@@ -135,45 +101,42 @@ none_of old mid list k key e none same =
     subst (λ (a : Archive). list_any (is_message_at_key list key) a.messages ≡ false) (sym (archive_stays same))
     (subst (λ w. list_any (is_message_at_key list w) (archive_of old).messages ≡ false) e (sym none))
 
+-- what a stop leaves of one that is new
+pub new_crash : {S : Type 0} (g : Ghosts S) (old mid new : Held S) (behind : Option Database) (list : List ℕ) (item : Item) (count : ℕ) → ListHasMessageCount (archive_of (state g old)) list count
+    → (k key : List ℕ) → false ≡ is_too_large item → k ≡ key → key ≡ item_key item → false ≡ list_any (is_message_at_key list k) (archive_of (state g old)).messages → count < 50000
+    → LeavesRowsUnchanged behind (state g old) (state g mid) → CrashAddsNothing g old mid → (HasCleanDisk (state g new) → HasCleanDisk (state g mid))
+    → CrashLeavesWholeMessage g mid new list key item
+    → CrashAddsOnly g old new (λ db. (behind ≡ None) × IsArchiveStored (add_within_limit message_limit (archive_of (state g old)) list item).0 db)
+new_crash g old mid new behind list item count n k key small e ek none room stays quiet was crash clean db may =
+    let is = new_is behind (state g old) (state g new) list item count n k small key e ek none room in
+    let made = ap (λ a. with_message_under_key a list key item) (archive_stays stays.1) ∙ ap (λ (o : StepOutcome). o.0) (sym is) in
+    elim (crash behind stays.0 (none_of (state g old) (state g mid) list k key e none stays.1) clean db may) [
+      | inl earlier ↦ inl (quiet (was clean) db earlier)
+      | inr it ↦ inr (it.0, subst (λ a. IsArchiveStored a db) made it.1)
+    ]
+
 -- ---- messages one after the other
 
 abbrev outcome_by : Archive → Archive → Bool → Bool → Bool → Bool → StepOutcome
 outcome_by a x there large known full =
     if not there then (a, refused no_list) else if large then (a, refused too_large) else if known then (a, already_known) else if full then (a, refused list_full) else (x, taken_in)
 
--- a refusal changes nothing
-refusal_stays : (a x : Archive) (there large known full : Bool) (why : Refusal) → (outcome_by a x there large known full).1 ≡ refused why → (outcome_by a x there large known full).0 ≡ a
-refusal_stays a x false large known full why is = refl
-refusal_stays a x true true known full why is = refl
-refusal_stays a x true false true full why is = refl
-refusal_stays a x true false false true why is = refl
-refusal_stays a x true false false false why is = absurd cc
-
--- only where it holds as many as the limit
-full_is : (a x : Archive) (there large known full : Bool) → (outcome_by a x there large known full).1 ≡ refused list_full → full ≡ true
+-- a full list is told only where it holds as many as the limit, and nothing is changed
+full_is : (a x : Archive) (there large known full : Bool) → (outcome_by a x there large known full).1 ≡ refused list_full → (full ≡ true) × ((outcome_by a x there large known full).0 ≡ a)
 full_is a x false large known full is = absurd cc
 full_is a x true true known full is = absurd cc
 full_is a x true false true full is = absurd cc
-full_is a x true false false true is = refl
+full_is a x true false false true is = (refl, refl)
 full_is a x true false false false is = absurd cc
 
 is_limit : (n : ℕ) → nat_le message_limit n ≡ true → 50000 ≤ n
 is_limit n h = grind (arith, nat_tests, h)
 
-module _ (a : Archive) (list : List ℕ) (item : Item) where
-  the_new : Archive
-  the_new = with_message a list item
-
-  large : Bool
-  large = is_too_large item
-
-  pub holds_50000 : (add_within_limit message_limit a list item).1 ≡ refused list_full → 50000 ≤ length (messages_in a list)
-  unfolding the_new large
-  holds_50000 is = is_limit _ (full_is a the_new (has_list a list) large (has_message a list (item_key item)) (nat_le message_limit (length (messages_in a list))) is)
-
-  pub refused_stays : (add_within_limit message_limit a list item).1 ≡ refused list_full → (add_within_limit message_limit a list item).0 ≡ a
-  unfolding the_new large
-  refused_stays is = refusal_stays a the_new (has_list a list) large (has_message a list (item_key item)) (nat_le message_limit (length (messages_in a list))) list_full is
+pub full_at : (a : Archive) (list : List ℕ) (item : Item) → (add_within_limit message_limit a list item).1 ≡ refused list_full
+    → (50000 ≤ length (messages_in a list)) × ((add_within_limit message_limit a list item).0 ≡ a)
+full_at a list item is =
+    let it = full_is a (with_message a list item) (has_list a list) (is_too_large item) (has_message a list (item_key item)) (nat_le message_limit (length (messages_in a list))) is in
+    (is_limit _ it.0, it.1)
 
 module _ (a : Archive) (list : List ℕ) (items : List Item) (i : ℕ) (item : Item) (within : i < length items) (is : item ≡ get_or items i item) where
   one_more_is : map (add list) (take (i + 1) items) ≡ map (add list) (take i items) ++ add list item ∷ []
@@ -187,27 +150,24 @@ module _ (a : Archive) (list : List ℕ) (items : List Item) (i : ℕ) (item : I
 
 -- ---- the report
 
-same_tally : (n k l n' k' l' : ℕ) → n ≡ n' → k ≡ k' → l ≡ l' → tally_is n k l ≡ tally_is n' k' l'
-same_tally n k l n' k' l' e f g = λ i. tally_is (e i) (f i) (g i)
-
 module _ (r : AddReport) (replies : List CommandReply) (t : tally_of_report r ≡ tally_replies replies) where
   pub told_new : tally_is (r.new + 1) r.known r.too_large ≡ tally_replies (replies ++ taken_in ∷ [])
-  told_new = same_tally _ _ _ _ _ _
-      (ap (λ (x : Tally). x.new + 1) t ∙ sym (counted_more is_added_reply replies taken_in refl))
-      (ap (λ (x : Tally). x.known) t ∙ sym (counted_same is_known_reply replies taken_in refl))
-      (ap (λ (x : Tally). x.too_large) t ∙ sym (counted_same is_too_large_reply replies taken_in refl))
+  told_new = λ i. tally_is
+      ((ap (λ (x : Tally). x.new + 1) t ∙ sym (counted_more is_added_reply replies taken_in refl)) i)
+      ((ap (λ (x : Tally). x.known) t ∙ sym (counted_same is_known_reply replies taken_in refl)) i)
+      ((ap (λ (x : Tally). x.too_large) t ∙ sym (counted_same is_too_large_reply replies taken_in refl)) i)
 
   pub told_known : tally_is r.new (r.known + 1) r.too_large ≡ tally_replies (replies ++ already_known ∷ [])
-  told_known = same_tally _ _ _ _ _ _
-      (ap (λ (x : Tally). x.new) t ∙ sym (counted_same is_added_reply replies already_known refl))
-      (ap (λ (x : Tally). x.known + 1) t ∙ sym (counted_more is_known_reply replies already_known refl))
-      (ap (λ (x : Tally). x.too_large) t ∙ sym (counted_same is_too_large_reply replies already_known refl))
+  told_known = λ i. tally_is
+      ((ap (λ (x : Tally). x.new) t ∙ sym (counted_same is_added_reply replies already_known refl)) i)
+      ((ap (λ (x : Tally). x.known + 1) t ∙ sym (counted_more is_known_reply replies already_known refl)) i)
+      ((ap (λ (x : Tally). x.too_large) t ∙ sym (counted_same is_too_large_reply replies already_known refl)) i)
 
   pub told_too_large : tally_is r.new r.known (r.too_large + 1) ≡ tally_replies (replies ++ refused too_large ∷ [])
-  told_too_large = same_tally _ _ _ _ _ _
-      (ap (λ (x : Tally). x.new) t ∙ sym (counted_same is_added_reply replies (refused too_large) refl))
-      (ap (λ (x : Tally). x.known) t ∙ sym (counted_same is_known_reply replies (refused too_large) refl))
-      (ap (λ (x : Tally). x.too_large + 1) t ∙ sym (counted_more is_too_large_reply replies (refused too_large) refl))
+  told_too_large = λ i. tally_is
+      ((ap (λ (x : Tally). x.new) t ∙ sym (counted_same is_added_reply replies (refused too_large) refl)) i)
+      ((ap (λ (x : Tally). x.known) t ∙ sym (counted_same is_known_reply replies (refused too_large) refl)) i)
+      ((ap (λ (x : Tally). x.too_large + 1) t ∙ sym (counted_more is_too_large_reply replies (refused too_large) refl)) i)
 
 -- ---- one item more
 
@@ -231,13 +191,13 @@ module _ (behind : Option Database) (mid new : State) (a : Archive) (list : List
       let full = answer_is (refused list_full) adds in (
         record {
           is_open_archive = adds.0;
-          archive_is = ap (λ (p : StepOutcome). p.0) adds.1 ∙ refused_stays (archive_of mid) list item (sym (ap (λ (p : StepOutcome). p.1) adds.1)) ∙ so_far.archive_is;
+          archive_is = ap (λ (p : StepOutcome). p.0) adds.1 ∙ (full_at (archive_of mid) list item (sym (ap (λ (p : StepOutcome). p.1) adds.1))).1 ∙ so_far.archive_is;
           list_has_count = adds.2;
           tally_is = so_far.tally_is;
         },
         record {
           at_in_range = within;
-          list_is_full = holds_50000 (taken a list (take i items)).archive list item (sym full);
+          list_is_full = (full_at (taken a list (take i items)).archive list item (sym full)).0;
           item_is_refused = reads_text a list items i item within is ∙ ap (λ r. (taken a list (take i items)).replies ++ r ∷ []) (sym full);
         },
       )
@@ -257,6 +217,24 @@ stays_taken before after old new a list items count told t stays = record {
   tally_is = t.tally_is;
 }
 
+-- a transaction is begun over them
+pub begun_taken : {A : Type 0} {told : Result A Error} {x : A} {first : State} (begun : State) {a : Archive} {list : List ℕ} {items : List Item} {count : ℕ} {report : AddReport}
+    → told ≡ Ok x → MatchResult told (λ _. LeavesRowsUnchanged (Some first.now) first begun) (λ _. FaultKeepsRows first begun)
+    → HoldsAddedItems None first a list items count report → HoldsAddedItems (Some first.now) begun a list items count report
+begun_taken {first = first} begun is held t =
+    stays_taken None (Some first.now) first begun _ _ _ _ _ t (subst (λ r. MatchResult r (λ _. LeavesRowsUnchanged (Some first.now) first begun) (λ _. FaultKeepsRows first begun)) is held)
+
+-- what a stop leaves behind COMMIT: none of the batch, or the whole of it
+pub none_or_whole : {S : Type 0} (g : Ghosts S) (old mid new : Held S) {db : Database} {a : Archive} {list : List ℕ} (items : List Item) {from to : ℕ} (at : ℕ) {count : ℕ} {report : AddReport}
+    → CrashAddsNothing g old mid → HoldsAddedItems (Some db) (state g mid) a list (take at items) count report → IsWholeBatch a list items from to at
+    → (HasCleanDisk (state g new) → HasCleanDisk (state g mid)) → CrashAddsOnlyCommit g mid new
+    → CrashAddsOnly g old new (λ db. (at : ℕ) × IsWholeBatch a list items from to at × IsArchiveStored (taken a list (take at items)).archive db)
+none_or_whole g old mid new {db = before} items at quiet held whole was commits clean db may =
+    elim (commit_over g mid new before held.is_open_archive commits clean db may) [
+      | inl earlier ↦ inl (quiet (was clean) db earlier)
+      | inr it ↦ inr (at, whole, subst (λ x. IsArchiveStored x db) held.archive_is it)
+    ]
+
 abbrev pub no_report : AddReport
 no_report = record { new = 0; known = 0; too_large = 0 }
 
@@ -270,11 +248,6 @@ pub first_taken : (behind : Option Database) (s : State) (a : Archive) (list : L
     → HoldsAddedItems behind s a list (take 0 items) count no_report
 first_taken behind s a list items count k is n = record { is_open_archive = k; archive_is = is ∙ run_nothing a; list_has_count = n; tally_is = no_replies a }
 
--- ---- the bytes of a transaction
-
-pub bytes_more : (items : List Item) (i : ℕ) (item : Item) → i < length items → item ≡ get_or items i item → total_text_bytes (take (i + 1) items) ≡ total_text_bytes (take i items) + length item.text
-bytes_more items i item within is = sum_by_more (λ (x : Item). length x.text) items i item within ∙ ap (λ x. total_text_bytes (take i items) + length x.text) (sym is)
-
 -- ---- where no message was added
 
 pub none_added : (o : Option Refusal) (old new : State) (list : List ℕ) (items : List Item)
@@ -284,7 +257,3 @@ pub none_added : (o : Option Refusal) (old new : State) (list : List ℕ) (items
 none_added None old new list items rests = λ up. let r = rests up in (r.0, archive_stays r.1 ∙ run_nothing (archive_of old))
 none_added (Some r) old new list items it =
     (it.0.0, archive_stays it.0.1 ∙ run_nothing (archive_of old), subst (λ why. IsRefusedAt (archive_of old) list items 0 why) (sym it.1) (refl, it.2))
-
-pub no_reason : (o : Option Refusal) {X : Type 0} (Y : Refusal → Type 0) → o ≡ None → X → MatchOption o X Y
-no_reason None Y is x = x
-no_reason (Some r) Y is x = absurd cc

@@ -1,18 +1,17 @@
 -- A command that is looked up, decided and written: what each part says, and each exit of the whole.
-use Rattle.std.proofs.Common.{◌≡◌, ◌∙◌, ℕ, inl, inr, true, false, List, [], ◌∷◌, None, Some, Option, Result, Ok, Err, IfErr, OnOk, refl, sym, ap, subst, if◌then◌else◌}
-use Rattle.std.specs.Prelude.{IsErrAnd, IfSome, Bool, is_some, MatchResult, ⊤, ◌≤◌, find, map, not, int_lt, option_map}
-use Rattle.std.proofs.Common.{arith}
+use Rattle.std.proofs.Common.{◌≡◌, ◌∙◌, ℕ, inl, inr, true, false, List, [], ◌∷◌, None, Some, Option, Result, Ok, Err, IfErr, refl, sym, ap, subst, if◌then◌else◌, arith}
+use Rattle.std.specs.Prelude.{IfSome, IsErrAnd, Bool, is_some, ⊤, ◌≤◌, find, map, not, int_lt, option_map}
 use Rattle.std.specs.Option.{option_map_or}
 use Rattle.sqlite.specs.declared.error.Error.{Error}
 use Rattle.sqlite.specs.Effect.{Database}
 use Rattle.sqlite.specs.Store.{Ghosts}
 use Rattle.sqlite.specs.Held.{state}
 use Rattle.archive_model.specs.Records.{Archive, Message}
-use Rattle.archive_model.specs.Commands.{Command, list_add, person_add, grant, revoke, add, withdraw, restore, embargo, lift, merge_set, address_set, Refusal, bad_name, bad_text}
-use Rattle.archive_model.specs.Commands.{list_exists, no_list, person_exists, no_person, token_taken, no_message, already_withdrawn, not_withdrawn, bad_days, list_full, too_large}
-use Rattle.archive_model.specs.Commands.{CommandReply, refused, taken_in, already_known}
-use Rattle.archive_model.specs.Machine.{StepOutcome, GuardedReply, refuse_if, no_command_facts, command_facts_within_limit}
-use Rattle.archive_model.specs.Machine.{guarded_replies_of, archive_changed_by, reply_if_carried_out, outcome_unless_guarded, is_too_large, step_within_limit}
+use Rattle.archive_model.specs.Commands.{Command, list_add, person_add, grant, revoke, add, withdraw, restore, embargo, lift, merge_set, address_set, Refusal, bad_name, bad_text, list_exists, no_list}
+use Rattle.archive_model.specs.Commands.{person_exists, no_person, token_taken, no_message, already_withdrawn, not_withdrawn, bad_days, list_full, too_large, CommandReply, refused, taken_in}
+use Rattle.archive_model.specs.Commands.{already_known}
+use Rattle.archive_model.specs.Machine.{StepOutcome, GuardedReply, refuse_if, no_command_facts, command_facts_within_limit, guarded_replies_of, archive_changed_by, reply_if_carried_out}
+use Rattle.archive_model.specs.Machine.{outcome_unless_guarded, is_too_large, step_within_limit}
 use Rattle.archive_model.specs.declared.found.CommandFacts.{CommandFacts}
 use Rattle.archive_model.specs.Addresses.{is_address}
 use Rattle.archive_model.specs.BearerTokens.{is_token}
@@ -25,36 +24,32 @@ use Rattle.archive_store.proofs.StepEquations.{is_some-find}
 use Rattle.archive_tables.specs.Statements.{Statement, IsStatementRefused}
 use Rattle.archive_tables.specs.Rows.{decoded_dated_marks}
 use Rattle.archive_tables.specs.Tables.{archive_in_trees as archive_of_trees}
-use Rattle.archive_tables.specs.Calls.{AnswersFromDatabase, WritesByStatement, LeavesRowsUnchanged}
-use Rattle.archive_tables.specs.Crashes.{IsArchiveStored}
+use Rattle.archive_tables.specs.Calls.{AnswersFromDatabase, WritesByStatement, LeavesRowsUnchanged, EndsConnectionCall}
+use Rattle.archive_tables.specs.Crashes.{IsArchiveStored, CrashAddsNothing}
 use Rattle.archive_tables.proofs.EndLemmas.{archive_stays, stays_then, rests_behind}
-use Rattle.archive_tables.proofs.LastLemmas.{lasts_then}
+use Rattle.archive_tables.proofs.LastLemmas.{lasts_then, lasts_same}
 use Rattle.archive_store.specs.Held.{store_connection, memory_refusal_count}
 use Rattle.archive_port.specs.Words.{new_or_known, added_reply}
 use Rattle.archive_port.specs.Wanting.{IsMemoryRefusal, RaisesRefusalCount}
 use Rattle.archive_port.specs.Replies.{refusal_of_fault, IsOneOf, reply_of_result}
 use Rattle.archive_store.specs.Replies.{PerformsModelStep, MatchesModelStep}
 use Rattle.archive_store.specs.Refusals.{IsExecutedReply, IsWriteRefused}
-use Rattle.archive_store.specs.Told.{StaysOpenUnlessDiskFails, StoreHasCleanDisk, HoldsTables, archive_in}
+use Rattle.archive_store.specs.Told.{EndsWithCause, StaysOpenUnlessDiskFails, StoreHasCleanDisk, HoldsTables, archive_in}
 use Rattle.archive_store.specs.Crashes.{CrashSteps}
-use Rattle.archive_store.specs.Carrying.{ReadsArchive, WritesToArchive, WritesCommandRows, ExecutesCommand, ExecutesWithinListLimit}
-use Rattle.archive_store.specs.Carrying.{PassesCommandTests, facts_from_marks_row, first_passing_reply, reply_without_write, map_store_result}
+use Rattle.archive_store.specs.Carrying.{ReadsArchive, WritesToArchive, WritesCommandRows, ExecutesCommand, ExecutesWithinListLimit, PassesCommandTests, facts_from_marks_row, first_passing_reply}
+use Rattle.archive_store.specs.Carrying.{reply_without_write, map_store_result}
 use Rattle.archive_port.specs.Commands.{prepend_if_refusal, refusals_among, possible_refusals_of, reply_unless_refused}
 use Rattle.archive_store.specs.declared.store.Store.{Store}
 use Rattle.archive_port.specs.declared.faults.StoreFault.{StoreFault}
 use Rattle.archive_store.specs.declared.deciding.Settled.{Settled}
 use Rattle.archive_store.specs.declared.deciding.Settled.TheVariants as settled_as
 use Rattle.archive_port.specs.declared.commands.Command.{Command as Given}
-use Rattle.archive_store.proofs.CauseLemmas.{more_since, is_database}
-use Rattle.archive_store.proofs.PassLemmas.{Passes}
-use Rattle.archive_store.proofs.FindLemmas.{PassesFault, blames, blames_disk, blames_passed}
+use Rattle.archive_store.proofs.FindLemmas.{more_since, is_database, passes_to, when_ok, Passes, kind_last, PassesFault, blames, blames_disk, blames_passed}
+use Rattle.archive_store.proofs.AskLemmas.{ends_with}
+use Rattle.std.proofs.lemmas.Result.{MatchResult-weaker}
 use Rattle.archive_port.proofs.WantLemmas.{raises_after}
-use Rattle.archive_store.proofs.EndLemmas.{refuses}
-use Rattle.archive_tables.specs.Crashes.{CrashAddsNothing}
-use Rattle.archive_tables.proofs.LastLemmas.{lasts_same}
 use Rattle.archive_database.specs.declared.faults.DatabaseError.{DatabaseError}
 use Rattle.archive_database.specs.Taking.{InsertsMessage, FailsToInsertMessage, CrashLeavesWholeMessage}
-use Rattle.archive_tables.specs.Calls.{EndsConnectionCall}
 
 -- ---- the tables of the machine
 
@@ -62,39 +57,29 @@ use Rattle.archive_tables.specs.Calls.{EndsConnectionCall}
 abbrev pub told_at : Archive → CommandReply → StepOutcome
 told_at a reply = (a, reply)
 
--- by whether this test is so
-module _ (a : Archive) (reply : CommandReply) (made : StepOutcome) (other : Option CommandReply) (rest : StepOutcome) where
-  not_first : (b : Bool) → (if b then Some reply else other) ≡ None → (other ≡ None → rest ≡ made) → (if b then told_at a reply else rest) ≡ made
-  not_first true none later = absurd cc
-  not_first false none later = later none
-
-  is_first : (b : Bool) (told : CommandReply) → (if b then Some reply else other) ≡ Some told → (other ≡ Some told → rest ≡ told_at a told)
-      → (if b then told_at a reply else rest) ≡ told_at a told
-  is_first true told is later = ap (λ o. told_at a (option_map_or (λ (r : CommandReply). r) o reply)) is
-  is_first false told is later = later is
-
-none_so : (a : Archive) (tests : List GuardedReply) (made : StepOutcome) → first_passing_reply tests ≡ None → outcome_unless_guarded a tests made ≡ made
-none_so a [] made none = refl
-none_so a (test ∷ tests) made none = not_first a test.1 made (first_passing_reply tests) (outcome_unless_guarded a tests made) test.0 none (none_so a tests made)
-
-one_so : (a : Archive) (tests : List GuardedReply) (made : StepOutcome) (told : CommandReply) → first_passing_reply tests ≡ Some told → outcome_unless_guarded a tests made ≡ told_at a told
-one_so a [] made told is = absurd cc
-one_so a (test ∷ tests) made told is = is_first a test.1 made (first_passing_reply tests) (outcome_unless_guarded a tests made) test.0 told is (one_so a tests made told)
+-- by the first test that is so
+by_first : (a : Archive) (tests : List GuardedReply) (made : StepOutcome) → outcome_unless_guarded a tests made ≡ option_map_or (told_at a) (first_passing_reply tests) made
+by_first a [] made = refl
+by_first a (test ∷ tests) made = go test.0 (by_first a tests made)
+  where
+    go : (b : Bool) → outcome_unless_guarded a tests made ≡ option_map_or (told_at a) (first_passing_reply tests) made
+        → (if b then told_at a test.1 else outcome_unless_guarded a tests made) ≡ option_map_or (told_at a) (if b then Some test.1 else first_passing_reply tests) made
+    go true later = refl
+    go false later = later
 
 -- the step, by what was found
 told_step : (limit : ℕ) (a : Archive) (command : Command) (told : CommandReply) → first_passing_reply (guarded_replies_of command (command_facts_within_limit limit a command)) ≡ Some told
     → step_within_limit limit a command ≡ told_at a told
-told_step limit a command told first = one_so a (guarded_replies_of command (command_facts_within_limit limit a command))
-    (archive_changed_by command a, reply_if_carried_out command (command_facts_within_limit limit a command)) told first
+told_step limit a command told first =
+    let made = told_at (archive_changed_by command a) (reply_if_carried_out command (command_facts_within_limit limit a command)) in
+    by_first a (guarded_replies_of command (command_facts_within_limit limit a command)) made ∙ ap (λ o. option_map_or (told_at a) o made) first
 
 made_step : (limit : ℕ) (a : Archive) (command : Command) (found : CommandFacts) → found ≡ command_facts_within_limit limit a command → first_passing_reply (guarded_replies_of command found) ≡ None
     → step_within_limit limit a command ≡ told_at (archive_changed_by command a) (reply_if_carried_out command found)
 made_step limit a command found is none =
-    none_so a (guarded_replies_of command (command_facts_within_limit limit a command)) (
-      archive_changed_by command a,
-      reply_if_carried_out command
-          (command_facts_within_limit limit a command),
-    ) (ap (λ f. first_passing_reply (guarded_replies_of command f)) (sym is) ∙ none)
+    let made = told_at (archive_changed_by command a) (reply_if_carried_out command (command_facts_within_limit limit a command)) in
+    by_first a (guarded_replies_of command (command_facts_within_limit limit a command)) made
+    ∙ ap (λ o. option_map_or (told_at a) o made) (ap (λ f. first_passing_reply (guarded_replies_of command f)) (sym is) ∙ none)
     ∙ ap (λ f. told_at (archive_changed_by command a) (reply_if_carried_out command f)) (sym is)
 
 -- ---- its refusals
@@ -135,15 +120,7 @@ reason_told fault o is = go (refusal_of_fault fault) o refl is
 
 -- ---- its answer
 
-pub none_of : (o : Option CommandReply) → (let n : Option (Option CommandReply) = None in n) ≡ option_map Some o → o ≡ None
-none_of None is = refl
-none_of (Some reply) is = absurd cc
-
-one_of : (o : Option CommandReply) (reply : CommandReply) → Some (Some reply) ≡ option_map Some o → o ≡ Some reply
-one_of None reply is = absurd cc
-one_of (Some other) reply is = cc
-
-same_of : (o p : Option CommandReply) → option_map Some o ≡ option_map Some p → o ≡ p
+pub same_of : (o p : Option CommandReply) → option_map Some o ≡ option_map Some p → o ≡ p
 same_of None None is = refl
 same_of None (Some q) is = absurd cc
 same_of (Some r) None is = absurd cc
@@ -224,25 +201,6 @@ rows_alike (row ∷ rows) (test ∷ tests) alike =
     go true later = ap Some alike.1
     go false later = later
 
--- ---- what was told, handed on
-
-passes_to : {A : Type 0} (X : A → Type 0) (Y : Type 0) (told : Result A Error) (result : Result A StoreFault) → Passes told result → MatchResult told X (λ _. Y) → MatchResult result X (λ _. Y)
-passes_to X Y told (Ok a) is it = subst (λ t. MatchResult t X (λ _. Y)) is it
-passes_to X Y (Ok a) (Err f) is it = absurd is
-passes_to X Y (Err e) (Err f) is it = it
-
-passes_ok : {A : Type 0} (X : Type 0) (told : Result A Error) (result : Result A StoreFault) → Passes told result → OnOk told X → OnOk result X
-passes_ok X told (Ok a) is it = subst (λ t. OnOk t X) is it
-passes_ok X told (Err f) is it = tt
-
-on_ok : {A : Type 0} {X : Type 0} (result : Result A StoreFault) → X → OnOk result X
-on_ok (Ok a) x = x
-on_ok (Err fault) x = tt
-
-map_match : {A : Type 0} (X Y : A → Type 0) (R T : Type 0) (result : Result A StoreFault) → ((a : A) → X a → Y a) → (R → T) → MatchResult result X (λ _. R) → MatchResult result Y (λ _. T)
-map_match X Y R T (Ok a) f h it = f a it
-map_match X Y R T (Err e) f h it = h it
-
 module _ {S : Type 0} (g : Ghosts S) where
   -- ---- questions
 
@@ -252,7 +210,7 @@ module _ {S : Type 0} (g : Ghosts S) where
       → AnswersFromDatabase g (store_connection old) (store_connection new) told Says ⊥ → ReadsArchive g old new result Says
   looks_passed {old = old} {new = new} {told = told} {result = result} {Says = Says} is fault counted asks = record {
     remains_open = asks.ends_call.remains_open;
-    was_open = λ clean. passes_ok _ told result is (asks.ends_call.was_open clean);
+    was_open = λ clean. passes_to _ _ told result is (asks.ends_call.was_open clean);
     crash_adds_nothing = asks.crash_adds_nothing;
     fault_is_no_refusal = fault;
     refusals_counted = counted;
@@ -270,15 +228,14 @@ module _ {S : Type 0} (g : Ghosts S) where
       let n = state g (store_connection new) in
       record {
         remains_open = lasts_then o m n first.remains_open next.remains_open;
-        was_open = λ clean. on_ok result (first.was_open (next.remains_open.disk_was_clean clean));
+        was_open = λ clean. when_ok result _ (first.was_open (next.remains_open.disk_was_clean clean));
         crash_adds_nothing = λ clean db may. first.crash_adds_nothing (next.remains_open.disk_was_clean clean) db (next.crash_adds_nothing clean db may);
         fault_is_no_refusal = next.fault_is_no_refusal;
         refusals_counted = raises_after IsMemoryRefusal (memory_refusal_count old) (memory_refusal_count mid) (memory_refusal_count new) result first.refusals_counted.0 next.refusals_counted;
         answer_holds = λ clean kept.
             let one = first.answer_holds (next.remains_open.disk_was_clean clean) kept in
-            map_match (λ b. Q (archive_in g mid) b × LeavesRowsUnchanged None m n) (λ b. (P (archive_in g old) a × Q (archive_in g old) b) × LeavesRowsUnchanged None o n) _ _ result
-            (λ b it. ((one.0, subst (λ x. Q x b) (archive_stays one.1.1) it.0), stays_then None o m n one.1 it.1))
-            (rests_behind None o m n one.1.1) (next.answer_holds clean one.1.0);
+            MatchResult-weaker result (next.answer_holds clean one.1.0)
+            (λ b it. ((one.0, subst (λ x. Q x b) (archive_stays one.1.1) it.0), stays_then None o m n one.1 it.1)) (λ _. rests_behind None o m n one.1.1);
         fault_has_cause = λ clean kept free.
             let one = first.answer_holds (next.remains_open.disk_was_clean clean) kept in
             blames result (more_since o m n first.remains_open) (next.fault_has_cause clean one.1.0 (first.remains_open.step_limit_is_same ∙ free));
@@ -295,19 +252,6 @@ module _ {S : Type 0} (g : Ghosts S) where
     refusals_counted = looks.refusals_counted;
     answer_holds = λ clean kept. let it = looks.answer_holds clean kept in (so (archive_in g old) it.0, it.1);
     fault_has_cause = λ clean kept free. tt;
-  }
-
-  -- whatever is answered
-  pub looks_as : {A : Type 0} {old new : Store S} {result : Result A StoreFault} {P Q : Archive → A → Type 0}
-      → ReadsArchive g old new result P → ((x : Archive) (a : A) → P x a → Q x a) → ReadsArchive g old new result Q
-  looks_as {old = old} {result = result} looks so = record {
-    remains_open = looks.remains_open;
-    was_open = looks.was_open;
-    crash_adds_nothing = looks.crash_adds_nothing;
-    fault_is_no_refusal = looks.fault_is_no_refusal;
-    refusals_counted = looks.refusals_counted;
-    answer_holds = λ clean kept. map_match _ _ _ _ result (λ a it. (so (archive_in g old) a it.0, it.1)) (λ rests. rests) (looks.answer_holds clean kept);
-    fault_has_cause = looks.fault_has_cause;
   }
 
   -- the exit of a `?`
@@ -337,13 +281,12 @@ module _ {S : Type 0} (g : Ghosts S) where
       let o = state g (store_connection old) in
       record {
         remains_open = writes.ends_call.remains_open;
-        was_open = λ clean. passes_ok _ told result is (writes.ends_call.was_open clean);
+        was_open = λ clean. passes_to _ _ told result is (writes.ends_call.was_open clean);
         fault_is_no_refusal = fault;
         refusals_counted = counted;
         answer_holds = λ clean kept need.
             let it = turn (archive_in g old) need in
-            map_match _ _ _ _ result (λ a made. let m = made it.0 in (m.0, m.1 ∙ it.1)) (λ rests. rests)
-            (passes_to _ _ told result is (writes.answer_holds clean None kept));
+            MatchResult-weaker result (passes_to _ _ told result is (writes.answer_holds clean None kept)) (λ a made. let m = made it.0 in (m.0, m.1 ∙ it.1)) (λ _ rests. rests);
         crash = λ kept need clean db may.
             let it = turn (archive_in g old) need in
             elim (writes.crash None kept it.0 clean db may) [
@@ -430,24 +373,27 @@ module _ {S : Type 0} (g : Ghosts S) where
     over = λ clean kept. (tt, (kept, refl));
   }
 
+  -- it is refused for a reason
+  refuses : {B : Type 0} (old new : Store S) (reasons : List Refusal) (Cause : Type 0) (why : StoreFault) (reason : Refusal) → StaysOpenUnlessDiskFails g old new
+      → memory_refusal_count old ≤ memory_refusal_count new → refusal_of_fault why ≡ Some reason → IsOneOf reason reasons → EndsWithCause g old new Cause {A = B} (Err why) reasons
+  refuses old new reasons Cause why reason before same is one =
+      ends_with before (λ clean. tt) (subst (λ o. IfSome o (λ why. IsOneOf why reasons)) (sym is) one)
+      (same, (λ want. absurd (let bad : ◌≡◌ {A = Option Refusal} None (Some reason) = ap refusal_of_fault (sym want) ∙ is in cc)))
+      (λ clean kept free it. absurd (let bad : ◌≡◌ {A = Option Refusal} None (Some reason) = ap refusal_of_fault (sym it) ∙ is in cc))
+
   module _ {limit : ℕ} (old new : Store S) (command : Command) where
     -- a question failed
     pub unlooked : {A : Type 0} {fault : StoreFault} (result : Result CommandFacts StoreFault) {P : Archive → A → Type 0}
         → ReadsArchive g old new {A = A} (Err fault) P → IsErrAnd result (λ f. f ≡ fault) → ExecutesWithinListLimit g old new limit command result
     unlooked (Ok found) looks is = absurd is
-    unlooked (Err f) looks is = subst (λ f. ExecutesWithinListLimit g old new limit command (Err f)) (sym is) (record {
+    unlooked {fault = fault} (Err f) looks is = subst (λ f. ExecutesWithinListLimit g old new limit command (Err f)) (sym is) (record {
       performs_step = λ clean kept.
           subst (λ o. MatchesModelStep (state g (store_connection old)) (state g (store_connection new)) (λ a. step_within_limit limit a command) (option_map refused o))
           (sym looks.fault_is_no_refusal)
           (looks.answer_holds clean kept);
       crash = λ kept clean db may. inl (looks.crash_adds_nothing clean db may);
-      ends_write = record {
-        remains_open = looks.remains_open;
-        was_open = λ clean. tt;
-        refusal_is_possible = subst (λ o. IfSome o (λ why. IsOneOf why (possible_refusals_of command))) (sym looks.fault_is_no_refusal) tt;
-        refusals_counted = looks.refusals_counted;
-        fault_has_cause = λ clean kept free it. inl (looks.fault_has_cause clean kept free it);
-      };
+      ends_write = ends_with looks.remains_open (λ clean. tt) (kind_last {A = CommandFacts} (Err fault) _ looks.fault_is_no_refusal) looks.refusals_counted
+          (λ clean kept free it. inl (looks.fault_has_cause clean kept free it));
     })
 
     -- it is refused behind calls that left the archive, by what they found
@@ -463,7 +409,7 @@ module _ {S : Type 0} (g : Ghosts S) where
               subst (λ o. MatchesModelStep (state g (store_connection old)) (state g (store_connection new)) (λ a. step_within_limit limit a command) (option_map refused o)) (sym told.1)
               (it.1.0, ap (λ a. told_at a (refused told.0)) (archive_stays it.1.1) ∙ sym (told_step limit (archive_in g old) command (refused told.0) (at (archive_in g old) it.0 ∙ told.2)));
           crash = λ kept clean db may. inl (leaves.quiet clean db may);
-          ends_write = refuses g old new (possible_refusals_of command) _ fault told.0 leaves.lasts leaves.wants told.1 (is_reason command found told.0 told.2);
+          ends_write = refuses old new (possible_refusals_of command) _ fault told.0 leaves.lasts leaves.wants told.1 (is_reason command found told.0 told.2);
         }
 
     -- by what was found of it
@@ -478,7 +424,7 @@ module _ {S : Type 0} (g : Ghosts S) where
         → settled ≡ Some (settled_as.Known) → option_map reply_without_write settled ≡ option_map Some (first_passing_reply (guarded_replies_of command found))
         → ExecutesWithinListLimit g old new limit command (Ok found)
     already_there found settled looks told is =
-        let known = one_of (first_passing_reply (guarded_replies_of command found)) already_known (sym (ap (option_map reply_without_write) told) ∙ is) in
+        let known = same_of (first_passing_reply (guarded_replies_of command found)) (Some already_known) (sym is ∙ ap (option_map reply_without_write) told) in
         record {
           performs_step = λ clean kept.
               let it = looks.answer_holds clean kept in (
@@ -487,13 +433,7 @@ module _ {S : Type 0} (g : Ghosts S) where
                     ∙ sym (told_step limit (archive_in g old) command already_known (ap (λ f. first_passing_reply (guarded_replies_of command f)) (sym it.0) ∙ known)),
               );
           crash = λ kept clean db may. inl (looks.crash_adds_nothing clean db may);
-          ends_write = record {
-            remains_open = looks.remains_open;
-            was_open = looks.was_open;
-            refusal_is_possible = tt;
-            refusals_counted = looks.refusals_counted;
-            fault_has_cause = λ clean kept free. tt;
-          };
+          ends_write = ends_with looks.remains_open looks.was_open tt looks.refusals_counted (λ clean kept free. tt);
         }
 
   -- it is refused by its words, whatever is found
@@ -536,13 +476,10 @@ module _ {S : Type 0} (g : Ghosts S) where
                 ∙ ap (told_at (archive_changed_by command (archive_in g old))) (answer_made command found none) ∙ sym (made_step limit (archive_in g old) command found it.0 none),
           );
       crash = crashes (Ok n) puts;
-      ends_write = record {
-        remains_open = lasts_then (state g (store_connection old)) (state g (store_connection mid)) (state g (store_connection new)) looks.remains_open puts.remains_open;
-        was_open = λ clean. looks.remains_open.closed_stays_closed (puts.remains_open.disk_was_clean clean) (puts.was_open clean);
-        refusal_is_possible = tt;
-        refusals_counted = raises_after IsMemoryRefusal (memory_refusal_count old) (memory_refusal_count mid) (memory_refusal_count new) (Ok found) looks.refusals_counted.0 puts.refusals_counted;
-        fault_has_cause = λ clean kept free. tt;
-      };
+      ends_write = ends_with (lasts_then _ _ _ looks.remains_open puts.remains_open)
+          (λ clean. looks.remains_open.closed_stays_closed (puts.remains_open.disk_was_clean clean) (puts.was_open clean)) tt
+          (raises_after IsMemoryRefusal (memory_refusal_count old) (memory_refusal_count mid) (memory_refusal_count new) (Ok found) looks.refusals_counted.0 puts.refusals_counted)
+          (λ clean kept free. tt);
     }
 
     pub unwritten : (fault : StoreFault) (result : Result CommandFacts StoreFault) → PutsIt (Err fault) → IsErrAnd result (λ f. f ≡ fault)
@@ -555,22 +492,16 @@ module _ {S : Type 0} (g : Ghosts S) where
           (rests_behind None (state g (store_connection old)) (state g (store_connection mid)) (state g (store_connection new)) it.1.1
           (puts.answer_holds clean it.1.0 (still it.0 (archive_stays it.1.1))));
       crash = crashes (Err fault) puts;
-      ends_write = record {
-        remains_open = lasts_then (state g (store_connection old)) (state g (store_connection mid)) (state g (store_connection new)) looks.remains_open puts.remains_open;
-        was_open = λ clean. tt;
-        refusal_is_possible = subst (λ o. IfSome o (λ why. IsOneOf why (possible_refusals_of command))) (sym puts.fault_is_no_refusal) tt;
-        refusals_counted = raises_after IsMemoryRefusal (memory_refusal_count old) (memory_refusal_count mid) (memory_refusal_count new) (let r : Result CommandFacts StoreFault = Err fault in r)
-            looks.refusals_counted.0 puts.refusals_counted;
-        fault_has_cause = λ clean kept free why.
-            let it = looks.answer_holds (puts.remains_open.disk_was_clean clean) kept in
-            elim (puts.fault_has_cause clean it.1.0 (looks.remains_open.step_limit_is_same ∙ free) (still it.0 (archive_stays it.1.1)) why) [
-              | inl more ↦ inl (more_since (state g (store_connection old)) (state g (store_connection mid)) (state g (store_connection new)) looks.remains_open more)
-              | inr bad ↦ inr (record {
-                would_execute = subst (λ (o : StepOutcome). IsExecutedReply o.1) (sym (made_step limit (archive_in g old) command found it.0 none)) (is_carried command found);
-                refuses_rows = subst (IsWriteRefused command) it.1.1 bad;
-              })
-            ];
-      };
+      ends_write = ends_with (lasts_then _ _ _ looks.remains_open puts.remains_open) (λ clean. tt) (kind_last {A = CommandFacts} (Err fault) _ puts.fault_is_no_refusal)
+          (raises_after IsMemoryRefusal _ _ _ (let r : Result CommandFacts StoreFault = Err fault in r) looks.refusals_counted.0 puts.refusals_counted) (λ clean kept free why.
+          let it = looks.answer_holds (puts.remains_open.disk_was_clean clean) kept in
+          elim (puts.fault_has_cause clean it.1.0 (looks.remains_open.step_limit_is_same ∙ free) (still it.0 (archive_stays it.1.1)) why) [
+            | inl more ↦ inl (more_since (state g (store_connection old)) (state g (store_connection mid)) (state g (store_connection new)) looks.remains_open more)
+            | inr bad ↦ inr (record {
+              would_execute = subst (λ (o : StepOutcome). IsExecutedReply o.1) (sym (made_step limit (archive_in g old) command found it.0 none)) (is_carried command found);
+              refuses_rows = subst (IsWriteRefused command) it.1.1 bad;
+            })
+          ]);
     })
 
   -- ---- a call of its own for each command
@@ -587,25 +518,12 @@ module _ {S : Type 0} (g : Ghosts S) where
           performs_step = subst (λ (r : CommandReply). PerformsModelStep g (store_connection old) (store_connection new) (λ a. step_within_limit limit a command) (Some r))
               (sym (same found)) it.performs_step;
           crash = it.crash;
-          ends_write = record {
-            remains_open = it.ends_write.remains_open;
-            was_open = it.ends_write.was_open;
-            refusal_is_possible = tt;
-            refusals_counted = it.ends_write.refusals_counted;
-            fault_has_cause = λ clean kept free. tt;
-          };
+          ends_write = ends_with it.ends_write.remains_open it.ends_write.was_open tt it.ends_write.refusals_counted (λ clean kept free. tt);
         }
         go (Err fault) it = record {
           performs_step = it.performs_step;
           crash = it.crash;
-          ends_write = record {
-            remains_open = it.ends_write.remains_open;
-            was_open = it.ends_write.was_open;
-            refusal_is_possible = it.ends_write.refusal_is_possible;
-            refusals_counted =
-                it.ends_write.refusals_counted;
-            fault_has_cause = it.ends_write.fault_has_cause;
-          };
+          ends_write = ends_with it.ends_write.remains_open it.ends_write.was_open it.ends_write.refusal_is_possible it.ends_write.refusals_counted it.ends_write.fault_has_cause;
         }
 
 -- ---- what is found

@@ -1,10 +1,8 @@
 -- Messages that are looked at one after the other.
-use Rattle.std.proofs.Common.{◌≡◌, ℕ, ℤ, ◌+◌, ◌<◌, ◌≤◌, List, [], ◌∷◌, ◌++◌, length, get_or, drop, map, refl, ap, sym, subst, ◌∙◌, Option, Some, Result, Ok, Err}
-use Rattle.std.specs.Prelude.{⊤, IfErr}
+use Rattle.std.proofs.Common.{◌≡◌, ℕ, ℤ, ◌+◌, ◌<◌, ◌≤◌, List, [], ◌∷◌, ◌++◌, length, get_or, drop, map, append_assoc, append-nil, refl, ap, sym, subst, ◌∙◌, Some, Result, Ok, Err}
+use Rattle.std.specs.Prelude.{⊤, IfErr, zip}
 use Rattle.std.specs.Result.{IsErrAnd}
 use Rattle.std.specs.List.{All}
-use Rattle.std.proofs.lemmas.List.{drop_more, drop_all}
-use Rattle.std.specs.Prelude.{zip}
 use Rattle.std.proofs.lemmas.List.Elements.{All-nil, All-push, All-cons, All-head, All-tail}
 use Rattle.archive_model.specs.Records.{Message, IndexColumns}
 use Rattle.archive_model.specs.Sound.{IsSoundMessage}
@@ -20,36 +18,12 @@ use Rattle.archive_store.specs.Told.{HoldsTables, IsOpen, StoreHasCleanDisk, Sta
 use Rattle.archive_store.specs.Walking.{current_rows}
 use Rattle.archive_store.specs.Checking.{ChecksArchive, RowsStay}
 use Rattle.archive_port.specs.Checking.{PassesCheck}
+use Rattle.archive_store.proofs.WalkingLemmas.{next_is, nothing_ahead}
 use Rattle.archive_port.specs.declared.checking.CheckError.{CheckError}
 use Rattle.archive_port.specs.declared.checking.CheckError.TheVariants.{Failed}
 use Rattle.archive_port.specs.declared.faults.StoreFault.{StoreFault}
 use Rattle.archive_port.specs.declared.faults.StoreFault.TheVariants as faults
 use Rattle.archive_store.specs.declared.store.Store.{Store}
-
--- the next number is that of the next message
-next_is : (f : ℤ → Option IndexedMessage) (places : List ℤ) (at : ℕ) (d : ℤ) (left : List IndexedMessage) → map f (drop at places) ≡ map Some left → at < length places
-    → (it : IndexedMessage) × (rest : List IndexedMessage) × (left ≡ it ∷ rest) × (f (get_or places at d) ≡ Some it) × (map f (drop (at + 1) places) ≡ map Some rest)
-next_is f places at d left ahead within = go left (sym (ap (map f) (drop_more places at d within)) ∙ ahead)
-  where
-    go : (left : List IndexedMessage) → f (get_or places at d) ∷ map f (drop (at + 1) places) ≡ map Some left
-        → (it : IndexedMessage) × (rest : List IndexedMessage) × (left ≡ it ∷ rest) × (f (get_or places at d) ≡ Some it) × (map f (drop (at + 1) places) ≡ map Some rest)
-    go [] is = absurd cc
-    go (it ∷ rest) is = (it, rest, refl, cc, cc)
-
-nothing_ahead : (f : ℤ → Option IndexedMessage) (places : List ℤ) (at : ℕ) (left : List IndexedMessage) → map f (drop at places) ≡ map Some left → length places ≤ at → left ≡ []
-nothing_ahead f places at left ahead past = go left (sym (ap (map f) (drop_all at places past)) ∙ ahead)
-  where
-    go : (left : List IndexedMessage) → [] ≡ map Some left → left ≡ []
-    go [] is = refl
-    go (it ∷ rest) is = absurd cc
-
-nothing_more : (fs : List IndexedMessage) → fs ++ [] ≡ fs
-nothing_more [] = refl
-nothing_more (f ∷ fs) = ap (λ gs. f ∷ gs) (nothing_more fs)
-
-one_more : (before : List IndexedMessage) (it : IndexedMessage) (rest : List IndexedMessage) → (before ++ it ∷ []) ++ rest ≡ before ++ it ∷ rest
-one_more [] it rest = refl
-one_more (f ∷ before) it rest = ap (λ fs. f ∷ fs) (one_more before it rest)
 
 -- ---- rows of which each is sound, as the message that it remembers and what is filed of it
 
@@ -117,7 +91,7 @@ module _ {S : Type 0} (g : Ghosts S) where
           before = so_far.before ++ it ∷ [];
           left = rest;
           ahead = next.4;
-          joined = one_more so_far.before it rest ∙ joined;
+          joined = append_assoc so_far.before (it ∷ []) rest ∙ joined;
           sound = All-push IsSoundlyIndexed so_far.before it so_far.sound sound;
         };
         stops = λ list key damaged list_matches key_matches. record {
@@ -135,7 +109,7 @@ module _ {S : Type 0} (g : Ghosts S) where
   pub looked_all : (old now : Store S) (places : List ℤ) (at : ℕ) → HasLooked old now places at → length places ≤ at → PassesCheck (now_holds g old)
   looked_all old now places at so_far past =
       let none = nothing_ahead (filed_at (current_rows g old)) places at so_far.left so_far.ahead past in
-      let all : so_far.before ≡ sort_by_list_name (indexed_messages (now_holds g old)) = sym (nothing_more so_far.before) ∙ ap (λ fs. so_far.before ++ fs) (sym none) ∙ so_far.joined in
+      let all : so_far.before ≡ sort_by_list_name (indexed_messages (now_holds g old)) = sym (append-nil so_far.before) ∙ ap (λ fs. so_far.before ++ fs) (sym none) ∙ so_far.joined in
       let whole = whole_in_order (now_holds g old) (subst (All IsSoundlyIndexed) all so_far.sound) in
       record {
         has_no_damage = whole;

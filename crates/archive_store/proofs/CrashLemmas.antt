@@ -1,7 +1,7 @@
 -- What a stop of the machine leaves in a command and behind it.
-use Rattle.std.proofs.Common.{◌≡◌, ◌≤◌, inl, inr, refl, sym, ap, subst, ◌∙◌, arith, ℕ, ◌+◌, List, length, Option, Some, None, Result, Ok, Err}
+use Rattle.std.proofs.Common.{◌≡◌, ◌≤◌, inl, inr, refl, sym, ap, subst, ◌∙◌, arith, ℕ, ◌+◌, List, length, Option, Some, None, Ok, Err}
 use Rattle.std.proofs.lemmas.List.{take_all}
-use Rattle.std.specs.Prelude.{⊤, IsTrue, Bool, true, false, is_some, ◌==◌, if◌then◌else◌}
+use Rattle.std.specs.Prelude.{IsTrue, Bool, true, false, is_some, ◌==◌, if◌then◌else◌, Vec}
 use Rattle.sqlite_trees.specs.Objects.{catalog_tree}
 use Rattle.sqlite_catalog.specs.Listing.{Lists}
 use Rattle.sqlite.specs.Tree.{Trees}
@@ -10,7 +10,6 @@ use Rattle.sqlite.specs.Effect.{Database}
 use Rattle.sqlite.specs.Store.{Ghosts}
 use Rattle.sqlite.specs.Held.{Held, state}
 use Rattle.sqlite.specs.State.{State, HasCleanDisk, IsLive}
-use Rattle.sqlite.specs.declared.error.Error.{Error}
 use Rattle.archive_model.specs.Records.{Archive}
 use Rattle.archive_model.specs.Commands.{Command, CommandReply}
 use Rattle.archive_model.specs.Machine.{StepOutcome}
@@ -18,41 +17,17 @@ use Rattle.archive_model.specs.Runs.{run}
 use Rattle.mbox_items.specs.Division.{Item}
 use Rattle.archive_tables.specs.Schema.{archive_schema, empty_schema, schema_1, schema_2, schema_3}
 use Rattle.archive_tables.specs.Tables.{IsOpenArchiveInFormat, IsArchiveAtRest, AreArchiveTables, format_of_version, archive_in_trees, archive_of}
-use Rattle.archive_tables.specs.Calls.{AnswersFromDatabase}
 use Rattle.archive_tables.specs.Crashes.{IsArchiveStored, IsCrashSafe, CrashAddsNothing, CrashAddsOnly, CrashLeavesArchiveWhere}
 use Rattle.archive_store.specs.Replies.{PerformsModelStep, MatchesModelStep}
-use Rattle.archive_store.specs.Batches.{AddsAllMessages}
 use Rattle.archive_store.specs.Crashes.{CrashAddsAllBatches, CrashRuns, CrashSteps, CrashAdopts, HasRunCommands, CrashLeavesRelatedArchive, CrashAfterCommand}
 use Rattle.archive_port.specs.Adding.{HasAddedAtLeast}
 use Rattle.archive_port.specs.declared.reports.AddReport.{AddReport}
 use Rattle.archive_port.specs.declared.reports.AddError.{AddError}
 use Rattle.archive_store.specs.declared.running.Outcome.{Outcome as Answered}
 use Rattle.archive_store.specs.declared.running.CommandRunError.{CommandRunError}
-use Rattle.std.specs.Prelude.{Vec}
 use Rattle.std.specs.declared.alloc.Global.{Global}
-use Rattle.archive_store.proofs.StepLemmas.{Learns, begins, asks}
-use Rattle.archive_store.proofs.PassLemmas.{passed_over}
-
--- what was found of the tables, whose rows are as they were, while a stop leaves nothing new
-pub record Looks {S : Type 0} (g : Ghosts S) (old new : Held S) (P : Archive → Type 0) : Type 0 where
-  pub learnt : Learns g old new P
-  pub quiet : CrashAddsNothing g old new
 
 module _ {S : Type 0} (g : Ghosts S) where
-  -- ---- a command, call by call
-
-  pub looks : (old : Held S) → Looks g old old (λ _. ⊤)
-  looks old = record { learnt = begins g old; quiet = λ clean db may. may }
-
-  -- a question that is answered
-  pub looks_on : {A : Type 0} {told : Result A Error} {a : A} {Says : Archive → A → Type 0} {Unread : Type 0} (old mid new : Held S) (P Q : Archive → Type 0)
-      → Looks g old mid P → AnswersFromDatabase g mid new told Says Unread → told ≡ Ok a → ((x : Archive) → Says x a → Q x) → Looks g old new (λ x. P x × Q x)
-  looks_on old mid new P Q before it is so = record {
-    learnt = asks g old mid new P Q before.learnt it.ends_call.remains_open.disk_was_clean
-        (λ clean kept. let answer = passed_over it is clean kept in (so (archive_of (state g mid)) answer.0, answer.1));
-    quiet = λ clean db may. before.quiet (it.ends_call.remains_open.disk_was_clean clean) db (it.crash_adds_nothing clean db may);
-  }
-
   -- ---- what a stop leaves of an open connection is what is committed
 
   abbrev pub KeepsCommit : Held S → Type 0
@@ -157,12 +132,6 @@ module _ {S : Type 0} (g : Ghosts S) where
       during_call = leaves_as old new (HasAddedAtLeast list items stop.done) (HasAddedAtLeast list items 0) (λ a b it. (it.0, omega arith, it.2)) leaves;
       after_error = leaves;
     }
-
-    -- where all were added, what is remembered
-    pub all_safe : KeepsCommit new → (report : AddReport) → AddsAllMessages g old new (Ok report) list items → CrashAddsAllBatches g old new list items (Ok report) → HasCleanDisk (state g new)
-        → IsArchiveAtRest (state g old) → IsCrashSafe (state g old) → IsCrashSafe (state g new)
-    all_safe settled report step crash clean kept safe =
-        left_safe new settled (step clean kept).0 (HasAddedAtLeast list items 0 (archive_of (state g old))) (crash.during_call clean kept safe)
 
   -- ---- a database that is taken over
 

@@ -1,8 +1,5 @@
 pub mod RankLemmas
 pub mod StepEquations
-pub mod StepLemmas
-mod EndLemmas
-pub mod ReadingLemmas
 pub mod RunLemmas
 pub mod BatchLemmas
 pub mod Joins
@@ -11,13 +8,9 @@ mod JoinExamples
 pub mod ReopenLemmas
 pub mod WalkingLemmas
 pub mod CheckLemmas
-pub mod FollowLemmas
-pub mod CauseLemmas
 pub mod CrashLemmas
 mod CrashExamples
-mod PutLemmas
 mod AskLemmas
-mod PassLemmas
 mod FindLemmas
 pub mod StopLemmas
 mod AdoptLemmas

@@ -9,18 +9,12 @@ use Rattle.sqlite_catalog.specs.Listing.{Lists}
 use Rattle.sqlite_catalog.proofs.ReadLemmas.{lists_once}
 use Rattle.sqlite_store.specs.declared.store.FileStore.{FileStore}
 use Rattle.sqlite.specs.Effect.{Database}
-use Rattle.sqlite.specs.Held.{Held, state}
-use Rattle.sqlite.specs.Store.{Ghosts as StoreGhosts}
+use Rattle.sqlite.specs.Held.{Held}
 use Rattle.sqlite.specs.State.{IsLive}
 use Rattle.sqlite.specs.Files.{file_state, Finds, IsOpened}
 use Rattle.sqlite.specs.Closing.{IsCopied}
 use Rattle.sqlite.proofs.Callers.{finds_again}
-use Rattle.archive_model.specs.Records.{Archive}
 use Rattle.archive_tables.specs.Tables.{IsArchiveAtRest, AreArchiveTables, archive_of, archive_in_trees}
-use Rattle.archive_store.specs.Held.{store_connection}
-use Rattle.archive_store.specs.Told.{HoldsArchive, IsReady, archive_in as now_holds}
-use Rattle.archive_store.specs.declared.store.Store.{Store}
-use Rattle.archive_store.proofs.Joins.{ready_with}
 
 pub kept_again : {D : Type 0} {g : Ghosts D} (old new : Held (FileStore D g)) (files : Files D)
     → IsArchiveAtRest (file_state old) → IsLive (file_state old) → (AreClean g files.log files.db → IsCopied old files) → Finds files new → IsOpened new
@@ -41,12 +35,3 @@ kept_again old new files kept live closed found opened =
       },
       ap archive_in_trees trees,
     )
-
--- a connection that holds an archive, and is adopted
-pub adopted_ready : {S : Type 0} (g : StoreGhosts S) (connection : Held S) (store : Store S) (archive : Archive) → HoldsArchive g connection archive
-    → (IsArchiveAtRest (state g connection) → IsArchiveAtRest (state g (store_connection store)) × (archive_of (state g (store_connection store)) ≡ archive_of (state g connection)))
-    → IsReady g store × (now_holds g store ≡ archive)
-adopted_ready g connection store archive holds found =
-    let it = found holds.0 in
-    let is = it.1 ∙ holds.1 in
-    (ready_with g store archive it.0 is holds.2, is)

@@ -1,6 +1,6 @@
 -- Commands that are carried out one after the other.
-use Rattle.std.proofs.Common.{◌≡◌, ◌⊎◌, ℕ, ◌+◌, ◌<◌, suc, true, List, [], ◌∷◌, ◌++◌, length, get_or, take, drop, map, length-take-le}
-use Rattle.std.proofs.Common.{take-append-drop, drop-cons, refl, ap, sym, subst, arith, ◌∙◌, Option, Some, None, Result, Ok, Err, IfErr}
+use Rattle.std.proofs.Common.{◌≡◌, ◌⊎◌, ℕ, ◌+◌, ◌<◌, suc, true, List, [], ◌∷◌, ◌++◌, length, get_or, take, drop, map, length-take-le, take-append-drop, drop-cons, refl, ap, sym, subst, arith, ◌∙◌}
+use Rattle.std.proofs.Common.{Option, Some, None, Result, Ok, Err, IfErr}
 use Rattle.std.specs.Prelude.{IsTrue, is_some}
 use Rattle.std.proofs.lemmas.List.{length-map, map-append, map_more, take-map}
 use Rattle.sqlite.specs.Effect.{Database}
@@ -87,8 +87,8 @@ next_archive a b commands i d made within is =
     ∙ ap (λ cs. (run a cs).archive) (sym (map_more spec_command commands i d within ∙ ap (λ x. map spec_command (take i commands) ++ spec_command x ∷ []) (sym is)))
 
 -- the same commands, taken before they are told
-pub first_commands : (commands : List Given) (n i : ℕ) → n ≡ i → take n (map spec_command commands) ≡ map spec_command (take i commands)
-first_commands commands n i e = ap (λ k. take k (map spec_command commands)) e ∙ take-map spec_command i commands
+pub ran_first : (a : Archive) (commands : List Given) {n i : ℕ} → n ≡ i → (run a (map spec_command (take i commands))).archive ≡ (run a (take n (map spec_command commands))).archive
+ran_first a commands {i = i} is = ap (λ cs. (run a cs).archive) (sym (ap (λ k. take k (map spec_command commands)) is ∙ take-map spec_command i commands))
 
 -- ---- why a command stops
 

@@ -1,8 +1,7 @@
 -- What a store says, in the words of the layers above.
-use Rattle.std.proofs.Common.{◌≡◌, ◌⊎◌, ◌∙◌, inl, inr, ℕ, ◌-◌, List, [], Option, Some, None, Result, Ok, Err}
+use Rattle.std.proofs.Common.{◌≡◌, ◌⊎◌, ◌∙◌, inl, inr, ℕ, List, Option, Some, None, Result, Ok, Err}
 use Rattle.std.specs.Prelude.{MatchOption}
 use Rattle.sqlite.specs.Store.{Ghosts}
-use Rattle.sqlite.specs.Held.{state}
 use Rattle.mbox_items.specs.Division.{Item}
 use Rattle.archive_model.specs.Records.{Archive, Message as Remembered}
 use Rattle.archive_model.specs.Commands.{Command, CommandReply, Refusal}
@@ -36,9 +35,10 @@ use Rattle.archive_store.specs.Refusals.{RowsRefuseAnItem}
 use Rattle.archive_store.specs.Replies.{PerformsModelStep}
 use Rattle.archive_store.specs.State.{state_of}
 use Rattle.archive_store.specs.Told.{DiskHasFailed, EndsUnrefused, EndsWithCause, HoldsTables, RelatesArchivesUnder, RelatesArchivesUnderIfOpen, StaysOpenUnlessDiskFails, CallsStoreUnder}
-use Rattle.archive_store.specs.Walking.{ShowsNext, BeginsOver, GivesNext, PassesNext, PeeksNextMarks, Walk, WalkFailsToBegin, WalksOver, E15MeansNextUnreadable, current_database, walk_over_store}
+use Rattle.archive_store.specs.Walking.{ShowsNext, GivesNext, PassesNext, PeeksNextMarks, Walk, WalkFailsToBegin, WalksOver, E15MeansNextUnreadable, current_database, walk_over_store}
 use Rattle.archive_store.specs.declared.store.Store.{Store}
 use Rattle.archive_store.specs.declared.walking.MessageWalk.{MessageWalk}
+use Rattle.archive_store.proofs.FindLemmas.{blames}
 use Rattle.archive_store.proofs.WalkingLemmas.{passed_next}
 
 module _ {S : Type 0} (g : Ghosts S) where
@@ -51,36 +51,23 @@ module _ {S : Type 0} (g : Ghosts S) where
       sets_no_limit = λ free. it.step_limit_is_same ∙ free;
     }
 
-    pub ends : {A : Type 0} (Cause : Type 0) (result : Result A StoreFault) (reasons : List Refusal)
-        → EndsWithCause g old new Cause result reasons → port.EndsWithCause (state_of g) old new Cause result reasons
-    ends Cause result reasons it = record {
+    -- E15 means this in the words of the layers above
+    pub ends_as : {A : Type 0} (Cause Cause' : Type 0) (implies : Cause → Cause') (result : Result A StoreFault) (reasons : List Refusal)
+        → EndsWithCause g old new Cause result reasons → port.EndsWithCause (state_of g) old new Cause' result reasons
+    ends_as Cause Cause' implies result reasons it = record {
       remains_open = lasts it.remains_open;
       was_open = it.was_open;
       refusal_is_possible = it.refusal_is_possible;
       refusals_counted = it.refusals_counted;
-      fault_has_cause = it.fault_has_cause;
+      fault_has_cause = λ clean held free. blames result implies (it.fault_has_cause clean held free);
     }
+
+    pub ends : {A : Type 0} (Cause : Type 0) (result : Result A StoreFault) (reasons : List Refusal)
+        → EndsWithCause g old new Cause result reasons → port.EndsWithCause (state_of g) old new Cause result reasons
+    ends Cause result reasons it = ends_as Cause Cause (λ cause. cause) result reasons it
 
     pub ends_unrefused : {A : Type 0} (result : Result A StoreFault) → EndsUnrefused g old new result → port.EndsUnrefused (state_of g) old new result
     ends_unrefused result it = record { remains_open = lasts it.remains_open; fault_is_no_refusal = it.fault_is_no_refusal; refusals_counted = it.refusals_counted }
-
-    -- the same, and it means this in the words of the layers above
-    pub ends_as : {A : Type 0} (Cause Cause' : Type 0) (implies : Cause → Cause') (result : Result A StoreFault) (reasons : List Refusal)
-        → EndsWithCause g old new Cause result reasons → port.EndsWithCause (state_of g) old new Cause' result reasons
-    ends_as Cause Cause' implies (Ok a) reasons it = record {
-      remains_open = lasts it.remains_open;
-      was_open = it.was_open;
-      refusal_is_possible = it.refusal_is_possible;
-      refusals_counted = it.refusals_counted;
-      fault_has_cause = λ clean held free. tt;
-    }
-    ends_as Cause Cause' implies (Err fault) reasons it = record {
-      remains_open = lasts it.remains_open;
-      was_open = it.was_open;
-      refusal_is_possible = it.refusal_is_possible;
-      refusals_counted = it.refusals_counted;
-      fault_has_cause = λ clean held free bad. implies (it.fault_has_cause clean held free bad);
-    }
 
     pub refuses_item : (list : List ℕ) (items : List Item) → DiskHasFailed g old new ⊎ RowsRefuseAnItem list items (current_database g new)
         → port.DiskHasFailed (state_of g) old new ⊎ port_adding.RefusesAnItem (state_of g) new list items
@@ -176,15 +163,6 @@ module _ {S : Type 0} (g : Ghosts S) where
       all_are_of_list = it.all_are_of_list;
       peeked_is_of_next = it.gives_remaining.1;
     }
-
-  pub begins : (old : Store S) (list : List ℕ) (which : Archive → List Remembered) (w : Walk S) → BeginsOver g old list which w
-      → port_walking.BeginsOver (state_of g) old list which (told w)
-  begins old list which w it = record {
-    remains_open = lasts old w.store it.remains_open;
-    was_open = it.was_open;
-    refusal_count_grows = it.refusal_count_grows;
-    begins_over_archive = λ clean held. let walk = it.begins_over_archive clean held in (walk.0, walks list _ _ [] w walk.1);
-  }
 
   module _ (old new : Walk S) where
     pub gives_next : (result : Result (Option Message) StoreFault) → GivesNext g old new result → port_walking.GivesNext (state_of g) (told old) (told new) result

@@ -13,14 +13,6 @@ found : {X : Type 0} (b : Bool) (x : X) (o : Option X) (c : Bool) → is_some o 
 found true x o c h = refl
 found false x o c h = h
 
--- ---- lists and what is told of them
-
--- ---- persons
-
--- ---- grants
-
--- ---- messages
-
 pub is_some-find : {X : Type 0} (p : X → Bool) (xs : List X) → is_some (find p xs) ≡ list_any p xs
 is_some-find p [] = refl
 is_some-find p (x ∷ xs) = found (p x) x (find p xs) (list_any p xs) (is_some-find p xs)

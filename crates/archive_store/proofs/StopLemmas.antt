@@ -1,12 +1,12 @@
 -- Messages that are added one after the other: what they make of the rows, and which of them the rows refuse.
-use Rattle.std.proofs.Common.{◌≡◌, ◌≤◌, ◌<◌, ◌⊎◌, ◌∙◌, ◌+◌, ◌-◌, ℕ, suc, inl, inr, List, [], ◌∷◌, ◌++◌, length, get_or, take, drop, None, Result}
-use Rattle.std.proofs.Common.{Ok, Err, IfErr, refl, sym, ap, subst, arith, take-suc, drop-cons, take-append-drop, get_or-drop}
-use Rattle.std.specs.Prelude.{IsErrAnd, IsTrue, OnOk, MatchResult}
+use Rattle.std.proofs.Common.{◌≡◌, ◌≤◌, ◌<◌, ◌⊎◌, ◌∙◌, ◌+◌, ◌-◌, ℕ, suc, inl, inr, List, [], ◌∷◌, ◌++◌, length, get_or, take, drop, None, Result, Ok, Err, IfErr, refl, sym, ap, subst, arith, take-suc}
+use Rattle.std.proofs.Common.{drop-cons, take-append-drop, get_or-drop}
+use Rattle.std.specs.Prelude.{IsErrAnd, IsTrue, MatchResult}
 use Rattle.sqlite_disk.specs.Disk.{MoreFaults}
 use Rattle.sqlite.specs.declared.error.Error.{Error}
 use Rattle.sqlite.specs.Effect.{Database}
 use Rattle.sqlite.specs.Store.{Ghosts}
-use Rattle.sqlite.specs.Held.{Held, state}
+use Rattle.sqlite.specs.Held.{Held}
 use Rattle.sqlite.specs.State.{State, HasCleanDisk}
 use Rattle.mbox_items.specs.Division.{Item}
 use Rattle.archive_model.specs.Records.{Archive}
@@ -18,29 +18,36 @@ use Rattle.archive_store.specs.Replies.{store_fault_of_error}
 use Rattle.archive_store.specs.Refusals.{IsExecutedReply, IsCommandRefused, MakeRows, RowsRefuseAnItem, WritesMessageIfAdded}
 use Rattle.archive_port.specs.declared.faults.StoreFault.{StoreFault}
 use Rattle.archive_port.specs.declared.faults.StoreFault.TheVariants as faults
-use Rattle.archive_store.proofs.CauseLemmas.{by_cause}
+use Rattle.archive_store.proofs.FindLemmas.{by_cause, is_database, blamed_last}
+use Rattle.archive_tables.specs.Statements.{Statement, IsStatementRefused}
+use Rattle.archive_database.specs.Faults.{FailsByDiskOr, as_store_fault}
+use Rattle.archive_database.specs.declared.faults.DatabaseError.{DatabaseError}
+use Rattle.std.proofs.lemmas.Result.{MatchResult-weaker, IfErr-weaker}
 
 -- ---- a question
 
--- outside a transaction
-pub outside : {S A : Type 0} {g : Ghosts S} {old new : Held S} {result : Result A Error} {Says : Archive → A → Type 0} → AnswersOrFailsByFault g old new result Says
-    → AnswersFromDatabase g old new result Says ⊥
-outside {S} {A} {g} {old} {new} {result} {Says} it = record {
-  answer_holds = it.answer_holds;
-  fault_has_cause = λ clean kept free. either result (it.fault_has_cause clean None kept free);
+-- outside a transaction, where what it says means this
+pub outside : {S A : Type 0} {g : Ghosts S} {old new : Held S} {result : Result A Error} {Says Means : Archive → A → Type 0} → AnswersOrFailsByFault g old new result Says
+    → ((a : Archive) (x : A) → Says a x → Means a x) → AnswersFromDatabase g old new result Means ⊥
+outside {result = result} it means = record {
+  answer_holds = λ clean behind held. MatchResult-weaker result (it.answer_holds clean behind held) (λ x says. (means _ x says.0, says.1)) (λ _ rests. rests);
+  fault_has_cause = λ clean kept free. IfErr-weaker result _ _ (λ e why. inl why) (it.fault_has_cause clean None kept free);
   same_database = it.same_database;
   crash_adds_nothing = it.crash_adds_nothing;
   ends_call = it.ends_call;
 }
-  where
-    either : (r : Result A Error) → IfErr r (λ e. IsMemoryOrDiskError (state g old) (state g new) e) → IfErr r (λ e. IsMemoryOrDiskError (state g old) (state g new) e ⊎ ⊥)
-    either (Ok a) why = tt
-    either (Err e) why = inl why
 
 pub blame_disk : {A : Type 0} (old new : State) (told : Result A Error) (fault : StoreFault) → IsErrAnd told (λ e. fault ≡ store_fault_of_error e) → IfErr told (λ e. IsMemoryOrDiskError old new e)
     → fault ≡ faults.Store → MoreFaults old.faults new.faults
-blame_disk old new (Ok a) fault is why it = absurd is
-blame_disk old new (Err e) fault is why it = by_cause old new e why (sym is ∙ it)
+blame_disk {A = A} old new told fault is why = blamed_last told (let r : Result A StoreFault = Err fault in r) _ _ is why (by_cause old new)
+
+pub blame_fault : {A : Type 0} (old new : State) (X : Type 0) (told : Result A DatabaseError) (fault : StoreFault) → IsErrAnd told (λ e. fault ≡ as_store_fault e)
+    → FailsByDiskOr old new told X → fault ≡ faults.Store → MoreFaults old.faults new.faults ⊎ X
+blame_fault old new X (Ok a) fault is why it = absurd is
+blame_fault old new X (Err e) fault is why it = why (is_database e (sym is ∙ it))
+
+pub same_statement : (db : Database) {a b : Statement} → a ≡ b → IsStatementRefused a db → IsStatementRefused b db
+same_statement db is refused = subst (λ st. IsStatementRefused st db) is refused
 
 -- the exit of a `?`
 pub stopped_by : {A : Type 0} (Y : A → Type 0) (r : Result A StoreFault) (f : StoreFault) (X : Type 0) → IsErrAnd r (λ h. h ≡ f) → (f ≡ faults.Store → X)
@@ -51,11 +58,6 @@ stopped_by Y (Err h) f X is why = λ it. why (sym is ∙ it)
 -- what the machine answers is known
 pub carried_as : (o p : StepOutcome) → o ≡ p → IsExecutedReply p.1 → IsExecutedReply o.1
 carried_as o p is so = subst (λ (r : CommandReply). IsExecutedReply r) (sym (ap (λ (x : StepOutcome). x.1) is)) so
-
--- who is answered behind a question sees what was seen before it
-pub same_since : {A E : Type 0} (old mid new : State) (r : Result A E) → mid.now ≡ old.now → OnOk r (new.now ≡ mid.now) → OnOk r (new.now ≡ old.now)
-same_since old mid new (Ok a) before is = is ∙ before
-same_since old mid new (Err e) before is = tt
 
 -- ---- one item more
 

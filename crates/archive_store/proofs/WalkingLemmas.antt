@@ -1,6 +1,6 @@
 -- Walks over the messages of a list.
-use Rattle.std.proofs.Common.{arith, zero, suc, ◌≡◌, ℕ, ℤ, ◌+◌, ◌<◌, ◌≤◌, true, List, [], ◌∷◌, ◌++◌, length, get_or, drop, map, bytes_eq, refl}
-use Rattle.std.proofs.Common.{ap, sym, subst, append_assoc, ◌∙◌, Option, Some, None, Result, Ok, Err, IfErr, ◌⊎◌, inl, inr}
+use Rattle.std.proofs.Common.{◌≡◌, ℕ, ℤ, ◌+◌, ◌<◌, ◌≤◌, true, List, [], ◌∷◌, ◌++◌, length, get_or, drop, map, bytes_eq, refl, append-nil, ap, sym, subst, append_assoc, ◌∙◌, Option, Some, None, Result}
+use Rattle.std.proofs.Common.{Ok, Err, IfErr, ◌⊎◌, inl, inr}
 use Rattle.std.specs.Prelude.{option_map, slice_get, pos, Vec, ◌&&◌, Bool, false, filter, IfSome}
 use Rattle.std.specs.declared.alloc.Global.{Global}
 use Rattle.std.proofs.lemmas.Option.{slice_get_cases, slice_get_within, get_or_from_slice_get}
@@ -8,14 +8,13 @@ use Rattle.std.specs.List.{All, AllByRecursion}
 use Rattle.std.specs.Option.{IsSomeAnd}
 use Rattle.std.specs.Ordering.{int_eq}
 use Rattle.std.proofs.lemmas.Bool.{cases_Bool}
-use Rattle.std.proofs.lemmas.List.{drop_more, drop_all, map-append}
+use Rattle.std.proofs.lemmas.List.{append_cancel_left, drop_more, drop_all, map-append}
 use Rattle.std.proofs.lemmas.Slice.Eq.{bytes_eq-Decides}
 use Rattle.archive_model.specs.Records.{Message, Archive}
 use Rattle.archive_model.specs.Commands.{Refusal}
-use Rattle.archive_model.specs.Questions.{list_refusal, messages_in}
+use Rattle.archive_model.specs.Questions.{list_refusal}
 use Rattle.archive_model.specs.Messages.{archived_message}
-use Rattle.archive_model.specs.Filing.{IndexedMessage, indexed_messages, is_sent_before, insert_by_indexed_date}
-use Rattle.archive_model.specs.Filing.{sort_by_indexed_date, is_indexed_in_month, is_indexed_by_author, messages_in_month, messages_by_author}
+use Rattle.archive_model.specs.Filing.{IndexedMessage, indexed_messages, is_sent_before, insert_by_indexed_date, sort_by_indexed_date}
 use Rattle.archive_model.specs.declared.messages.Message.{Message as Given}
 use Rattle.sqlite.specs.Effect.{Database}
 use Rattle.sqlite.specs.Tree.{Trees}
@@ -32,14 +31,13 @@ use Rattle.archive_tables.proofs.FiledLemmas.{walked_month, walked_author}
 use Rattle.archive_port.specs.Replies.{refusal_of_fault}
 use Rattle.archive_store.specs.Replies.{AnswersStoreQuestion}
 use Rattle.archive_store.specs.Held.{store_connection}
-use Rattle.archive_store.specs.Told.{HoldsTables, StoreHasCleanDisk, HadCleanDisk, E15MeansDiskFailedOr, EndsQuestion, EndsQuestionOrUnreadable, EndsUnrefused, archive_in as now_holds}
+use Rattle.archive_store.specs.Told.{HoldsTables, StoreHasCleanDisk, HadCleanDisk, EndsQuestion, EndsQuestionOrUnreadable, EndsUnrefused, archive_in as now_holds}
 use Rattle.archive_port.specs.Wanting.{IsMemoryRefusal}
-use Rattle.archive_store.proofs.CauseLemmas.{more_since}
-use Rattle.archive_store.proofs.FollowLemmas.{when_ok}
-use Rattle.archive_store.proofs.PassLemmas.{kind_last}
+use Rattle.archive_store.proofs.AskLemmas.{ends_with}
+use Rattle.archive_store.proofs.FindLemmas.{blames, more_since, when_ok, kind_last}
 use Rattle.archive_port.proofs.WantLemmas.{raises_after}
-use Rattle.archive_store.specs.Walking.{Walk, WalksOn, WalksOver, BeginsOver, GivesAll, E15MeansSomeUnreadable, IsRowOfFirst, PassesNext}
-use Rattle.archive_store.specs.Walking.{remaining_numbers, current_database, walk_over_store, current_rows, selected_numbers}
+use Rattle.archive_store.specs.Walking.{Walk, WalksOn, WalksOver, BeginsOver, GivesAll, E15MeansSomeUnreadable, IsRowOfFirst, PassesNext, remaining_numbers, current_database, walk_over_store}
+use Rattle.archive_store.specs.Walking.{current_rows, selected_numbers}
 use Rattle.archive_port.specs.Walking.{selected_messages}
 use Rattle.archive_port.specs.declared.walking.Selection.{Selection}
 use Rattle.archive_port.specs.declared.walking.Selection.TheVariants.{Every, InMonth, ByAuthor}
@@ -47,29 +45,22 @@ use Rattle.archive_store.specs.declared.walking.MessageWalk.{MessageWalk}
 use Rattle.archive_store.specs.declared.store.Store.{Store}
 use Rattle.archive_port.specs.declared.faults.StoreFault.{StoreFault}
 
-some_is : {A : Type 0} {x y : A} → Some x ≡ Some y → x ≡ y
-some_is e = cc
-
 -- the next number is that of the next message
-pub next_is : (f : ℤ → Option Message) (places : List ℤ) (at : ℕ) (d : ℤ) (left : List Message) → map f (drop at places) ≡ map Some left → at < length places
-    → (m : Message) × (rest : List Message) × (left ≡ m ∷ rest) × (f (get_or places at d) ≡ Some m) × (map f (drop (at + 1) places) ≡ map Some rest)
-next_is f places at d left ahead within = go left (sym (ap (map f) (drop_more places at d within)) ∙ ahead)
+pub next_is : {X : Type 0} (f : ℤ → Option X) (places : List ℤ) (at : ℕ) (d : ℤ) (left : List X) → map f (drop at places) ≡ map Some left → at < length places
+    → (m : X) × (rest : List X) × (left ≡ m ∷ rest) × (f (get_or places at d) ≡ Some m) × (map f (drop (at + 1) places) ≡ map Some rest)
+next_is {X} f places at d left ahead within = go left (sym (ap (map f) (drop_more places at d within)) ∙ ahead)
   where
-    go : (left : List Message) → f (get_or places at d) ∷ map f (drop (at + 1) places) ≡ map Some left
-        → (m : Message) × (rest : List Message) × (left ≡ m ∷ rest) × (f (get_or places at d) ≡ Some m) × (map f (drop (at + 1) places) ≡ map Some rest)
+    go : (left : List X) → f (get_or places at d) ∷ map f (drop (at + 1) places) ≡ map Some left
+        → (m : X) × (rest : List X) × (left ≡ m ∷ rest) × (f (get_or places at d) ≡ Some m) × (map f (drop (at + 1) places) ≡ map Some rest)
     go [] is = absurd cc
     go (m ∷ rest) is = (m, rest, refl, cc, cc)
 
-nothing_ahead : (f : ℤ → Option Message) (places : List ℤ) (at : ℕ) (left : List Message) → map f (drop at places) ≡ map Some left → length places ≤ at → left ≡ []
-nothing_ahead f places at left ahead past = go left (sym (ap (map f) (drop_all at places past)) ∙ ahead)
+pub nothing_ahead : {X : Type 0} (f : ℤ → Option X) (places : List ℤ) (at : ℕ) (left : List X) → map f (drop at places) ≡ map Some left → length places ≤ at → left ≡ []
+nothing_ahead {X} f places at left ahead past = go left (sym (ap (map f) (drop_all at places past)) ∙ ahead)
   where
-    go : (left : List Message) → [] ≡ map Some left → left ≡ []
+    go : (left : List X) → [] ≡ map Some left → left ≡ []
     go [] is = refl
     go (m ∷ rest) is = absurd cc
-
-pub nothing_more : {A : Type 0} (xs : List A) → xs ++ [] ≡ xs
-nothing_more [] = refl
-nothing_more (x ∷ xs) = ap (λ ys. x ∷ ys) (nothing_more xs)
 
 -- those behind the next
 behind_first : (f : ℤ → Option Message) (places : List ℤ) (next : Message) (rest : List Message) → map f places ≡ map Some (next ∷ rest) → map f (drop 1 places) ≡ map Some rest
@@ -77,16 +68,6 @@ behind_first f [] next rest is = absurd cc
 behind_first f (p ∷ places) next rest is = cc
 
 -- the numbers behind one that is passed by
-drop_suc : (places : List ℤ) (at : ℕ) → drop (suc at) places ≡ drop 1 (drop at places)
-drop_suc places zero = refl
-drop_suc [] (suc at) = refl
-drop_suc (p ∷ places) (suc at) = drop_suc places at
-
-pub drop_next : (places : List ℤ) (at : ℕ) → drop (at + 1) places ≡ drop 1 (drop at places)
-drop_next places at =
-    let is : at + 1 ≡ suc at = omega (arith) in
-    ap (λ n. drop n places) is ∙ drop_suc places at
-
 pub drop_none : (places : List ℤ) (at : ℕ) → length places ≤ at → drop at places ≡ drop 1 (drop at places)
 drop_none places at past = drop_all at places past ∙ sym (ap (drop 1) (drop_all at places past))
 
@@ -94,16 +75,7 @@ drop_none places at past = drop_all at places past ∙ sym (ap (drop 1) (drop_al
 pub all_given : (f : ℤ → Option Message) (places : List ℤ) (at : ℕ) (given left all : List Message) → map f (drop at places) ≡ map Some left → given ++ left ≡ all
     → length places ≤ at → given ≡ all
 all_given f places at given left all ahead joined past =
-    sym (nothing_more given) ∙ ap (λ rest. given ++ rest) (sym (nothing_ahead f places at left ahead past)) ∙ joined
-
-pub one_more : {A : Type 0} (given : List A) (x : A) (rest : List A) → (given ++ x ∷ []) ++ rest ≡ given ++ x ∷ rest
-one_more [] x rest = refl
-one_more (g ∷ given) x rest = ap (λ xs. g ∷ xs) (one_more given x rest)
-
--- what comes behind the same is the same
-same_behind : {A : Type 0} (given xs ys : List A) → given ++ xs ≡ given ++ ys → xs ≡ ys
-same_behind [] xs ys is = is
-same_behind (g ∷ given) xs ys is = same_behind given xs ys (cc)
+    sym (append-nil given) ∙ ap (λ rest. given ++ rest) (sym (nothing_ahead f places at left ahead past)) ∙ joined
 
 -- the message whose marks were shown, and none where none were
 pub marks_held : (found : Option Message) (row : DatedMarksRow) → Some row ≡ option_map decoded_dated_marks found → (m : Message) × (found ≡ Some m) × (row ≡ decoded_dated_marks m)
@@ -133,9 +105,6 @@ kept_of_list list (m ∷ ms) = elim (cases_Bool (bytes_eq m.list list)) [
   | inl kept ↦ rw kept (kept, kept_of_list list ms)
   | inr dropped ↦ rw dropped (kept_of_list list ms)
 ]
-
-mailbox_of_list : (list : List ℕ) (a : Archive) → AreOfList list (messages_in a list)
-mailbox_of_list list a = kept_of_list list a.messages
 
 -- the same of what is filed
 
@@ -168,21 +137,15 @@ messages_of_list : (list : List ℕ) (fs : List IndexedMessage) → AreFiledOf l
 messages_of_list list [] all = tt
 messages_of_list list (f ∷ fs) all = (all.0, messages_of_list list fs all.1)
 
-month_of_list : (list : List ℕ) (month : ℤ) (a : Archive) → AreOfList list (messages_in_month a list month)
-month_of_list list month a =
-    messages_of_list list (sort_by_indexed_date (filter (is_indexed_in_month list month) (indexed_messages a)))
-    (sorted_of_list list (filter (is_indexed_in_month list month) (indexed_messages a)) (wanted_of_list list (λ (f : IndexedMessage). int_eq f.1.month month) (indexed_messages a)))
-
-author_of_list : (list key : List ℕ) (a : Archive) → AreOfList list (messages_by_author a list key)
-author_of_list list key a =
-    messages_of_list list (sort_by_indexed_date (filter (is_indexed_by_author list key) (indexed_messages a)))
-    (sorted_of_list list (filter (is_indexed_by_author list key) (indexed_messages a)) (wanted_of_list list (λ (f : IndexedMessage). bytes_eq f.1.author key) (indexed_messages a)))
+filed_of_list : (list : List ℕ) (test : IndexedMessage → Bool) (a : Archive)
+    → AreOfList list (map (λ (f : IndexedMessage). f.0) (sort_by_indexed_date (filter (λ (f : IndexedMessage). bytes_eq f.0.list list && test f) (indexed_messages a))))
+filed_of_list list test a = messages_of_list list _ (sorted_of_list list _ (wanted_of_list list test (indexed_messages a)))
 
 -- whichever they are
 pub selected_of_list : (list : List ℕ) (which : Selection) (a : Archive) → AreOfList list (selected_messages a list which)
-selected_of_list list Every a = mailbox_of_list list a
-selected_of_list list (InMonth month) a = month_of_list list (pos month) a
-selected_of_list list (ByAuthor key) a = author_of_list list key.now a
+selected_of_list list Every a = kept_of_list list a.messages
+selected_of_list list (InMonth month) a = filed_of_list list (λ (f : IndexedMessage). int_eq f.1.month (pos month)) a
+selected_of_list list (ByAuthor key) a = filed_of_list list (λ (f : IndexedMessage). bytes_eq f.1.author key.now) a
 
 pub selected_shown : (list : List ℕ) (which : Selection) (trees : Trees) → AreArchiveTables trees
     → map (message_at trees) (selected_numbers trees list which) ≡ map Some (selected_messages (archive_in_trees trees) list which)
@@ -233,15 +196,15 @@ module _ {S : Type 0} (g : Ghosts S) (list : List ℕ) (all : List Message) (a :
 
   -- the walk is where it was, and holds no row
   pub without_row : (old : Walk S) (new : Store S) → WalksOver g list all a given old → current_database g new ≡ current_database g old.store → HoldsTables g new
-      → WalksOn g list all a given (store_connection new) (remaining_numbers old.walk) None
-  without_row old new w now held = record {
+      → {peeked : Option MessageRow} → peeked ≡ None → WalksOn g list all a given (store_connection new) (remaining_numbers old.walk) peeked
+  without_row old new w now held none = record {
     is_archive_at_rest = held;
     archive_is = ap (λ (d : Database). archive_in_trees d.trees) now ∙ w.archive_is;
     remaining = w.remaining;
     numbers_give_remaining = ap (λ (d : Database). map (message_at d.trees) (remaining_numbers old.walk)) now ∙ w.numbers_give_remaining;
     given_and_remaining = w.given_and_remaining;
     all_are_of_list = w.all_are_of_list;
-    peeked_is_of_next = tt;
+    peeked_is_of_next = subst (λ o. IfSome o (λ row. IsRowOfFirst list row w.remaining)) (sym none) tt;
   }
 
   -- the row that the store shows is that of the next message, and so is one that was peeked at
@@ -251,7 +214,7 @@ module _ {S : Type 0} (g : Ghosts S) (list : List ℕ) (all : List Message) (a :
       let n = next_is (message_at (current_rows g old.store)) old.walk.places.items old.walk.at place w.remaining w.numbers_give_remaining
       (slice_get_within old.walk.places.items old.walk.at place some) in
       let found = ap (message_at (current_rows g old.store)) (get_or_from_slice_get old.walk.places.items old.walk.at place place some) ∙ shown.1 in
-      let same : shown.0 ≡ n.0 = some_is (sym found ∙ n.3) in
+      let same : shown.0 ≡ n.0 = (let both = sym found ∙ n.3 in cc) in
       let joined : given ++ n.0 ∷ n.1 ≡ all = ap (λ l. given ++ l) (sym n.2) ∙ w.given_and_remaining in
       let of_list : shown.0.list ≡ list = ap (λ (x : Message). x.list) same ∙ is_of_list list given n.1 all n.0 w.all_are_of_list joined in
       (n.0, n.1, joined, ap (λ l. message_from_result_row l row) (sym of_list) ∙ shown.2 ∙ same)
@@ -265,7 +228,7 @@ module _ {S : Type 0} (g : Ghosts S) (list : List ℕ) (all : List Message) (a :
   pub with_row : (old : Walk S) (row : MessageRow) → WalksOver g list all a given old → IsRowOfNext row
       → WalksOn g list all a given (store_connection old.store) (remaining_numbers old.walk) (Some row)
   with_row old row w next =
-      let left : w.remaining ≡ next.0 ∷ next.1 = same_behind given w.remaining (next.0 ∷ next.1) (w.given_and_remaining ∙ sym next.2) in
+      let left : w.remaining ≡ next.0 ∷ next.1 = append_cancel_left given w.remaining (next.0 ∷ next.1) (w.given_and_remaining ∙ sym next.2) in
       record {
         is_archive_at_rest = w.is_archive_at_rest;
         archive_is = w.archive_is;
@@ -280,14 +243,14 @@ module _ {S : Type 0} (g : Ghosts S) (list : List ℕ) (all : List Message) (a :
   pub passed_next : (store : Store S) (old new : MessageWalk) (next : Message) (rest : List Message) → WalksOver g list all a given (walk_over_store store old) → given ++ next ∷ rest ≡ all
       → PassesNext old new → WalksOver g list all a (given ++ next ∷ []) (walk_over_store store new)
   passed_next store old new next rest w is passed =
-      let left : w.remaining ≡ next ∷ rest = same_behind given w.remaining (next ∷ rest) (w.given_and_remaining ∙ sym is) in
+      let left : w.remaining ≡ next ∷ rest = append_cancel_left given w.remaining (next ∷ rest) (w.given_and_remaining ∙ sym is) in
       record {
         is_archive_at_rest = w.is_archive_at_rest;
         archive_is = w.archive_is;
         remaining = rest;
         numbers_give_remaining = ap (map (message_at (current_rows g store))) passed.0 ∙ behind_first (message_at (current_rows g store)) (remaining_numbers old) next rest
             (w.numbers_give_remaining ∙ ap (map Some) left);
-        given_and_remaining = one_more given next rest ∙ is;
+        given_and_remaining = append_assoc given (next ∷ []) rest ∙ is;
         all_are_of_list = w.all_are_of_list;
         peeked_is_of_next = subst (λ o. IfSome o (λ row. IsRowOfFirst list row rest)) (sym passed.1) tt;
       }
@@ -324,23 +287,14 @@ unread_next g list all a given walk place w some X (inr bad) =
     ap (message_at (current_rows g walk.store)) (sym (get_or_from_slice_get walk.walk.places.items walk.walk.at place place some)) ∙ n.3 in
     inr (n.0, n.1, ap (λ l. given ++ l) (sym n.2) ∙ w.given_and_remaining, λ good. bad (subst (λ o. IsSomeAnd o IsReadable) (sym here) good))
 
-pub rows_caused : {S : Type 0} (g : Ghosts S) (old : Store S) (walk new : Walk S) (list : List ℕ) (all : Archive → List Message) (r : Result (Vec Given Global) StoreFault)
-    → BeginsOver g old list all walk → HadCleanDisk g walk.store new.store → E15MeansSomeUnreadable g walk new r → E15MeansDiskFailedOr g old new.store r (λ a. ¬ All IsReadable (all a))
-rows_caused g old walk new list all (Ok found) begun was stops = λ returned held free. tt
-rows_caused g old walk new list all (Err fault) begun was stops = λ returned held free it.
-    let b = begun.begins_over_archive (was returned) held in
-    elim (stops returned list (all (now_holds g old)) (now_holds g old) [] b.1 (begun.remains_open.step_limit_is_same ∙ free) it) [
-      | inl more ↦ inl (more_since (state g (store_connection old)) (state g (store_connection walk.store)) (state g (store_connection new.store)) begun.remains_open more)
-      | inr bad ↦ inr bad
-    ]
-
 pub rows_ends : {S : Type 0} (g : Ghosts S) (old : Store S) (walk new : Walk S) (list : List ℕ) (all : Archive → List Message) (r : Result (Vec Given Global) StoreFault)
     → BeginsOver g old list all walk → EndsUnrefused g walk.store new.store r → E15MeansSomeUnreadable g walk new r → (reasons : List Refusal)
     → EndsQuestionOrUnreadable g old new.store r reasons (λ a. ¬ All IsReadable (all a))
-rows_ends g old walk new list all r begun ends stops reasons = record {
-  remains_open = lasts_then _ _ _ begun.remains_open ends.remains_open;
-  was_open = λ returned. when_ok r _ (begun.was_open (ends.remains_open.disk_was_clean returned));
-  refusal_is_possible = kind_last r reasons ends.fault_is_no_refusal;
-  refusals_counted = raises_after IsMemoryRefusal _ _ _ r begun.refusal_count_grows ends.refusals_counted;
-  fault_has_cause = rows_caused g old walk new list all r begun ends.remains_open.disk_was_clean stops;
-}
+rows_ends g old walk new list all r begun ends stops reasons =
+    ends_with (lasts_then _ _ _ begun.remains_open ends.remains_open) (λ returned. when_ok r _ (begun.was_open (ends.remains_open.disk_was_clean returned)))
+    (kind_last r reasons ends.fault_is_no_refusal) (raises_after IsMemoryRefusal _ _ _ r begun.refusal_count_grows ends.refusals_counted) (λ returned held free.
+    let b = begun.begins_over_archive (ends.remains_open.disk_was_clean returned) held in
+    blames r (λ why. elim why [
+      | inl more ↦ inl (more_since (state g (store_connection old)) (state g (store_connection walk.store)) (state g (store_connection new.store)) begun.remains_open more)
+      | inr bad ↦ inr bad
+    ]) (stops returned list (all (now_holds g old)) (now_holds g old) [] b.1 (begun.remains_open.step_limit_is_same ∙ free)))

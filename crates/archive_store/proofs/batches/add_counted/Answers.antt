@@ -1,20 +1,14 @@
-use Rattle.std.proofs.Common.{sym, ◌∙◌}
+use Rattle.std.proofs.Common.{sym, ◌∙◌, ap, subst, inl, inr, refl}
 use Rattle.std.proofs.lemmas.Result.{err_from_is_err_and}
 use Rattle.sqlite.specs.Held.{state}
-use Rattle.archive_tables.proofs.EndLemmas.{archive_stays, rests_behind}
+use Rattle.archive_tables.proofs.EndLemmas.{rests_behind}
 use Rattle.archive_tables.proofs.RunLemmas.{on_fault}
-use Rattle.archive_store.proofs.BatchLemmas.{known_over, full_over, new_over, none_of}
-use Rattle.std.proofs.Common.{ap, subst, inl, inr, refl}
-use Rattle.archive_model.specs.Machine.{StepOutcome, with_message_under_key}
-use Rattle.archive_tables.specs.Crashes.{IsArchiveStored}
-use Rattle.archive_store.proofs.BatchLemmas.{new_is}
+use Rattle.archive_store.proofs.BatchLemmas.{known_over, full_over, new_over, none_of, new_is, new_crash}
 use Rattle.archive_model.specs.Keys.{item_key}
 use Rattle.archive_tables.specs.Statements.{IsStatementRefused, StatementExecutesTo}
 use Rattle.archive_database.specs.Taking.{insert_item_statement}
-use Rattle.archive_store.proofs.CauseLemmas.{more_since}
-use Rattle.archive_store.proofs.PassLemmas.{saw_same}
-use Rattle.archive_store.proofs.StopLemmas.{blame_disk, carried_as, stopped_by}
-use Rattle.archive_store.proofs.EndLemmas.{blame_fault, same_statement}
+use Rattle.archive_store.proofs.FindLemmas.{more_since, saw_same}
+use Rattle.archive_store.proofs.StopLemmas.{blame_disk, carried_as, stopped_by, blame_fault, same_statement}
 use Rattle.archive_store.proofs.batches.add_counted.Goals as goal
 
 pub returns-in_err-pass-clause-step : goal.returns-in_err-pass-clause-step
@@ -128,36 +122,16 @@ returns-then-count-clause-crash g c = λ behind held n clean db may. inl (c.has_
 
 pub returns-in_err-pass_fault-clause-crash : goal.returns-in_err-pass_fault-clause-crash
 returns-in_err-pass_fault-clause-crash g c = λ behind held n clean db may.
-    let list = c.args.list.now in
-    let item = c.args.item.now in
-    let old = state g.S.Store c.args.store.now.conn in
-    let mid = state g.S.Store c.has_message-known.new.conn in
-    let k = c.as_str.result.now in
-    let asked = rw c.in_ok-pass.ensures.passed at (c.has_message-known.ensures.answer_holds (c.insert_message-taken.ensures.ends.remains_open.disk_was_clean clean) behind held) in
-    let none = sym c.if-branch.false ∙ asked.0 in
-    let absent = none_of old mid list k c.of-key.result c.as_str.ensures none asked.1.1 in
-    let is = new_is behind old (state g.S.Store c.insert_message-taken.new.conn) list item c.args.count.now n k c.if-is_too_large.ensures c.of-key.result c.as_str.ensures
-    c.of-key.ensures none c.if-count.false in
-    let made = ap (λ a. with_message_under_key a list c.of-key.result item) (archive_stays asked.1.1) ∙ ap (λ (o : StepOutcome). o.0) (sym is) in
-    elim (c.insert_message-taken.ensures.crash behind asked.1.0 absent clean db may) [
-      | inl earlier ↦ inl (c.has_message-known.ensures.crash_adds_nothing (c.insert_message-taken.ensures.ends.remains_open.disk_was_clean clean) db earlier)
-      | inr it ↦ inr (it.0, subst (λ a. IsArchiveStored a db) made it.1)
-    ]
+    let was = c.insert_message-taken.ensures.ends.remains_open.disk_was_clean in
+    let asked = rw c.in_ok-pass.ensures.passed at (c.has_message-known.ensures.answer_holds (was clean) behind held) in
+    new_crash g.S.Store c.args.store.now.conn c.has_message-known.new.conn c.insert_message-taken.new.conn behind c.args.list.now c.args.item.now c.args.count.now n
+    c.as_str.result.now c.of-key.result c.if-is_too_large.ensures c.as_str.ensures c.of-key.ensures (sym c.if-branch.false ∙ asked.0) c.if-count.false asked.1
+    c.has_message-known.ensures.crash_adds_nothing was c.insert_message-taken.ensures.crash clean db may
 
 pub returns-clause-crash : goal.returns-clause-crash
 returns-clause-crash g c = λ behind held n clean db may.
-    let list = c.args.list.now in
-    let item = c.args.item.now in
-    let old = state g.S.Store c.args.store.now.conn in
-    let mid = state g.S.Store c.has_message-known.new.conn in
-    let k = c.as_str.result.now in
-    let asked = rw c.in_ok-pass.ensures.passed at (c.has_message-known.ensures.answer_holds (c.insert_message-taken.ensures.ends.remains_open.disk_was_clean clean) behind held) in
-    let none = sym c.if-branch.false ∙ asked.0 in
-    let absent = none_of old mid list k c.of-key.result c.as_str.ensures none asked.1.1 in
-    let is = new_is behind old (state g.S.Store c.insert_message-taken.new.conn) list item c.args.count.now n k c.if-is_too_large.ensures c.of-key.result c.as_str.ensures
-    c.of-key.ensures none c.if-count.false in
-    let made = ap (λ a. with_message_under_key a list c.of-key.result item) (archive_stays asked.1.1) ∙ ap (λ (o : StepOutcome). o.0) (sym is) in
-    elim (c.insert_message-taken.ensures.crash behind asked.1.0 absent clean db may) [
-      | inl earlier ↦ inl (c.has_message-known.ensures.crash_adds_nothing (c.insert_message-taken.ensures.ends.remains_open.disk_was_clean clean) db earlier)
-      | inr it ↦ inr (it.0, subst (λ a. IsArchiveStored a db) made it.1)
-    ]
+    let was = c.insert_message-taken.ensures.ends.remains_open.disk_was_clean in
+    let asked = rw c.in_ok-pass.ensures.passed at (c.has_message-known.ensures.answer_holds (was clean) behind held) in
+    new_crash g.S.Store c.args.store.now.conn c.has_message-known.new.conn c.insert_message-taken.new.conn behind c.args.list.now c.args.item.now c.args.count.now n
+    c.as_str.result.now c.of-key.result c.if-is_too_large.ensures c.as_str.ensures c.of-key.ensures (sym c.if-branch.false ∙ asked.0) c.if-count.false asked.1
+    c.has_message-known.ensures.crash_adds_nothing was c.insert_message-taken.ensures.crash clean db may

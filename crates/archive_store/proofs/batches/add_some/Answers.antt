@@ -1,4 +1,4 @@
-use Rattle.std.proofs.Common.{◌≡◌, ◌<◌, ◌+◌, ◌-◌, ◌∙◌, ap, get_or, length, take, drop, length-drop, arith, refl, subst, Some, inl, inr}
+use Rattle.std.proofs.Common.{◌≡◌, ◌<◌, ◌+◌, ◌-◌, ◌∙◌, ap, get_or, length, take, drop, length-drop, arith, refl, rules, subst, Some, inl, inr}
 use Rattle.sqlite.specs.Held.{state}
 use Rattle.archive_model.specs.Commands.{taken_in, already_known, refused, too_large}
 use Rattle.archive_model.specs.Runs.{taken}
@@ -9,7 +9,7 @@ use Rattle.archive_port.specs.Adding.{reported_count, tally_of_report}
 use Rattle.archive_store.proofs.BatchLemmas.{one_taken, none_taken, held_or_back, told_new, told_known, told_too_large}
 use Rattle.archive_tables.specs.Tables.{archive_of}
 use Rattle.archive_store.specs.Refusals.{MakeRows}
-use Rattle.archive_store.proofs.CauseLemmas.{more_since, passed_on}
+use Rattle.archive_store.proofs.FindLemmas.{more_since, passed_on}
 use Rattle.archive_store.proofs.StopLemmas.{among_later, no_rows, rows_next, stops_there}
 use Rattle.archive_store.proofs.batches.add_some.Goals.{in-New, in-Known, in-TooLarge}
 use Rattle.archive_tables.proofs.LastLemmas.{lasts_then, lasts_same}
@@ -138,11 +138,10 @@ returns-in_err-add_counted-clause-ends g c = record {
 }
 
 pub returns-clause-ends : goal.returns-clause-ends
-returns-clause-ends g c = record {
-  remains_open = c.loop-at.invariant.5;
-  refusals_counted = (c.loop-at.invariant.6, tt);
-  fault_has_cause = λ db clean free a from. tt;
-}
+returns-clause-ends g c =
+    let lasts = c.loop-at.invariant.5 in
+    let counted = c.loop-at.invariant.6 in
+    search rules
 
 -- ---- what a stop leaves
 

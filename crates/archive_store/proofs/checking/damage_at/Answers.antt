@@ -3,8 +3,7 @@ use Rattle.std.specs.Prelude.{slice_get, option_map}
 use Rattle.std.proofs.lemmas.Int.{to_z-of_z}
 use Rattle.archive_tables.specs.Listed.{indexed_result_row}
 use Rattle.archive_tables.proofs.RunLemmas.{on_fault}
-use Rattle.archive_store.proofs.CauseLemmas.{passed_on}
-use Rattle.archive_store.proofs.FindLemmas.{blames_disk, blames_read, finds_read, not_both, passed_rows, passed_no_rows}
+use Rattle.archive_store.proofs.FindLemmas.{passed_on, blames_disk, blames_read, finds_read, not_both, passed_rows, passed_no_rows}
 use Rattle.archive_store.proofs.checking.damage_at.Goals as goal
 
 some_is : {A : Type 0} {x y : A} → Some x ≡ Some y → x ≡ y

@@ -1,7 +1,6 @@
 use Rattle.std.proofs.Common.{Err, ◌∙◌}
 use Rattle.archive_tables.proofs.RunLemmas.{on_fault}
-use Rattle.archive_store.proofs.CauseLemmas.{passed_on}
-use Rattle.archive_store.proofs.FindLemmas.{blames_disk, blames_read, finds_read, not_both, passed_rows, passed_no_rows}
+use Rattle.archive_store.proofs.FindLemmas.{passed_on, blames_disk, blames_read, finds_read, not_both, passed_rows, passed_no_rows}
 use Rattle.archive_store.proofs.checking.find_all_places.Goals as goal
 
 pub returns-in_err-shown-clause-found : goal.returns-in_err-shown-clause-found

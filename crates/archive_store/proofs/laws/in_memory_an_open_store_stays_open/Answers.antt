@@ -1,4 +1,4 @@
-use Rattle.archive_store.proofs.FollowLemmas.{memory_stays_open}
+use Rattle.archive_store.proofs.AdoptLemmas.{memory_stays_open}
 use Rattle.archive_store.proofs.laws.in_memory_an_open_store_stays_open.Goals as goal
 
 pub returns : goal.returns

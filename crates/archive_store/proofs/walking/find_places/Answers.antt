@@ -1,23 +1,22 @@
-use Rattle.std.proofs.Common.{rules, ◌∷◌, [], Err, ◌∙◌, sym, ap}
+use Rattle.std.proofs.Common.{rules, ◌∙◌, sym, ap}
 use Rattle.sqlite.specs.Effect.{Database}
 use Rattle.sqlite.specs.Held.{state}
-use Rattle.archive_model.specs.Commands.{no_list}
 use Rattle.archive_tables.specs.Tables.{archive_in_trees, archive_of}
-use Rattle.archive_tables.proofs.LastLemmas.{lasts_then}
 use Rattle.archive_store.specs.Walking.{selected_numbers}
-use Rattle.archive_store.proofs.FollowLemmas.{when_ok}
-use Rattle.archive_store.proofs.ReadingLemmas.{is_there}
-use Rattle.archive_store.proofs.CauseLemmas.{passed_on, more_since}
-use Rattle.archive_store.proofs.FindLemmas.{ends_first, answers_read, blames_disk, blames_read, finds_read, no_reason_of, not_both, not_there, passed_rows, passed_no_rows, rests_of, stops}
+use Rattle.archive_store.proofs.AskLemmas.{asks, asks_list, begins, counts_later, fails, fails_ends, fails_list, of_rows}
+use Rattle.archive_store.proofs.FindLemmas.{answers_read, blames_read, finds_read, not_both, not_there, passed_rows, stops, when_ok, is_there}
 use Rattle.archive_store.proofs.walking.find_places.Goals as goal
 
--- ---- what it leaves where it finds none
+-- ---- where it finds none
 
-pub returns-in_err-has_list-clause-refused : goal.returns-in_err-has_list-clause-refused
-returns-in_err-has_list-clause-refused g c =
-    let none = no_reason_of c.in_err-has_list.field-0.0 c.in_err-has_list.ensures.ends.refusal_is_possible in
-    stops c.from_residual.result c.in_err-has_list.field-0.0 c.from_residual.ensures.1 none _ _
-    (c.has_list.ensures.ends.remains_open, (λ returned kept up. rests_of c.in_err-has_list.field-0.0 _ none (c.in_err-has_list.ensures.answer returned kept) up))
+pub returns-in_err-has_list : goal.returns-in_err-has_list
+returns-in_err-has_list g c =
+    let stop = fails_list g.S.Store c.args.list.now c.in_err-has_list.field-0.0 c.in_err-has_list.ensures.ends c.in_err-has_list.ensures.answer (begins g.S.Store c.args.store.now.conn) in record {
+      refused = stops c.from_residual.result c.in_err-has_list.field-0.0 c.from_residual.ensures.1 stop.none _ _ (stop.lasts, stop.over);
+      found = search rules;
+      ends = fails_ends g.S.Store stop c.in_err-has_list.ensures.ends.refusals_counted c.from_residual.result c.from_residual.ensures.1 (λ more. more) _;
+      writes_nothing = search rules;
+    }
 
 pub returns-then-not-branch-clause-refused : goal.returns-then-not-branch-clause-refused
 returns-then-not-branch-clause-refused g c = (
@@ -27,25 +26,23 @@ returns-then-not-branch-clause-refused g c = (
       (has.0.0, (has.0.1, not_there c.args.list.now (archive_of (state g.S.Store c.args.store.now.conn)) (sym c.if-not-branch.true ∙ has.2)))),
 )
 
-pub returns-in_err-shown-clause-refused : goal.returns-in_err-shown-clause-refused
-returns-in_err-shown-clause-refused g c =
-    stops c.from_residual-in_err-shown.result c.in_err-shown.field-0.0 c.from_residual-in_err-shown.ensures.1 c.in_err-shown.ensures.kind _ _ (
-      lasts_then _ _ _ c.has_list.ensures.ends.remains_open c.show_places.ensures.ends_call.remains_open,
-      (λ returned kept up.
-          let has = c.in_ok-has_list.ensures.answer (c.show_places.ensures.ends_call.remains_open.disk_was_clean returned) kept in
-          let shown = passed_no_rows _ _ c.show_places.ensures c.in_err-shown.ensures.passed returned has.0.0 up in
-          (shown.1, ap (λ (d : Database). archive_in_trees d.trees) shown.0 ∙ has.0.1)),
-    )
+pub returns-in_err-shown : goal.returns-in_err-shown
+returns-in_err-shown g c =
+    let listed = asks_list g.S.Store (begins g.S.Store c.args.store.now.conn) c.has_list.new.self.conn c.args.list.now _ c.in_ok-has_list.ensures.answer c.has_list.ensures.ends.remains_open in
+    let stop = fails g.S.Store listed c.in_err-shown.field-0.0 (of_rows g.S.Store c.show_places.ensures) c.in_err-shown.ensures.passed c.in_err-shown.ensures.kind in record {
+      refused = stops c.from_residual-in_err-shown.result c.in_err-shown.field-0.0 c.from_residual-in_err-shown.ensures.1 stop.none _ _ (stop.lasts, stop.over);
+      found = search rules;
+      ends = fails_ends g.S.Store stop (counts_later c.in_ok-has_list.ensures.ends.refusals_counted.0 c.in_err-shown.ensures.counted.0)
+          c.from_residual-in_err-shown.result c.from_residual-in_err-shown.ensures.1 (λ more. more) _;
+      writes_nothing = search rules;
+    }
 
 pub returns-clause-refused : goal.returns-clause-refused
 returns-clause-refused g c =
-    answers_read c.read_rowids.result c.pass_fault.result _ _ _ c.pass_fault.ensures.passed c.pass_fault.ensures.kind c.read_rowids.ensures.read (λ places read. tt) (
-      lasts_then _ _ _ c.has_list.ensures.ends.remains_open c.show_places.ensures.ends_call.remains_open,
-      (λ returned kept up.
-          let has = c.in_ok-has_list.ensures.answer (c.show_places.ensures.ends_call.remains_open.disk_was_clean returned) kept in
-          let shown = passed_rows c.show_places.ensures c.in_ok-shown.ensures.passed returned has.0.0 in
-          (shown.2, ap (λ (d : Database). archive_in_trees d.trees) shown.1 ∙ has.0.1)),
-    )
+    let listed = asks_list g.S.Store (begins g.S.Store c.args.store.now.conn) c.has_list.new.self.conn c.args.list.now _ c.in_ok-has_list.ensures.answer c.has_list.ensures.ends.remains_open in
+    let shown = asks g.S.Store listed (of_rows g.S.Store c.show_places.ensures) c.in_ok-shown.ensures.passed in
+    answers_read c.read_rowids.result c.pass_fault.result _ _ _ c.pass_fault.ensures.passed c.pass_fault.ensures.kind c.read_rowids.ensures.read (λ places read. tt)
+    (shown.lasts, (λ returned kept up. (shown.over returned kept).1))
 
 -- ---- what it finds
 
@@ -62,31 +59,10 @@ returns-clause-found g c = λ returned kept.
     ))
     tt
 
--- ---- how it ends
-
-pub returns-in_err-has_list-clause-ends : goal.returns-in_err-has_list-clause-ends
-returns-in_err-has_list-clause-ends g c =
-    ends_first g.S.Store c.args.store.now c.has_list.new.self c.from_residual.result c.in_err-has_list.field-0.0 c.from_residual.ensures.1 c.in_err-has_list.ensures.ends (λ more. more) (no_list ∷ [])
-
-pub returns-in_err-shown-clause-ends : goal.returns-in_err-shown-clause-ends
-returns-in_err-shown-clause-ends g c = record {
-  remains_open = search rules;
-  was_open = search rules;
-  refusal_is_possible = search rules;
-  refusals_counted = search rules;
-  fault_has_cause = λ returned kept free.
-      let has = c.in_ok-has_list.ensures.answer (c.show_places.ensures.ends_call.remains_open.disk_was_clean returned) kept in
-      passed_on c.from_residual-in_err-shown.result c.in_err-shown.field-0.0 _ c.from_residual-in_err-shown.ensures.1
-      (λ it. more_since (state g.S.Store c.args.store.now.conn) (state g.S.Store c.has_list.new.self.conn) (state g.S.Store c.show_places.new.conn) c.has_list.ensures.ends.remains_open
-      (blames_disk g.S.Store c.has_list.new.self.conn c.show_places.new.conn c.show_places.result (Err c.in_err-shown.field-0.0) c.in_err-shown.ensures.passed
-      c.show_places.ensures.fault_has_cause returned has.0.0 (c.has_list.ensures.ends.remains_open.step_limit_is_same ∙ free) it));
-}
-
 pub returns-clause-ends : goal.returns-clause-ends
 returns-clause-ends g c = record {
   remains_open = search rules;
-  was_open = λ returned.
-      when_ok c.pass_fault.result _ (c.in_ok-has_list.ensures.was_open (c.show_places.ensures.ends_call.remains_open.disk_was_clean returned));
+  was_open = λ returned. when_ok c.pass_fault.result _ (c.in_ok-has_list.ensures.was_open (c.show_places.ensures.ends_call.remains_open.disk_was_clean returned));
   refusal_is_possible = search rules;
   refusals_counted = search rules;
   fault_has_cause = λ returned kept free.

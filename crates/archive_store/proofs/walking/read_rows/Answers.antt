@@ -4,7 +4,7 @@ use Rattle.archive_tables.proofs.RunLemmas.{on_fault}
 use Rattle.archive_store.specs.Walking.{WalksOver, walk_over_store}
 use Rattle.archive_store.proofs.WalkingLemmas.{given_more}
 use Rattle.archive_tables.proofs.LastLemmas.{lasts_then}
-use Rattle.archive_store.proofs.CauseLemmas.{passed_on, stops_later}
+use Rattle.archive_store.proofs.FindLemmas.{passed_on, stops_later}
 use Rattle.sqlite.specs.Held.{state}
 use Rattle.archive_port.specs.Wanting.{IsMemoryRefusal}
 use Rattle.archive_port.proofs.WantLemmas.{raises_after, raises_on}

@@ -5,8 +5,7 @@ use Rattle.sqlite.specs.Held.{state}
 use Rattle.archive_tables.specs.Rows.{message_at}
 use Rattle.archive_tables.proofs.RunLemmas.{on_fault}
 use Rattle.archive_port.specs.Messages.{IsReadable}
-use Rattle.archive_store.proofs.CauseLemmas.{passed_on}
-use Rattle.archive_store.proofs.FindLemmas.{blames_passed, passed_rows, passed_no_rows, unread_row}
+use Rattle.archive_store.proofs.FindLemmas.{passed_on, blames_passed, passed_rows, passed_no_rows, unread_row}
 use Rattle.archive_store.proofs.walking.row_at.Goals as goal
 
 pub returns-in_err-row-clause-shown : goal.returns-in_err-row-clause-shown

@@ -1,16 +1,16 @@
-use Rattle.std.proofs.Common.{rules, arith, refl, sym, ◌∙◌, None}
+use Rattle.std.proofs.Common.{◌≤◌, rules, arith, refl, sym, ◌∙◌, None, inl, inr, take}
 use Rattle.sqlite.specs.Held.{state}
 use Rattle.archive_tables.specs.Tables.{archive_of}
 use Rattle.archive_port.specs.Replies.{refusal_of_fault}
 use Rattle.archive_store.proofs.BatchLemmas.{counted_at, none_added, first_taken}
-use Rattle.archive_store.proofs.FindLemmas.{is_listed, not_counted}
+use Rattle.archive_store.specs.Held.{memory_refusal_count}
+use Rattle.archive_store.proofs.AskLemmas.{counts_later}
+use Rattle.archive_store.proofs.FindLemmas.{is_listed, not_counted, more_since}
 use Rattle.archive_tables.proofs.LastLemmas.{lasts_then}
-use Rattle.std.proofs.Common.{inl, inr, take}
 use Rattle.archive_model.specs.Runs.{taken}
 use Rattle.archive_store.proofs.RunLemmas.{run_nothing}
 use Rattle.archive_store.proofs.CrashLemmas.{added_crash, asked_safe, broken_crash, stays_safe}
 use Rattle.archive_port.specs.declared.faults.StoreFault.TheVariants as faults
-use Rattle.archive_store.proofs.CauseLemmas.{more_since}
 use Rattle.archive_store.proofs.store.Store.add_all.Goals as goal
 
 pub returns-in-Err-clause-step : goal.returns-in-Err-clause-step
@@ -30,7 +30,7 @@ loop-done-init g c = (
       let now = state g.S.Store c.count.new.self.conn in
       let counted = c.in-Ok.ensures.answer clean kept in
       first_taken None now (archive_of first) c.args.list.now c.args.items.now c.in-Ok.count counted.0.0 counted.0.1
-      (counted_at first now now c.args.list.now (c.in-Ok.ensures.same clean) c.in-Ok.count (is_listed c.args.list.now (archive_of first) counted.1) (sym counted.2))),
+      (counted_at first now c.args.list.now (c.in-Ok.ensures.same clean) c.in-Ok.count (is_listed c.args.list.now (archive_of first) counted.1) (sym counted.2))),
   c.count.ensures.ends.remains_open,
   c.in-Ok.ensures.ends.was_open,
   c.in-Ok.ensures.ends.refusals_counted.0,
@@ -61,32 +61,22 @@ loop-done-preserved g c = (
 )
 
 pub returns-in-Err-clause-ends : goal.returns-in-Err-clause-ends
-returns-in-Err-clause-ends g c = record {
-  remains_open = c.count.ensures.ends.remains_open;
-  was_open = λ clean. tt;
-  refusal_is_possible = search rules;
-  refusals_counted = c.in-Err.ensures.ends.refusals_counted;
-  fault_has_cause = λ clean kept free it. inl (c.in-Err.ensures.ends.fault_has_cause clean kept free it);
-}
+returns-in-Err-clause-ends g c =
+    let why = c.in-Err.ensures.ends.fault_has_cause in
+    search rules
 
 pub returns-then-at-to-clause-ends : goal.returns-then-at-to-clause-ends
-returns-then-at-to-clause-ends g c = record {
-  remains_open = lasts_then _ _ _ c.loop-done.invariant.4 c.add_batch.ensures.ends.remains_open;
-  was_open = λ clean. tt;
-  refusal_is_possible = search rules;
-  refusals_counted = (omega (arith, c.loop-done.invariant.6, c.in-Ok-add_batch.ensures.ends.refusals_counted.0), (λ want. absurd cc));
-  fault_has_cause = λ clean kept free it. absurd cc;
-}
+returns-then-at-to-clause-ends g c =
+    let lasts = lasts_then _ _ _ c.loop-done.invariant.4 c.add_batch.ensures.ends.remains_open in
+    let counted : memory_refusal_count c.args.self.now ≤ memory_refusal_count c.add_batch.new.store = omega (arith, c.loop-done.invariant.6, c.in-Ok-add_batch.ensures.ends.refusals_counted.0) in
+    search rules
 
 pub returns-in-Err-add_batch-clause-ends : goal.returns-in-Err-add_batch-clause-ends
 returns-in-Err-add_batch-clause-ends g c = record {
   remains_open = lasts_then _ _ _ c.loop-done.invariant.4 c.add_batch.ensures.ends.remains_open;
   was_open = λ clean. tt;
   refusal_is_possible = search rules;
-  refusals_counted = (
-    omega (arith, c.loop-done.invariant.6, c.in-Err-add_batch.ensures.ends.refusals_counted.0),
-    (λ want. let more = c.in-Err-add_batch.ensures.ends.refusals_counted.1 want in omega (arith, c.loop-done.invariant.6, more)),
-  );
+  refusals_counted = counts_later c.loop-done.invariant.6 c.in-Err-add_batch.ensures.ends.refusals_counted;
   fault_has_cause = λ clean kept free it.
       let was = c.add_batch.ensures.ends.remains_open.disk_was_clean clean in
       let so_far = c.loop-done.invariant.3 was kept in
@@ -98,13 +88,10 @@ returns-in-Err-add_batch-clause-ends g c = record {
 }
 
 pub returns-clause-ends : goal.returns-clause-ends
-returns-clause-ends g c = record {
-  remains_open = c.loop-done.invariant.4;
-  was_open = c.loop-done.invariant.5;
-  refusal_is_possible = search rules;
-  refusals_counted = search rules;
-  fault_has_cause = λ clean kept free. tt;
-}
+returns-clause-ends g c =
+    let lasts = c.loop-done.invariant.4 in
+    let up = c.loop-done.invariant.5 in
+    search rules
 
 -- ---- what a stop leaves
 

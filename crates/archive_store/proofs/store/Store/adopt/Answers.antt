@@ -1,12 +1,11 @@
-use Rattle.std.proofs.Common.{rules, sym, subst, ◌∙◌, ◌⊎◌, inl, inr}
+use Rattle.std.proofs.Common.{rules, sym, subst, ◌∙◌, ◌⊎◌, inl, inr, None}
 use Rattle.std.specs.Prelude.{OnOk}
 use Rattle.sqlite.specs.Held.{state}
 use Rattle.sqlite.specs.State.{HasCleanDisk}
 use Rattle.sqlite_disk.specs.Disk.{MoreFaults}
 use Rattle.archive_database.specs.Adopting.{MayBeAdopted, IsAdoptionRefused}
-use Rattle.std.proofs.Common.{None}
 use Rattle.archive_store.proofs.AdoptLemmas.{refused_by, has_version}
-use Rattle.archive_store.proofs.CauseLemmas.{is_database}
+use Rattle.archive_store.proofs.FindLemmas.{is_database}
 use Rattle.archive_store.proofs.CrashLemmas.{adopts_as, adopts_at, none_held}
 use Rattle.archive_store.proofs.store.Store.adopt.Goals.{then-is_empty_database, else-is_empty_database}
 use Rattle.archive_store.proofs.store.Store.adopt.Goals as goal
@@ -14,40 +13,22 @@ use Rattle.archive_store.proofs.store.Store.adopt.Goals as goal
 pub returns-in-Ok-clause-adopted : goal.returns-in-Ok-clause-adopted
 returns-in-Ok-clause-adopted g c =
     elim c.if-is_empty_database.branch [
-      | then-is_empty_database w ↦ record {
-        makes_if_empty = search rules;
-        archive_at_rest_is_same = search rules;
-        migrates_older = search rules;
-        may_be_adopted = inl (c.is_empty_database.ensures.0 w.if-is_empty_database.true);
-        version = search rules;
-        keeps_rows = search rules;
-        disk_was_clean = search rules;
-        crash = adopts_as g.S.Store c.args.connection w.make_tables-done.new.conn c.if-is_empty_database.conn c.set_step_limit.new.self None w.conn-is c.set_step_limit.ensures
-            (record {
-              makes_if_empty = w.make_tables-done.ensures.crash;
-              migrates_older = λ number known held. absurd
-                  (none_held number (state g.S.Store c.args.connection) (c.is_empty_database.ensures.0 w.if-is_empty_database.true) held);
-            });
-        remains_open = search rules;
-        has_no_step_limit = search rules;
-      }
-      | else-is_empty_database w ↦ record {
-        makes_if_empty = search rules;
-        archive_at_rest_is_same = search rules;
-        migrates_older = search rules;
-        may_be_adopted = subst (λ r. OnOk r (MayBeAdopted (state g.S.Store c.args.connection).now.schema)) (sym w.done-is ∙ c.in-Ok.is) w.migrate_tables-done.ensures.objects;
-        version = search rules;
-        keeps_rows = search rules;
-        disk_was_clean = search rules;
-        crash = adopts_as g.S.Store c.args.connection w.migrate_tables-done.new.conn c.if-is_empty_database.conn c.set_step_limit.new.self None w.conn-is c.set_step_limit.ensures
-            (record {
-              makes_if_empty = λ empty. absurd (let is = c.is_empty_database.ensures.1 empty in let none = w.if-is_empty_database.false
-                  in cc);
-              migrates_older = w.migrate_tables-done.ensures.crash;
-            });
-        remains_open = search rules;
-        has_no_step_limit = search rules;
-      }
+      | then-is_empty_database w ↦
+          let objects : MayBeAdopted (state g.S.Store c.args.connection).now.schema = inl (c.is_empty_database.ensures.0 w.if-is_empty_database.true) in
+          let stop = adopts_as g.S.Store c.args.connection w.make_tables-done.new.conn c.if-is_empty_database.conn c.set_step_limit.new.self None w.conn-is c.set_step_limit.ensures
+          (record {
+            makes_if_empty = w.make_tables-done.ensures.crash;
+            migrates_older = λ number known held. absurd (none_held number (state g.S.Store c.args.connection) (c.is_empty_database.ensures.0 w.if-is_empty_database.true) held);
+          }) in
+          search rules
+      | else-is_empty_database w ↦
+          let objects = subst (λ r. OnOk r (MayBeAdopted (state g.S.Store c.args.connection).now.schema)) (sym w.done-is ∙ c.in-Ok.is) w.migrate_tables-done.ensures.objects in
+          let stop = adopts_as g.S.Store c.args.connection w.migrate_tables-done.new.conn c.if-is_empty_database.conn c.set_step_limit.new.self None w.conn-is c.set_step_limit.ensures
+          (record {
+            makes_if_empty = λ empty. absurd (let is = c.is_empty_database.ensures.1 empty in let none = w.if-is_empty_database.false in cc);
+            migrates_older = w.migrate_tables-done.ensures.crash;
+          }) in
+          search rules
     ]
 
 pub returns-in-Err-clause-refused : goal.returns-in-Err-clause-refused

@@ -1,8 +1,8 @@
-use Rattle.std.proofs.Common.{Some, sym, ap, ◌∙◌}
+use Rattle.std.proofs.Common.{None, Some, sym, ap, ◌∙◌}
 use Rattle.std.specs.Prelude.{option_map}
 use Rattle.archive_port.specs.Commands.{spec_command}
 use Rattle.archive_store.specs.Carrying.{reply_without_write}
-use Rattle.archive_store.proofs.CarryLemmas.{unlooked, refused_at_once, refused_by, already_there, carried_out, unwritten, none_of}
+use Rattle.archive_store.proofs.CarryLemmas.{unlooked, refused_at_once, refused_by, already_there, carried_out, unwritten, same_of}
 use Rattle.archive_store.proofs.store.Store.carry_within.Goals as goal
 
 pub returns-in_err-found : goal.returns-in_err-found
@@ -17,11 +17,11 @@ returns-in-Some-Refused g c = refused_by g.S.Store _ _ (spec_command c.args.comm
 
 pub returns-in_ok-write-in-None : goal.returns-in_ok-write-in-None
 returns-in_ok-write-in-None g c = carried_out g.S.Store _ _ _ _ (spec_command c.args.command.now) _ c.in_ok-found.ensures
-    (none_of _ (ap (option_map reply_without_write) (sym c.in-None.is) ∙ c.settle.ensures)) _ c.in_ok-write-in-None.ensures
+    (same_of _ None (sym c.settle.ensures ∙ ap (option_map reply_without_write) c.in-None.is)) _ c.in_ok-write-in-None.ensures
 
 pub returns-in_err-write-in-None : goal.returns-in_err-write-in-None
 returns-in_err-write-in-None g c = unwritten g.S.Store _ _ _ _ (spec_command c.args.command.now) _ c.in_ok-found.ensures
-    (none_of _ (ap (option_map reply_without_write) (sym c.in-None.is) ∙ c.settle.ensures)) _ c.from_residual-in_err-write-in-None.result
+    (same_of _ None (sym c.settle.ensures ∙ ap (option_map reply_without_write) c.in-None.is)) _ c.from_residual-in_err-write-in-None.result
     c.in_err-write-in-None.ensures c.from_residual-in_err-write-in-None.ensures.1
 
 pub returns-in-Some-Known : goal.returns-in-Some-Known

@@ -1,66 +1,43 @@
-use Rattle.std.proofs.Common.{rules, ◌≡◌, ◌∷◌, [], length, sym, ◌∙◌}
+use Rattle.std.proofs.Common.{rules, sym, ◌∙◌}
 use Rattle.sqlite.specs.Held.{state}
-use Rattle.archive_model.specs.Commands.{no_list}
-use Rattle.archive_model.specs.Questions.{list_refusal, messages_in}
+use Rattle.archive_model.specs.Questions.{list_refusal}
 use Rattle.archive_tables.specs.Tables.{archive_of}
 use Rattle.archive_tables.proofs.RunLemmas.{on_fault}
 use Rattle.archive_port.specs.Wanting.{IsMemoryRefusal}
-use Rattle.archive_store.proofs.ReadingLemmas.{is_there}
-use Rattle.archive_store.proofs.CauseLemmas.{more_since}
 use Rattle.archive_port.proofs.WantLemmas.{raises_after}
-use Rattle.archive_store.proofs.PassLemmas.{answer_last}
-use Rattle.archive_store.proofs.FindLemmas.{ends_first, blames, blames_disk, no_reason_of, not_there, rests_of, stops}
-use Rattle.archive_store.proofs.EndLemmas.{passes_same, rows_asked}
+use Rattle.archive_store.proofs.AskLemmas.{asks_list, begins, fails_answer, fails_ends, fails_list, last_answer, last_ends}
+use Rattle.archive_store.proofs.FindLemmas.{passes_to, rows_asked, not_there, is_there}
 use Rattle.archive_store.proofs.store.Store.count.Goals as goal
 
-pub returns-in_err-has_list-clause-answer : goal.returns-in_err-has_list-clause-answer
-returns-in_err-has_list-clause-answer g c = λ clean kept.
-    let none = no_reason_of c.in_err-has_list.field-0.0 c.in_err-has_list.ensures.ends.refusal_is_possible in
-    stops c.from_residual.result c.in_err-has_list.field-0.0 c.from_residual.ensures.1 none _ _ (rests_of c.in_err-has_list.field-0.0 _ none (c.in_err-has_list.ensures.answer clean kept))
+pub returns-in_err-has_list : goal.returns-in_err-has_list
+returns-in_err-has_list g c =
+    let stop = fails_list g.S.Store c.args.list.now c.in_err-has_list.field-0.0 c.in_err-has_list.ensures.ends c.in_err-has_list.ensures.answer (begins g.S.Store c.args.self.now.conn) in record {
+      answer = fails_answer g.S.Store stop c.from_residual.result c.from_residual.ensures.1 _ _;
+      same = λ clean. on_fault _ _ c.from_residual.result c.from_residual.ensures.1 (c.in_err-has_list.ensures.same clean);
+      writes_nothing = search rules;
+      ends = fails_ends g.S.Store stop c.in_err-has_list.ensures.ends.refusals_counted c.from_residual.result c.from_residual.ensures.1 (λ more. more) _;
+    }
 
 pub returns-then-not-branch-clause-answer : goal.returns-then-not-branch-clause-answer
 returns-then-not-branch-clause-answer g c = λ clean kept.
     let has = c.in_ok-has_list.ensures.answer clean kept in
     (has.0, not_there c.args.list.now (archive_of (state g.S.Store c.args.self.now.conn)) (sym c.if-not-branch.true ∙ has.2))
 
-pub returns-clause-answer : goal.returns-clause-answer
-returns-clause-answer g c = λ clean kept.
-    let list = c.args.list.now in
-    let has = c.in_ok-has_list.ensures.answer (c.count_messages-count.ensures.ends_call.remains_open.disk_was_clean clean) kept in
-    answer_last g.S.Store c.args.self.now.conn c.has_list.new.self.conn c.count_messages-count.new.conn c.count_messages-count.result (λ a count. count ≡ length (messages_in a list))
-    (λ a. list_refusal a list) c.pass.result c.pass.ensures.passed c.pass.ensures.kind c.count_messages-count.ensures clean has.0
-    (is_there list (archive_of (state g.S.Store c.args.self.now.conn)) (sym c.if-not-branch.false ∙ has.2))
-
-pub returns-in_err-has_list-clause-ends : goal.returns-in_err-has_list-clause-ends
-returns-in_err-has_list-clause-ends g c =
-    ends_first g.S.Store c.args.self.now c.has_list.new.self c.from_residual.result c.in_err-has_list.field-0.0 c.from_residual.ensures.1 c.in_err-has_list.ensures.ends (λ more. more) (no_list ∷ [])
-
-pub returns-clause-ends : goal.returns-clause-ends
-returns-clause-ends g c = record {
-  remains_open = search rules;
-  was_open = search rules;
-  refusal_is_possible = search rules;
-  refusals_counted = raises_after IsMemoryRefusal _ _ _ c.pass.result c.in_ok-has_list.ensures.ends.refusals_counted.0 c.pass.ensures.counted.0;
-  fault_has_cause = λ clean kept free.
-      let has = c.in_ok-has_list.ensures.answer (c.count_messages-count.ensures.ends_call.remains_open.disk_was_clean clean) kept in
-      let old = state g.S.Store c.args.self.now.conn in
-      let mid = state g.S.Store c.has_list.new.self.conn in
-      blames c.pass.result (more_since old mid (state g.S.Store c.count_messages-count.new.conn) c.has_list.ensures.ends.remains_open)
-      (blames_disk g.S.Store c.has_list.new.self.conn c.count_messages-count.new.conn c.count_messages-count.result c.pass.result c.pass.ensures.passed
-      c.count_messages-count.ensures.fault_has_cause clean has.0.0 (c.has_list.ensures.ends.remains_open.step_limit_is_same ∙ free));
-}
-
--- ---- who is answered sees what was seen before
-
-pub returns-in_err-has_list-clause-same : goal.returns-in_err-has_list-clause-same
-returns-in_err-has_list-clause-same g c = λ clean. on_fault _ _ c.from_residual.result c.from_residual.ensures.1 (c.in_err-has_list.ensures.same clean)
-
 pub returns-then-not-branch-clause-same : goal.returns-then-not-branch-clause-same
 returns-then-not-branch-clause-same g c = λ clean kept up. ((c.in_ok-has_list.ensures.answer clean kept).0.0, c.in_ok-has_list.ensures.same clean)
 
-pub returns-clause-same : goal.returns-clause-same
-returns-clause-same g c = λ clean.
-    let was = c.count_messages-count.ensures.ends_call.remains_open.disk_was_clean clean in
-    passes_same _ _ c.count_messages-count.result c.pass.result c.pass.ensures.passed
-    (rows_asked (state g.S.Store c.args.self.now.conn) c.count_messages-count.result c.count_messages-count.ensures clean (c.in_ok-has_list.ensures.same was)
-    (λ kept. (c.in_ok-has_list.ensures.answer was kept).0.0))
+pub returns : goal.returns
+returns g c =
+    let list = c.args.list.now in
+    let listed = asks_list g.S.Store (begins g.S.Store c.args.self.now.conn) c.has_list.new.self.conn list _ c.in_ok-has_list.ensures.answer c.has_list.ensures.ends.remains_open in record {
+      answer = last_answer g.S.Store listed c.pass.result c.pass.ensures.passed c.pass.ensures.kind c.count_messages-count.ensures (λ a. list_refusal a list)
+          (λ a it. is_there list a (sym c.if-not-branch.false ∙ it.1));
+      same = λ clean.
+          let was = c.count_messages-count.ensures.ends_call.remains_open.disk_was_clean clean in
+          passes_to _ _ c.count_messages-count.result c.pass.result c.pass.ensures.passed
+          (rows_asked (state g.S.Store c.args.self.now.conn) c.count_messages-count.result c.count_messages-count.ensures clean (c.in_ok-has_list.ensures.same was)
+          (λ kept. (c.in_ok-has_list.ensures.answer was kept).0.0));
+      writes_nothing = search rules;
+      ends = last_ends g.S.Store listed c.pass.result c.pass.ensures.passed c.pass.ensures.kind c.count_messages-count.ensures
+          (raises_after IsMemoryRefusal _ _ _ c.pass.result c.in_ok-has_list.ensures.ends.refusals_counted.0 c.pass.ensures.counted.0) (λ more. more) (λ same bad. absurd bad) _;
+    }

@@ -1,24 +1,17 @@
-use Rattle.std.proofs.Common.{rules, refl}
-use Rattle.archive_tables.proofs.LastLemmas.{lasts_same}
-use Rattle.archive_store.proofs.PassLemmas.{open_last}
-use Rattle.archive_store.proofs.FindLemmas.{answers_passed, blames_disk, up_passed}
+use Rattle.std.proofs.Common.{refl}
 use Rattle.sqlite.specs.Held.{state}
-use Rattle.archive_store.proofs.EndLemmas.{passes_same, rows_asked}
+use Rattle.archive_store.proofs.AskLemmas.{begins, last_answer, last_ends}
+use Rattle.archive_store.proofs.FindLemmas.{passes_to, rows_asked, never, up_passed}
 use Rattle.archive_store.proofs.store.Store.has_list.Goals as goal
 
 pub returns-clause-answer : goal.returns-clause-answer
 returns-clause-answer g c =
-    answers_passed g.S.Store c.args.self.now.conn c.has_list-listed.new.conn c.has_list-listed.result c.pass.result _ _ c.pass.ensures.passed c.pass.ensures.kind c.has_list-listed.ensures
+    last_answer g.S.Store (begins g.S.Store c.args.self.now.conn) c.pass.result c.pass.ensures.passed c.pass.ensures.kind c.has_list-listed.ensures never (λ a found. refl)
 
 pub returns-clause-ends : goal.returns-clause-ends
-returns-clause-ends g c = record {
-  remains_open = search rules;
-  was_open = open_last g.S.Store c.args.self.now.conn c.args.self.now.conn c.has_list-listed.new.conn c.has_list-listed.result c.pass.result c.pass.ensures.passed
-      (lasts_same _) c.has_list-listed.ensures.ends_call.remains_open c.has_list-listed.ensures.ends_call.was_open;
-  refusal_is_possible = search rules;
-  refusals_counted = search rules;
-  fault_has_cause = blames_disk g.S.Store c.args.self.now.conn c.has_list-listed.new.conn c.has_list-listed.result c.pass.result c.pass.ensures.passed c.has_list-listed.ensures.fault_has_cause;
-}
+returns-clause-ends g c =
+    last_ends g.S.Store (begins g.S.Store c.args.self.now.conn) c.pass.result c.pass.ensures.passed c.pass.ensures.kind c.has_list-listed.ensures c.pass.ensures.counted.0
+    (λ more. more) (λ same bad. absurd bad) _
 
 pub returns-clause-was_open : goal.returns-clause-was_open
 returns-clause-was_open g c =
@@ -26,5 +19,5 @@ returns-clause-was_open g c =
 
 pub returns-clause-same : goal.returns-clause-same
 returns-clause-same g c = λ clean.
-    passes_same _ _ c.has_list-listed.result c.pass.result c.pass.ensures.passed
+    passes_to _ _ c.has_list-listed.result c.pass.result c.pass.ensures.passed
     (rows_asked (state g.S.Store c.args.self.now.conn) c.has_list-listed.result c.has_list-listed.ensures clean refl (λ kept. kept))

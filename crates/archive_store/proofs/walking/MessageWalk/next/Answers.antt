@@ -1,8 +1,7 @@
 use Rattle.std.proofs.Common.{◌∙◌, ◌∷◌, [], ◌++◌, Err, inr, sym, subst}
 use Rattle.archive_port.specs.Messages.{IsReadable}
 use Rattle.archive_store.specs.Walking.{WalksOver, walk_over_store}
-use Rattle.archive_store.proofs.CauseLemmas.{passed_on}
-use Rattle.archive_store.proofs.FindLemmas.{blames_read}
+use Rattle.archive_store.proofs.FindLemmas.{passed_on, blames_read}
 use Rattle.archive_store.proofs.WalkingLemmas.{passed_next}
 use Rattle.archive_store.proofs.walking.MessageWalk.next.Goals as goal
 

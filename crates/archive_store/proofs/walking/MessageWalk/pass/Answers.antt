@@ -1,9 +1,9 @@
-use Rattle.std.proofs.Common.{arith, length, refl, ◌≤◌}
-use Rattle.archive_store.proofs.WalkingLemmas.{drop_next, drop_none}
+use Rattle.std.proofs.Common.{arith, drop-drop, length, refl, sym, ◌≤◌}
+use Rattle.archive_store.proofs.WalkingLemmas.{drop_none}
 use Rattle.archive_store.proofs.walking.MessageWalk.pass.Goals as goal
 
 pub returns-then-self-len-clause-passed : goal.returns-then-self-len-clause-passed
-returns-then-self-len-clause-passed c = (drop_next c.args.self.now.places.items c.args.self.now.at, refl)
+returns-then-self-len-clause-passed c = (sym (drop-drop 1 c.args.self.now.at c.args.self.now.places.items), refl)
 
 pub returns-else-self-len-clause-passed : goal.returns-else-self-len-clause-passed
 returns-else-self-len-clause-passed c =

@@ -2,8 +2,7 @@ use Rattle.std.proofs.Common.{◌∙◌, ap, Err, inr, rules}
 use Rattle.archive_tables.specs.Rows.{decoded_dated_marks}
 use Rattle.archive_tables.proofs.RunLemmas.{on_fault}
 use Rattle.archive_store.specs.Walking.{remaining_count, walk_over_store}
-use Rattle.archive_store.proofs.CauseLemmas.{passed_on}
-use Rattle.archive_store.proofs.FindLemmas.{blames_read}
+use Rattle.archive_store.proofs.FindLemmas.{passed_on, blames_read}
 use Rattle.archive_store.proofs.WalkingLemmas.{with_row}
 use Rattle.archive_store.proofs.walking.MessageWalk.peek_marks.Goals as goal
 

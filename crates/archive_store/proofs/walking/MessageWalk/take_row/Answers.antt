@@ -1,12 +1,11 @@
-use Rattle.std.proofs.Common.{◌≡◌, ◌∙◌, ap, sym, refl, subst, arith, Some, None, w64}
+use Rattle.std.proofs.Common.{◌≡◌, ◌∙◌, ap, sym, refl, arith, Some, None, w64}
 use Rattle.std.specs.Prelude.{slice_get}
 use Rattle.std.proofs.lemmas.Int.{to_z-of_z}
 use Rattle.std.proofs.lemmas.Option.{slice_get_within}
 use Rattle.archive_tables.specs.Rows.{message_at}
 use Rattle.archive_tables.proofs.RunLemmas.{on_fault}
-use Rattle.archive_store.specs.Held.{store_connection}
-use Rattle.archive_store.specs.Walking.{WalksOn, walk_over_store, current_rows, remaining_numbers}
-use Rattle.archive_store.proofs.CauseLemmas.{passed_on}
+use Rattle.archive_store.specs.Walking.{walk_over_store, current_rows}
+use Rattle.archive_store.proofs.FindLemmas.{passed_on}
 use Rattle.archive_store.proofs.WalkingLemmas.{all_given, past_end, peeked_next, shown_next, unread_next, without_row}
 use Rattle.archive_store.proofs.walking.MessageWalk.take_row.Goals as goal
 
@@ -14,8 +13,7 @@ pub returns-in_default-clause-given : goal.returns-in_default-clause-given
 returns-in_default-clause-given g c = λ returned list all a given w.
     let walk = c.args.self.now in
     let none : slice_get walk.places.items walk.at ≡ None = ap (λ l. slice_get l walk.at) (sym c.deref.ensures.value) ∙ sym c.place_at.ensures ∙ c.in_default.is in (
-      subst (WalksOn g.S.Store list all a given (store_connection c.args.store.now) (remaining_numbers walk)) (sym c.take-peeked.ensures.after)
-          (without_row g.S.Store list all a given (walk_over_store c.args.store.now walk) c.args.store.now w refl w.is_archive_at_rest),
+      without_row g.S.Store list all a given (walk_over_store c.args.store.now walk) c.args.store.now w refl w.is_archive_at_rest c.take-peeked.ensures.after,
       all_given (message_at (current_rows g.S.Store c.args.store.now)) walk.places.items walk.at given w.remaining all w.numbers_give_remaining w.given_and_remaining
           (past_end walk.places.items walk.at none),
     )
@@ -30,8 +28,7 @@ returns-in_default-clause-left g c =
 pub returns-in-Some-peeked-clause-given : goal.returns-in-Some-peeked-clause-given
 returns-in-Some-peeked-clause-given g c = λ returned list all a given w.
     let walk = c.args.self.now in (
-      subst (WalksOn g.S.Store list all a given (store_connection c.args.store.now) (remaining_numbers walk)) (sym c.take-peeked.ensures.after)
-          (without_row g.S.Store list all a given (walk_over_store c.args.store.now walk) c.args.store.now w refl w.is_archive_at_rest),
+      without_row g.S.Store list all a given (walk_over_store c.args.store.now walk) c.args.store.now w refl w.is_archive_at_rest c.take-peeked.ensures.after,
       peeked_next g.S.Store list all a given (walk_over_store c.args.store.now walk) c.in-Some-peeked.row w (sym c.take-peeked.ensures.value ∙ c.in-Some-peeked.is),
     )
 
@@ -57,8 +54,7 @@ returns-in_ok-row_at-in-None-clause-given g c = λ returned list all a given w.
     let itself = to_z-of_z w64 place (record { sfits = assumption fits }) in
     let some : slice_get walk.places.items walk.at ≡ Some place = ap (λ l. slice_get l walk.at) (sym c.deref.ensures.value) ∙ sym c.place_at.ensures ∙ c.in-Some.is in
     let shown = rw itself at (c.in_ok-row_at-in-None.ensures.shown returned w.is_archive_at_rest) in (
-      subst (WalksOn g.S.Store list all a given (store_connection c.row_at.new.store) (remaining_numbers walk)) (sym c.take-peeked.ensures.after)
-          (without_row g.S.Store list all a given (walk_over_store c.args.store.now walk) c.row_at.new.store w shown.1 shown.2),
+      without_row g.S.Store list all a given (walk_over_store c.args.store.now walk) c.row_at.new.store w shown.1 shown.2 c.take-peeked.ensures.after,
       shown_next g.S.Store list all a given (walk_over_store c.args.store.now walk) place c.in_ok-row_at-in-None.field-0 w some shown.0,
     )
 
@@ -67,8 +63,7 @@ returns-in_err-row_at-in-None-clause-given g c = λ returned list all a given w.
     let walk = c.args.self.now in
     on_fault _ _ c.from_residual.result c.from_residual.ensures.1 (λ up.
     let rests = c.in_err-row_at-in-None.ensures.shown returned w.is_archive_at_rest up in
-    subst (WalksOn g.S.Store list all a given (store_connection c.row_at.new.store) (remaining_numbers walk)) (sym c.take-peeked.ensures.after)
-    (without_row g.S.Store list all a given (walk_over_store c.args.store.now walk) c.row_at.new.store w rests.0 rests.1))
+    without_row g.S.Store list all a given (walk_over_store c.args.store.now walk) c.row_at.new.store w rests.0 rests.1 c.take-peeked.ensures.after)
 
 pub returns-in_err-row_at-in-None-clause-caused : goal.returns-in_err-row_at-in-None-clause-caused
 returns-in_err-row_at-in-None-clause-caused g c = λ returned list all a given w free.
