@@ -8,15 +8,15 @@ use Rattle.archive_model.specs.Questions.{has_list, list_refusal}
 use Rattle.archive_model.specs.Runs.{taken}
 use Rattle.archive_port.specs.Crashes.{CrashAddsAllBatches, CrashOutcome, WritesNothing}
 use Rattle.archive_port.specs.Adding.{HasAddedAtLeast}
-use Rattle.archive_port.specs.Told.{LeavesArchive, RelatesArchivesUnder, StoreHasCleanDisk, HoldsTables, StaysOpenUnlessDiskFails, archive_in}
+use Rattle.archive_port.specs.Told.{RelatesArchivesUnder, StoreHasCleanDisk, HoldsTables, StaysOpenUnlessDiskFails, archive_in}
 use Rattle.archive_port.specs.declared.reports.AddError.{AddError}
-use Rattle.archive_port.proofs.CrashLemmas.{asked_safe, leaves_as, leaves_now, left_still}
+use Rattle.archive_port.proofs.CrashLemmas.{asked_safe, leaves_as, leaves_now}
 use Rattle.archive_desk.specs.Crashes.{CrashAfterCallUnder, CrashAfterTablesCall, HasImportedAtLeast, IsCrashSafeStore}
-use Rattle.archive_desk.specs.Holding.{CallsStoreWithTables}
-use Rattle.archive_desk.specs.Importing.{HasAddedAllItems, IsBrokenAdd, IsBrokenImport, IsImported, IsRefusedAdd, IsRefusedImport, import_stop_reason}
+use Rattle.archive_desk.specs.Importing.{HasAddedAllItems, IsBrokenAdd, IsImported, IsRefusedAdd, import_stop_reason}
 use Rattle.archive_desk.specs.declared.importing.Report.{Report}
 use Rattle.archive_desk.specs.declared.importing.ImportStop.{ImportStop}
 use Rattle.archive_desk.proofs.CallLemmas.{calls_last}
+use Rattle.archive_desk.proofs.ImportLemmas.{Adds, Imports}
 
 module _ {S W : Type 0} (g : Ghosts S W) (Premise : S → Type 0) where
   -- where a stop left what was remembered before some calls, it does so behind them
@@ -55,12 +55,6 @@ module _ {S W : Type 0} (g : Ghosts S W) (Premise : S → Type 0) where
       (it.0, leaves (archive_in g old) it.0 it.1, it.2)
 
 module _ {S W : Type 0} (g : Ghosts S W) where
-  -- behind a call that leaves the archive and writes nothing
-  pub crash_left : (Premise : S → Type 0) (old mid new : S) (A : Type 0) {F : Type 0} (fault : F) (Leaves : Archive → F → Archive → Type 0) → LeavesArchive g mid new → WritesNothing g mid new
-      → CrashAfterCallUnder g Premise old mid {A = A} (Err fault) Leaves → CrashAfterCallUnder g Premise old new {A = A} (Err fault) Leaves
-  crash_left Premise old mid new A fault Leaves leaves quiet crash = λ returned held was.
-      left_still g mid new (Leaves (archive_in g old) fault) quiet returned (crash (leaves.remains_open.disk_was_clean returned) held was)
-
   -- a question leaves what it left
   pub question_safe : (old new : S) (Says : Archive → Archive → Type 0) → ((a b : Archive) → Says a b → b ≡ a) → RelatesArchivesUnder g (HoldsTables g) old new Says
       → WritesNothing g old new → StaysSafe g (HoldsTables g) old new
@@ -89,11 +83,9 @@ module _ {S W : Type 0} (g : Ghosts S W) where
 
   -- ---- its messages are added
 
-  pub added_lasts : (old new : S) (list : List ℕ) (items : List Item) (result : Result Report ImportStop)
-      → CallsStoreWithTables g old new import_stop_reason result (λ a b report. HasAddedAllItems list items a b report) (λ a b why. IsRefusedAdd list items a b why.0 why.1)
-      (λ a b stop. IsBrokenAdd list items a b stop.done stop.fault) → StaysOpenUnlessDiskFails g old new
-  added_lasts old new list items result added = calls_last g (HoldsTables g) old new import_stop_reason (λ a b report. HasAddedAllItems list items a b report)
-      (λ a b why. IsRefusedAdd list items a b why.0 why.1) (λ a b stop. IsBrokenAdd list items a b stop.done stop.fault) result added
+  pub added_lasts : (old new : S) (list : List ℕ) (items : List Item) (result : Result Report ImportStop) → Adds g old new list result items → StaysOpenUnlessDiskFails g old new
+  added_lasts old new list items = calls_last g (HoldsTables g) old new import_stop_reason (λ a b report. HasAddedAllItems list items a b report)
+      (λ a b why. IsRefusedAdd list items a b why.0 why.1) (λ a b stop. IsBrokenAdd list items a b stop.done stop.fault)
 
   pub stopped_crash : (old new : S) (list : List ℕ) (items : List Item) (stop : AddError) (told : ImportStop) → told.done ≡ stop.done
       → CrashAddsAllBatches g old new list items (Err stop)
@@ -123,9 +115,8 @@ module _ {S W : Type 0} (g : Ghosts S W) where
       let same = it.adds_all.archive_is ∙ ap (λ (xs : List Item). (taken a list xs).archive) (sym (take_all all it.items (omega arith))) in
       inr (it.items, it.divides_into_items, (all, omega arith, (omega arith, same)))
 
-  pub import_crash : (old new : S) (list text : List ℕ) (result : Result Report ImportStop)
-      → CallsStoreWithTables g old new import_stop_reason result (λ a b report. IsImported list text a b report) (λ a b why. IsRefusedImport list text a b why.0 why.1)
-      (λ a b stop. IsBrokenImport list text a b stop.done stop.fault) → CrashAfterTablesCall g old new result (λ a stop b. HasImportedAtLeast list text stop.done a b)
+  pub import_crash : (old new : S) (list text : List ℕ) (result : Result Report ImportStop) → Imports g old new list result text
+      → CrashAfterTablesCall g old new result (λ a stop b. HasImportedAtLeast list text stop.done a b)
       → CrashOutcome g old new (HasImportedAtLeast list text 0) result (λ stop. HasImportedAtLeast list text stop.done)
   import_crash old new list text (Ok report) call crash = record {
     during_call = leaves_now g old new (HasImportedAtLeast list text 0)

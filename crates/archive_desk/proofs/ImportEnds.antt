@@ -3,8 +3,7 @@ use Rattle.std.proofs.Common.{◌≡◌, ◌≤◌, ◌⊎◌, ◌∙◌, inl, i
 use Rattle.archive_port.specs.declared.state.ArchiveState.{Ghosts}
 use Rattle.archive_model.specs.Records.{Archive}
 use Rattle.archive_model.specs.Commands.{Refusal}
-use Rattle.archive_port.specs.Told.{memory_refusal_count}
-use Rattle.archive_port.specs.Told.{CountsRefusals, EndsWithCause, RelatesArchivesUnder, DiskHasFailed, HoldsTables, StaysOpenUnlessDiskFails}
+use Rattle.archive_port.specs.Told.{memory_refusal_count, CountsRefusals, EndsWithCause, RelatesArchivesUnder, DiskHasFailed, HoldsTables, StaysOpenUnlessDiskFails}
 use Rattle.archive_port.specs.Wanting.{IsMemoryRefusal}
 use Rattle.archive_port.specs.declared.faults.StoreFault.{StoreFault}
 use Rattle.archive_port.specs.declared.faults.StoreFault.TheVariants as faults

@@ -1,4 +1,3 @@
-mod Counted
 pub mod CauseLemmas
 pub mod CrashLemmas
 pub mod WantLemmas
@@ -8,7 +7,6 @@ pub mod ImportEnds
 pub mod MarkLemmas
 pub mod AskLemmas
 pub mod EndLemmas
-pub mod ExportLemmas
 pub mod ListLemmas
 pub mod IndexLemmas
 pub mod WalkLemmas

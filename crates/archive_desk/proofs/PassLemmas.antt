@@ -1,13 +1,13 @@
 -- Messages that a walk passes by.
 use Rattle.std.proofs.Common.{◌≡◌, ◌⊎◌, ◌≤◌, arith, inl, inr, refl, sym, ap, subst, ◌∙◌, append_assoc, cond, Bool, true, false, List, [], ◌∷◌, ◌++◌, filter, Option, Some, None, Result, Ok, Err}
-use Rattle.std.specs.Prelude.{not, ◌&&◌, ◌-◌, option_map, IsErrAnd}
+use Rattle.std.specs.Prelude.{not, ◌-◌, option_map, IsErrAnd}
 use Rattle.std.specs.Option.{IsSomeAnd}
 use Rattle.std.proofs.lemmas.List.{append-nil}
 use Rattle.std.proofs.lemmas.List.Elements.{filter-append}
 use Rattle.std.specs.List.{All}
+use Rattle.std.proofs.lemmas.Bool.{and_parts, not-true}
 use Rattle.policy_core.specs.declared.access.Withdrawn.{Withdrawn}
-use Rattle.policy_core.specs.declared.access.Withdrawn.TheVariants.{No, Author, Board}
-use Rattle.archive_port.specs.Told.{DiskHasFailed, StaysOpenUnlessDiskFails, StoreHasCleanDisk}
+use Rattle.archive_port.specs.Told.{StoreHasCleanDisk, StaysOpenUnlessDiskFails}
 use Rattle.archive_port.specs.declared.state.ArchiveState.{Ghosts}
 use Rattle.archive_model.specs.Records.{Archive, Message as Remembered}
 use Rattle.archive_model.specs.Messages.{withdrawal_number}
@@ -16,7 +16,6 @@ use Rattle.archive_port.specs.declared.marks.DatedMarks.{DatedMarks}
 use Rattle.archive_port.specs.Replies.{refusal_of_fault}
 use Rattle.archive_port.specs.Walking.{PassesNext, PeeksNextMarks, Walk, WalksOver, remaining_count, walk_over_store}
 use Rattle.archive_port.specs.declared.faults.StoreFault.{StoreFault}
-use Rattle.archive_port.proofs.LastLemmas.{more_since}
 use Rattle.archive_port.proofs.CauseLemmas.{not_all}
 use Rattle.archive_results.specs.Access.{Ask, ReaderFacts, MessageFacts, asks_author, is_shown, is_withheld, message_facts, withdrawal_of_number}
 use Rattle.archive_desk.specs.Walking.{HasSkippedWithheld, SkipsAtMostOne, SkipsWithheldMessages}
@@ -24,9 +23,7 @@ use Rattle.archive_desk.specs.Walking.{HasSkippedWithheld, SkipsAtMostOne, Skips
 -- ---- the marks
 
 numbered_back : (by : Withdrawn) → withdrawal_of_number (withdrawal_number by) ≡ by
-numbered_back No = refl
-numbered_back Author = refl
-numbered_back Board = refl
+numbered_back by = grind arith
 
 pub weighed_marks : (marks : DatedMarks) (m : Remembered) → AreDatedMarksOf marks m
     → record { arrival = marks.arrival; withdrawn = marks.withdrawn; embargo_until = marks.embargo_until; own = false } ≡ record (message_facts None m) { own = false }
@@ -47,29 +44,21 @@ weighed_held marks weighs None weigh are = absurd are
 
 -- ---- what was passed by
 
-denied_by : (a b : Bool) → (not a && not b) ≡ true → b ≡ false
-denied_by false false is = refl
-denied_by false true is = absurd cc
-denied_by true b is = absurd cc
-
 -- what is withheld is not shown
-pub not_shown : (ask : Ask) (reader : ReaderFacts) (m : Remembered) → is_withheld ask reader m ≡ true → is_shown ask reader m ≡ false
-not_shown ask reader m is = denied_by (asks_author ask reader) (is_shown ask reader m) is
+not_shown : (ask : Ask) (reader : ReaderFacts) (m : Remembered) → is_withheld ask reader m ≡ true → is_shown ask reader m ≡ false
+not_shown ask reader m is = not-true (is_shown ask reader m) (and_parts (not (asks_author ask reader)) (not (is_shown ask reader m)) is).1
 
 module _ {S W : Type 0} (g : Ghosts S W) (ask : Ask) (reader : ReaderFacts) where
   -- so far messages were passed by that the policy does not show
-  abbrev pub PassedSoFar : Walk S W → Walk S W → Type 0
-  PassedSoFar old now = StoreHasCleanDisk g now.store → (all : List Remembered) (a : Archive) (given : List Remembered) → WalksOver g ask.list all a given old
-      → HasSkippedWithheld g old now ask reader all a given
+  pub record PassedSoFar (old now : Walk S W) : Type 0 where
+    pub passed : StoreHasCleanDisk g now.store → (all : List Remembered) (a : Archive) (given : List Remembered) → WalksOver g ask.list all a given old
+        → HasSkippedWithheld g old now ask reader all a given
 
   module _ (all : List Remembered) (a : Archive) (given : List Remembered) where
-    pub passed_none : (old now : Walk S W) → WalksOver g ask.list all a given now → HasSkippedWithheld g old now ask reader all a given
+    passed_none : (old now : Walk S W) → WalksOver g ask.list all a given now → HasSkippedWithheld g old now ask reader all a given
     passed_none old now w = ([], subst (λ so. WalksOver g ask.list all a so now) (sym (append-nil given)) w, refl)
 
-    pub passed_one : (old now : Walk S W) (m : Remembered) → WalksOver g ask.list all a (given ++ m ∷ []) now → is_shown ask reader m ≡ false → HasSkippedWithheld g old now ask reader all a given
-    passed_one old now m w is = (m ∷ [], w, ap (λ b. cond b (m ∷ []) []) is)
-
-    pub passed_then : (old mid new : Walk S W) (it : HasSkippedWithheld g old mid ask reader all a given) → HasSkippedWithheld g mid new ask reader all a (given ++ it.0)
+    passed_then : (old mid new : Walk S W) (it : HasSkippedWithheld g old mid ask reader all a given) → HasSkippedWithheld g mid new ask reader all a (given ++ it.0)
         → HasSkippedWithheld g old new ask reader all a given
     passed_then old mid new it more = (
       it.0 ++ more.0,
@@ -77,41 +66,27 @@ module _ {S W : Type 0} (g : Ghosts S W) (ask : Ask) (reader : ReaderFacts) wher
       filter-append (is_shown ask reader) it.0 more.0 ∙ ap (λ xs. xs ++ filter (is_shown ask reader) more.0) it.2 ∙ more.2,
     )
 
+module _ {S W : Type 0} {g : Ghosts S W} {ask : Ask} {reader : ReaderFacts} {old new : Walk S W} where
   -- ---- one message
 
   -- none was passed by
-  pub none_passed : (old new : Walk S W) → (StoreHasCleanDisk g new.store → (all : List Remembered) (a : Archive) (given : List Remembered) → WalksOver g ask.list all a given old
-      → WalksOver g ask.list all a given new)
+  pub none_passed : (StoreHasCleanDisk g new.store → (all : List Remembered) (a : Archive) (given : List Remembered) → WalksOver g ask.list all a given old → WalksOver g ask.list all a given new)
       → remaining_count g new.walk ≤ remaining_count g old.walk → SkipsAtMostOne g old new ask reader (Ok false)
-  none_passed old new stays left = record {
-    skips_withheld = record { skips_withheld = λ returned all a given w. passed_none all a given old new (stays returned all a given w); remaining_never_grows = left; fault_is_no_refusal = tt };
+  none_passed stays left = record {
+    skips_withheld = record {
+      skips_withheld = λ returned all a given w. passed_none g ask reader all a given old new (stays returned all a given w);
+      remaining_never_grows = left;
+      fault_is_no_refusal = tt;
+    };
     fewer_if_passed = λ e. absurd (cc);
   }
 
-  -- one was, since the policy withholds it
-  pub one_passed : (old mid : Walk S W) (new : W) (marks : DatedMarks) (weighs : MessageFacts) → PeeksNextMarks g old mid (Ok (Some marks))
-      → PassesNext g mid.walk new
-      → remaining_count g new ≡ remaining_count g mid.walk - 1 → ((m : Remembered) → AreDatedMarksOf marks m → weighs ≡ record (message_facts None m) { own = false })
-      → ((m : Remembered) → weighs ≡ record (message_facts None m) { own = false } → true ≡ is_withheld ask reader m) → SkipsAtMostOne g old (walk_over_store mid.store new) ask reader (Ok true)
-  one_passed old mid new marks weighs shown passes left weigh withheld = record {
-    skips_withheld = record {
-      skips_withheld = λ returned all a given w.
-          let seen = shown.gives_next_marks returned ask.list all a given w in
-          let next = seen.1 in
-          passed_one all a given old (walk_over_store mid.store new) next.0 (passes mid.store ask.list all a given next.1 next.0 seen.0 next.2)
-          (not_shown ask reader next.0 (sym (withheld next.0 (weigh next.0 next.3))));
-      remaining_never_grows = omega (arith, left, shown.remaining_is_same);
-      fault_is_no_refusal = tt;
-    };
-    fewer_if_passed = λ e. omega (arith, left, shown.remaining_is_same, shown.some_means_remaining);
-  }
-
   -- the store fails at its marks
-  pub none_seen : (old new : Walk S W) (told : StoreFault) (r : Result Bool StoreFault) → IsErrAnd r (λ f. f ≡ told) → PeeksNextMarks g old new (Err told) → SkipsAtMostOne g old new ask reader r
-  none_seen old new told (Ok b) is shown = absurd is
-  none_seen old new told (Err f) is shown = record {
+  pub none_seen : {told : StoreFault} (r : Result Bool StoreFault) → IsErrAnd r (λ f. f ≡ told) → PeeksNextMarks g old new (Err told) → SkipsAtMostOne g old new ask reader r
+  none_seen (Ok b) is shown = absurd is
+  none_seen (Err f) is shown = record {
     skips_withheld = record {
-      skips_withheld = λ returned all a given w up. passed_none all a given old new (shown.gives_next_marks returned ask.list all a given w up);
+      skips_withheld = λ returned all a given w up. passed_none g ask reader all a given old new (shown.gives_next_marks returned ask.list all a given w up);
       remaining_never_grows = omega (arith, shown.remaining_is_same);
       fault_is_no_refusal = ap refusal_of_fault is ∙ shown.fault_is_no_refusal;
     };
@@ -120,31 +95,46 @@ module _ {S W : Type 0} (g : Ghosts S W) (ask : Ask) (reader : ReaderFacts) wher
 
   -- ---- one after the other
 
-  pub passed_further : {A : Type 0} (old mid new : Walk S W) (x : A) → PassedSoFar old mid → (StoreHasCleanDisk g new.store → StoreHasCleanDisk g mid.store)
-      → SkipsWithheldMessages g mid new ask reader (Ok x)
-      → PassedSoFar old new
-  passed_further old mid new x so_far was passes = λ returned all a given w.
-      let it = so_far (was returned) all a given w in
-      passed_then all a given old mid new it (passes.skips_withheld returned all a (given ++ it.0) it.1)
+  module _ {mid : Walk S W} (so_far : PassedSoFar g ask reader old mid) (lasts : StaysOpenUnlessDiskFails g mid.store new.store) where
+    pub passed_further : {A : Type 0} {x : A} → SkipsWithheldMessages g mid new ask reader (Ok x) → PassedSoFar g ask reader old new
+    passed_further passes = record {
+      passed = λ returned all a given w.
+          let it = so_far.passed (lasts.disk_was_clean returned) all a given w in
+          passed_then g ask reader all a given old mid new it (passes.skips_withheld returned all a (given ++ it.0) it.1);
+    }
 
-  pub stopped_further : {A B : Type 0} (old mid new : Walk S W) (told : StoreFault) (r : Result A StoreFault) → IsErrAnd r (λ f. f ≡ told) → PassedSoFar old mid
-      → (StoreHasCleanDisk g new.store → StoreHasCleanDisk g mid.store) → remaining_count g mid.walk ≤ remaining_count g old.walk → SkipsWithheldMessages g mid new ask reader {A = B} (Err told)
-      → SkipsWithheldMessages g old new ask reader r
-  stopped_further old mid new told (Ok x) is so_far was left passes = absurd is
-  stopped_further old mid new told (Err f) is so_far was left passes = record {
-    skips_withheld = λ returned all a given w up.
-        let it = so_far (was returned) all a given w in
-        passed_then all a given old mid new it (passes.skips_withheld returned all a (given ++ it.0) it.1 up);
-    remaining_never_grows = omega (arith, left, passes.remaining_never_grows);
-    fault_is_no_refusal = ap refusal_of_fault is ∙ passes.fault_is_no_refusal;
-  }
+    pub stopped_further : {A B : Type 0} {told : StoreFault} (r : Result A StoreFault) → IsErrAnd r (λ f. f ≡ told) → remaining_count g mid.walk ≤ remaining_count g old.walk
+        → SkipsWithheldMessages g mid new ask reader {A = B} (Err told) → SkipsWithheldMessages g old new ask reader r
+    stopped_further (Ok x) is left passes = absurd is
+    stopped_further (Err f) is left passes = record {
+      skips_withheld = λ returned all a given w up.
+          let it = so_far.passed (lasts.disk_was_clean returned) all a given w in
+          passed_then g ask reader all a given old mid new it (passes.skips_withheld returned all a (given ++ it.0) it.1 up);
+      remaining_never_grows = omega (arith, left, passes.remaining_never_grows);
+      fault_is_no_refusal = ap refusal_of_fault is ∙ passes.fault_is_no_refusal;
+    }
+
+-- one was passed by, since the policy withholds it
+pub one_passed : {S W : Type 0} {g : Ghosts S W} {ask : Ask} {reader : ReaderFacts} {old mid : Walk S W} (new : W) {marks : DatedMarks} {weighs : MessageFacts}
+    → PeeksNextMarks g old mid (Ok (Some marks)) → PassesNext g mid.walk new
+    → remaining_count g new ≡ remaining_count g mid.walk - 1 → ((m : Remembered) → AreDatedMarksOf marks m → weighs ≡ record (message_facts None m) { own = false })
+    → ((m : Remembered) → weighs ≡ record (message_facts None m) { own = false } → true ≡ is_withheld ask reader m) → SkipsAtMostOne g old (walk_over_store mid.store new) ask reader (Ok true)
+one_passed {ask = ask} {reader = reader} {mid = mid} new shown passes left weigh withheld = record {
+  skips_withheld = record {
+    skips_withheld = λ returned all a given w.
+        let seen = shown.gives_next_marks returned ask.list all a given w in
+        let next = seen.1 in (
+          next.0 ∷ [],
+          passes mid.store ask.list all a given next.1 next.0 seen.0 next.2,
+          ap (λ b. cond b (next.0 ∷ []) []) (not_shown ask reader next.0 (sym (withheld next.0 (weigh next.0 next.3)))),
+        );
+    remaining_never_grows = omega (arith, left, shown.remaining_is_same);
+    fault_is_no_refusal = tt;
+  };
+  fewer_if_passed = λ e. omega (arith, left, shown.remaining_is_same, shown.some_means_remaining);
+}
 
 -- ---- why it stops
-
--- behind calls in which the disk may have failed
-pub failed_since : {S W : Type 0} (g : Ghosts S W) (old mid new : S) (X : Type 0) → StaysOpenUnlessDiskFails g old mid → DiskHasFailed g mid new ⊎ X → DiskHasFailed g old new ⊎ X
-failed_since g old mid new X lasts (inl more) = inl (more_since g old mid new lasts more)
-failed_since g old mid new X lasts (inr bad) = inr bad
 
 -- the next message cannot be read
 pub unread_among : (X : Type 0) (given all : List Remembered) → X ⊎ ((next : Remembered) × (rest : List Remembered) × (given ++ next ∷ rest ≡ all) × (¬ IsReadable next)) → X ⊎ (¬ All IsReadable all)

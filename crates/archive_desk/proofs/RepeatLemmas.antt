@@ -1,11 +1,12 @@
 -- Messages that are added again: the first so many, and then all, make the same archive as all.
-use Rattle.std.proofs.Common.{◌≡◌, ◌⊎◌, inl, inr, refl, ap, sym, subst, ◌∙◌, arith, ℕ, ◌+◌, Bool, true, false, ◌||◌, cond, List}
-use Rattle.std.proofs.Common.{[], ◌∷◌, ◌++◌, length, take, drop, map, filter, Some, is_some, length-append}
+use Rattle.std.proofs.Common.{◌≡◌, ◌⊎◌, inl, inr, refl, ap, sym, subst, ◌∙◌, arith, ℕ, ◌+◌, Bool, true, ◌||◌, List, [], ◌∷◌, ◌++◌, length, take, drop, map, filter, is_some, Option, length-append}
 use Rattle.std.specs.Prelude.{⊤, not, if◌then◌else◌, bytes_eq, find, nat_le}
 use Rattle.std.proofs.lemmas.Bool.Decides.{nat_tests}
 use Rattle.std.proofs.lemmas.List.{map-append, take-append-drop}
 use Rattle.std.proofs.lemmas.List.Elements.{filter-append}
 use Rattle.std.proofs.lemmas.Slice.Eq.{bytes_eq-Decides}
+use Rattle.std.specs.Option.{option_or}
+use Rattle.std.proofs.lemmas.List.Folds.{find-append}
 use Rattle.mbox_core.specs.Division.{Item}
 use Rattle.mbox_core.proofs.DivisionLaws.{each_text_has_at_most_one_division}
 use Rattle.archive_model.specs.Records.{Archive, Message}
@@ -31,57 +32,28 @@ outcome_by a x there large known full =
     if not there then (a, refused no_list) else if large then (a, refused too_large) else if known then (a, already_known) else if full then (a, refused list_full) else (x, taken_in)
 
 stays_by : (a x : Archive) (there large known full : Bool) → unless_new there large known full ≡ true → (outcome_by a x there large known full).0 ≡ a
-stays_by a x false large known full is = refl
-stays_by a x true true known full is = refl
-stays_by a x true false true full is = refl
-stays_by a x true false false true is = refl
-stays_by a x true false false false is = absurd cc
+stays_by a x there large known full is = grind arith
 
 -- or it is added
 either_by : (a x : Archive) (there large known full : Bool)
     → ((outcome_by a x there large known full).0 ≡ a) × (unless_new there large known full ≡ true) ⊎ ((outcome_by a x there large known full).0 ≡ x)
-either_by a x false large known full = inl (refl, refl)
-either_by a x true true known full = inl (refl, refl)
-either_by a x true false true full = inl (refl, refl)
-either_by a x true false false true = inl (refl, refl)
-either_by a x true false false false = inr refl
-
-or_true : (b : Bool) → (b || true) ≡ true
-or_true true = refl
-or_true false = refl
+either_by a x there large known full = grind arith
 
 known_by : (there large full : Bool) → unless_new there large true full ≡ true
-known_by false large full = refl
-known_by true true full = refl
-known_by true false full = refl
+known_by there large full = grind arith
 
 -- where more is held
 more_by : (there large known full known' full' : Bool) → (known ≡ true → known' ≡ true) → (full ≡ true → full' ≡ true) → unless_new there large known full ≡ true
     → unless_new there large known' full' ≡ true
-more_by false large known full known' full' knows fills is = refl
-more_by true true known full known' full' knows fills is = refl
-more_by true false true full known' full' knows fills is = subst (λ k. unless_new true false k full' ≡ true) (sym (knows refl)) refl
-more_by true false false true known' full' knows fills is = subst (λ f. unless_new true false known' f ≡ true) (sym (fills refl)) (or_true known')
-more_by true false false false known' full' knows fills is = absurd cc
+more_by there large known full known' full' knows fills is = grind arith
 
 -- ---- what is held is held with more, too
 
-found_more : (p : Message → Bool) (xs ys : List Message) → is_some (find p xs) ≡ true → is_some (find p (xs ++ ys)) ≡ true
-found_more p [] ys is = absurd cc
-found_more p (x ∷ xs) ys is = by_test (p x) is (found_more p xs ys)
-  where
-    by_test : (b : Bool) → is_some (cond b (Some x) (find p xs)) ≡ true → (is_some (find p xs) ≡ true → is_some (find p (xs ++ ys)) ≡ true)
-        → is_some (cond b (Some x) (find p (xs ++ ys))) ≡ true
-    by_test true is later = refl
-    by_test false is later = later is
+some_first : (first last : Option Message) → is_some first ≡ true → is_some (option_or first last) ≡ true
+some_first first last is = grind arith
 
-found_last : (p : Message → Bool) (xs : List Message) (x : Message) → p x ≡ true → is_some (find p (xs ++ x ∷ [])) ≡ true
-found_last p [] x is = rw is refl
-found_last p (y ∷ ys) x is = by_test (p y) (found_last p ys x is)
-  where
-    by_test : (b : Bool) → is_some (find p (ys ++ x ∷ [])) ≡ true → is_some (cond b (Some y) (find p (ys ++ x ∷ []))) ≡ true
-    by_test true later = refl
-    by_test false later = later
+some_last : (first last : Option Message) → is_some last ≡ true → is_some (option_or first last) ≡ true
+some_last first last is = grind arith
 
 full_still : (n m : ℕ) → nat_le message_limit n ≡ true → nat_le message_limit (n + m) ≡ true
 full_still n m full = grind (arith, nat_tests, full)
@@ -117,7 +89,10 @@ module _ (list : List ℕ) where
     | inl same ↦ subst (λ x. is_seen x item ≡ true) (sym same.0) same.1
     | inr is ↦
         (let b = with_message a list item in
-        let known : has_message b list (item_key item) ≡ true = found_last (is_message_at_key list (item_key item)) a.messages (keyed_message list (item_key item) item) (is_itself list item) in
+        let at_key = is_message_at_key list (item_key item) in
+        let m = keyed_message list (item_key item) item in
+        let known : has_message b list (item_key item) ≡ true = rw (find-append at_key a.messages (m ∷ []))
+        (some_last (find at_key a.messages) (find at_key (m ∷ [])) (rw (is_itself list item) refl)) in
         let seen : is_seen b item ≡ true = subst (λ k. unless_new (has_list b list) (is_too_large item) k
         (nat_le message_limit (length (messages_in b list))) ≡ true) (sym known)
         (known_by (has_list b list) (is_too_large item) (nat_le message_limit (length (messages_in b list)))) in
@@ -128,12 +103,13 @@ module _ (list : List ℕ) where
   seen_with : (a : Archive) (item other : Item) → is_seen a item ≡ true → is_seen (with_message a list other) item ≡ true
   seen_with a item other seen =
       let m : Message = keyed_message list (item_key other) other in
+      let at_key = is_message_at_key list (item_key item) in
       let held : Message → Bool = λ (x : Message). bytes_eq x.list list in
       let longer : length (messages_in (with_message a list other) list) ≡ length (messages_in a list) + length (filter held (m ∷ [])) =
       ap length (filter-append held a.messages (m ∷ [])) ∙ length-append (messages_in a list) (filter held (m ∷ [])) in
       more_by (has_list a list) (is_too_large item) (has_message a list (item_key item)) (nat_le message_limit (length (messages_in a list)))
       (has_message (with_message a list other) list (item_key item)) (nat_le message_limit (length (messages_in (with_message a list other) list)))
-      (found_more (is_message_at_key list (item_key item)) a.messages (m ∷ []))
+      (λ known. rw (find-append at_key a.messages (m ∷ [])) (some_first (find at_key a.messages) (find at_key (m ∷ [])) known))
       (λ full. subst (λ n. nat_le message_limit n ≡ true) (sym longer) (full_still (length (messages_in a list)) (length (filter held (m ∷ []))) full)) seen
 
   seen_next : (a : Archive) (item other : Item) → is_seen a item ≡ true → is_seen (after a other) item ≡ true

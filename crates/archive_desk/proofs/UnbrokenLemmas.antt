@@ -1,17 +1,17 @@
 -- Of an archive that can be read nothing breaks a question, but the disk.
-use Rattle.std.proofs.Common.{◌≡◌, ◌≢◌, ◌⊎◌, ℕ, ℤ, Bool, true, false, ◌&&◌, inl, inr, refl, List, [], ◌∷◌, cond, Option, Some, None, Result, if◌then◌else◌}
+use Rattle.std.proofs.Common.{◌≡◌, ◌≢◌, ◌⊎◌, ℕ, ℤ, Bool, ◌&&◌, inl, inr, refl, List, [], ◌∷◌, Option, Some, Result, arith}
 use Rattle.std.specs.Prelude.{map, filter, find, zip, int_lt, option_map, IfErr, IfSome, IsUtf8, bytes_eq}
-use Rattle.std.specs.Int.{int_max}
 use Rattle.std.specs.List.{All}
 use Rattle.std.specs.Option.{IsSomeAnd}
 use Rattle.std.proofs.lemmas.List.Elements.{All-nil, All-cons, All-head, All-tail, All-map, All-filter}
+use Rattle.std.proofs.lemmas.Bool.{cond_both}
 use Rattle.archive_port.specs.declared.state.ArchiveState.{Ghosts}
 use Rattle.archive_port.specs.Told.{E15MeansDiskFailedOr as StoreCausedOr, DiskHasFailed, archive_in}
 use Rattle.policy_core.specs.declared.access.Standing.{Standing}
 use Rattle.policy_core.specs.declared.access.Standing.TheVariants.{Public}
 use Rattle.archive_model.specs.Records.{Address, Archive, IndexColumns, Grant, Message, Person}
-use Rattle.archive_model.specs.Filing.{IndexedMessage, indexed_messages, messages_by_author, sort_by_indexed_date}
-use Rattle.archive_model.specs.Filing.{messages_in_month, is_indexed_by_author, is_indexed_in_month, is_sent_before, insert_by_indexed_date}
+use Rattle.archive_model.specs.Filing.{IndexedMessage, indexed_messages, messages_by_author, sort_by_indexed_date, messages_in_month, is_indexed_by_author, is_indexed_in_month, is_sent_before}
+use Rattle.archive_model.specs.Filing.{insert_by_indexed_date}
 use Rattle.archive_model.specs.Questions.{address_of, max_rank, grant_holds_on, is_address_of, is_grant_of, is_message_at_key, message_of, messages_in, person_of_token, standing_of}
 use Rattle.archive_port.specs.Messages.{IsReadable}
 use Rattle.archive_port.specs.Words.{standing_rank}
@@ -19,8 +19,8 @@ use Rattle.archive_port.specs.declared.faults.StoreFault.{StoreFault}
 use Rattle.archive_port.specs.declared.faults.StoreFault.TheVariants as faults
 use Rattle.archive_results.specs.Access.{Ask}
 use Rattle.archive_desk.specs.Causes.{DeskFaultMeansDiskFailedOr, HasCause, IsDeskDatabaseFault, IsMessageUnreadable, IsPersonUnreadable, IsReaderUnreadable, IsQuestionUnreadable}
-use Rattle.archive_desk.specs.Readable.{AreListsUnreadable, CanBeRead, IsTokenHolderUnreadable, QuestionHasNoDatabaseFault, ExportHasNoDatabaseFault}
-use Rattle.archive_desk.specs.Readable.{StoreQuestionHasNoFault, HasStandingRank, HasNoDatabaseFault, MeetsNoDiskFault}
+use Rattle.archive_desk.specs.Readable.{AreListsUnreadable, CanBeRead, IsTokenHolderUnreadable, QuestionHasNoDatabaseFault, ExportHasNoDatabaseFault, StoreQuestionHasNoFault, HasStandingRank}
+use Rattle.archive_desk.specs.Readable.{HasNoDatabaseFault, MeetsNoDiskFault}
 use Rattle.archive_desk.specs.declared.exporting.ExportStop.{ExportStop}
 use Rattle.archive_desk.specs.declared.faults.DeskError.{DeskError}
 use Rattle.archive_desk.proofs.CauseLemmas.{each_fault}
@@ -30,23 +30,17 @@ use Rattle.archive_desk.proofs.CauseLemmas.{each_fault}
 module _ {X : Type 0} (P : X → Type 0) where
   found : (test : X → Bool) (xs : List X) → All P xs → IfSome (find test xs) P
   found test [] all = tt
-  found test (x ∷ xs) all = cases (test x) (found test xs (All-tail P x xs all))
-    where
-      cases : (b : Bool) → IfSome (find test xs) P → IfSome (cond b (Some x) (find test xs)) P
-      cases true rest = All-head P x xs all
-      cases false rest = rest
+  found test (x ∷ xs) all =
+      cond_both (test x) (Some x) (find test xs) (λ o. IfSome o P) (λ so. All-head P x xs all) (λ no. found test xs (All-tail P x xs all))
 
   none_else : (o : Option X) → IfSome o P → ¬ IsSomeAnd o (λ x. ¬ P x)
-  none_else None holds = λ bad. bad
-  none_else (Some x) holds = λ bad. bad holds
+  none_else o holds = grind arith
 
 of_value : {X Y : Type 0} (P : Y → Type 0) (f : X → Y) (o : Option X) → IfSome o (λ x. P (f x)) → IfSome (option_map f o) P
-of_value P f None holds = tt
-of_value P f (Some x) holds = holds
+of_value P f o holds = grind arith
 
 no_one : {X : Type 0} (P : X → Type 0) (o : Option X) → ((x : X) → ¬ P x) → ¬ IsSomeAnd o P
-no_one P None never = λ bad. bad
-no_one P (Some x) never = never x
+no_one P o never = grind arith
 
 -- ---- messages by what is filed of them
 
@@ -61,11 +55,8 @@ module _ (P : Message → Type 0) where
 
   placed : (f : IndexedMessage) (fs : List IndexedMessage) → OfFiled f → All OfFiled fs → All OfFiled (insert_by_indexed_date f fs)
   placed f [] it all = All-cons OfFiled f [] it all
-  placed f (g ∷ gs) it all = cases (is_sent_before g f) (placed f gs it (All-tail OfFiled g gs all))
-    where
-      cases : (b : Bool) → All OfFiled (insert_by_indexed_date f gs) → All OfFiled (if b then g ∷ insert_by_indexed_date f gs else f ∷ g ∷ gs)
-      cases true rest = All-cons OfFiled g (insert_by_indexed_date f gs) (All-head OfFiled g gs all) rest
-      cases false rest = All-cons OfFiled f (g ∷ gs) it all
+  placed f (g ∷ gs) it all = cond_both (is_sent_before g f) (g ∷ insert_by_indexed_date f gs) (f ∷ g ∷ gs) (All OfFiled)
+      (λ so. All-cons OfFiled g (insert_by_indexed_date f gs) (All-head OfFiled g gs all) (placed f gs it (All-tail OfFiled g gs all))) (λ no. All-cons OfFiled f (g ∷ gs) it all)
 
   in_order : (fs : List IndexedMessage) → All OfFiled fs → All OfFiled (sort_by_indexed_date fs)
   in_order [] all = all
@@ -81,16 +72,10 @@ module _ (P : Message → Type 0) where
 abbrev IsRank : ℤ → Type 0
 IsRank rank = (standing : Standing) × (standing_rank standing ≡ rank)
 
-higher : (x y : ℤ) → IsRank x → IsRank y → IsRank (int_max x y)
-higher x y first last = cases (int_lt y x)
-  where
-    cases : (b : Bool) → IsRank (cond b x y)
-    cases true = first
-    cases false = last
-
 highest_is_rank : (ranks : List ℤ) → All IsRank ranks → IsRank (max_rank ranks)
 highest_is_rank [] all = (Public, refl)
-highest_is_rank (rank ∷ ranks) all = higher rank (max_rank ranks) (All-head IsRank rank ranks all) (highest_is_rank ranks (All-tail IsRank rank ranks all))
+highest_is_rank (rank ∷ ranks) all =
+    cond_both (int_lt (max_rank ranks) rank) rank (max_rank ranks) IsRank (λ so. All-head IsRank rank ranks all) (λ no. highest_is_rank ranks (All-tail IsRank rank ranks all))
 
 module _ (a : Archive) (can : CanBeRead a) where
   standing_is_rank : (person list : List ℕ) (day : ℤ) → IsRank (standing_of a person list day)

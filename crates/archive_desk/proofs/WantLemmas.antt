@@ -1,29 +1,14 @@
 -- Want of memory, counted from call to call.
-use Rattle.std.proofs.Common.{inl, inr, refl, ℕ, Err}
+use Rattle.std.proofs.Common.{ℕ, Err, arith}
 use Rattle.archive_port.specs.Wanting.{IsMemoryRefusal, RaisesRefusalCount}
 use Rattle.archive_port.specs.declared.faults.StoreFault.{StoreFault}
-use Rattle.archive_port.specs.declared.faults.StoreFault.TheVariants as faults
 use Rattle.archive_port.proofs.WantLemmas.{raises_as}
 use Rattle.archive_desk.specs.Causes.{IsDeskMemoryRefusal}
 use Rattle.archive_desk.specs.Faults.{desk_error_of}
 
 -- of the faults of the store E14 alone
 pub wanting_by : (fault : StoreFault) → IsDeskMemoryRefusal (desk_error_of fault) → IsMemoryRefusal fault
-wanting_by faults.BadName it = elim it [ inl own ↦ absurd (cc) | inr below ↦ absurd (cc) ]
-wanting_by faults.BadText it = elim it [ inl own ↦ absurd (cc) | inr below ↦ absurd (cc) ]
-wanting_by faults.ListExists it = elim it [ inl own ↦ absurd (cc) | inr below ↦ absurd (cc) ]
-wanting_by faults.NoList it = elim it [ inl own ↦ absurd (cc) | inr below ↦ absurd (cc) ]
-wanting_by faults.PersonExists it = elim it [ inl own ↦ absurd (cc) | inr below ↦ absurd (cc) ]
-wanting_by faults.NoPerson it = elim it [ inl own ↦ absurd (cc) | inr below ↦ absurd (cc) ]
-wanting_by faults.TokenTaken it = elim it [ inl own ↦ absurd (cc) | inr below ↦ absurd (cc) ]
-wanting_by faults.NoMessage it = elim it [ inl own ↦ absurd (cc) | inr below ↦ absurd (cc) ]
-wanting_by faults.AlreadyWithdrawn it = elim it [ inl own ↦ absurd (cc) | inr below ↦ absurd (cc) ]
-wanting_by faults.NotWithdrawn it = elim it [ inl own ↦ absurd (cc) | inr below ↦ absurd (cc) ]
-wanting_by faults.BadDays it = elim it [ inl own ↦ absurd (cc) | inr below ↦ absurd (cc) ]
-wanting_by faults.ListFull it = elim it [ inl own ↦ absurd (cc) | inr below ↦ absurd (cc) ]
-wanting_by faults.TooLarge it = elim it [ inl own ↦ absurd (cc) | inr below ↦ absurd (cc) ]
-wanting_by faults.Memory it = refl
-wanting_by faults.Store it = elim it [ inl own ↦ absurd (cc) | inr below ↦ absurd (cc) ]
+wanting_by fault it = grind arith
 
 module _ (A B : Type 0) (a b : ℕ) (fault : StoreFault) (it : RaisesRefusalCount {A = A} IsMemoryRefusal a b (Err fault)) where
   -- a fault of the store, as one of the desk

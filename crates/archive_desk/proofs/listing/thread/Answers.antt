@@ -1,10 +1,5 @@
-use Rattle.archive_desk.specs.Faults.{refusal_reason}
-use Rattle.archive_desk.proofs.ListLemmas.{no_thread_from, thread_from, thread_refused}
+use Rattle.archive_desk.proofs.ListLemmas.{no_thread_from, thread_from}
 use Rattle.archive_desk.proofs.listing.thread.Goals as goal
-
-pub returns-in-Err-clause-listed : goal.returns-in-Err-clause-listed
-returns-in-Err-clause-listed g c =
-    thread_refused g.S.ArchiveState c.args.store.now c.read_view_summaries.new.store c.args.ask.now c.args.key.now (refusal_reason c.in-Err.fault) c.in-Err.ensures.held
 
 pub returns-in-Ok-Some-clause-listed : goal.returns-in-Ok-Some-clause-listed
 returns-in-Ok-Some-clause-listed g c =

@@ -1,20 +1,10 @@
-use Rattle.std.proofs.Common.{◌∙◌, ◌≡◌, Ok, arith, sym, subst, true}
-use Rattle.archive_port.specs.Walking.{PeeksNextMarks, walk_over_store}
+use Rattle.std.proofs.Common.{◌∙◌, ◌≡◌, arith, sym, true}
 use Rattle.archive_port.proofs.CauseLemmas.{passed_on}
 use Rattle.archive_desk.proofs.PassLemmas.{none_passed, none_seen, one_passed, unread_among}
 use Rattle.archive_desk.proofs.passing.pass_next.Goals as goal
 
-pub returns-then-asks_author-clause-passed : goal.returns-then-asks_author-clause-passed
-returns-then-asks_author-clause-passed g c =
-    none_passed g.S.ArchiveState c.args.ask.now c.args.reader.now (walk_over_store c.args.store.now c.args.walk.now) (walk_over_store c.args.store.now c.args.walk.now) (λ returned all a given w. w)
-    (omega arith)
-
 pub returns-in_err-marks-clause-passed : goal.returns-in_err-marks-clause-passed
-returns-in_err-marks-clause-passed g c =
-    none_seen g.S.ArchiveState c.args.ask.now c.args.reader.now (walk_over_store c.args.store.now c.args.walk.now) (walk_over_store c.peek_marks.new.self c.peek_marks.new.walk)
-    c.in_err-marks.field-0.0
-    c.from_residual.result c.from_residual.ensures.1
-    c.in_err-marks.ensures.shown
+returns-in_err-marks-clause-passed g c = none_seen c.from_residual.result c.from_residual.ensures.1 c.in_err-marks.ensures.shown
 
 pub returns-in_err-marks-clause-caused : goal.returns-in_err-marks-clause-caused
 returns-in_err-marks-clause-caused g c = λ returned all a given w free.
@@ -23,20 +13,15 @@ returns-in_err-marks-clause-caused g c = λ returned all a given w free.
 
 pub returns-in_default-clause-passed : goal.returns-in_default-clause-passed
 returns-in_default-clause-passed g c =
-    none_passed g.S.ArchiveState c.args.ask.now c.args.reader.now (walk_over_store c.args.store.now c.args.walk.now) (walk_over_store c.peek_marks.new.self c.peek_marks.new.walk)
-    (λ returned all a given w. (c.in_ok-marks.ensures.shown.gives_next_marks returned c.args.ask.now.list all a given w).0) (omega (arith, c.in_ok-marks.ensures.shown.remaining_is_same))
+    let shown = c.in_ok-marks.ensures.shown in
+    none_passed (λ returned all a given w. (shown.gives_next_marks returned c.args.ask.now.list all a given w).0) (omega (arith, shown.remaining_is_same))
 
 pub returns-then-not-is_withheld-clause-passed : goal.returns-then-not-is_withheld-clause-passed
 returns-then-not-is_withheld-clause-passed g c =
-    none_passed g.S.ArchiveState c.args.ask.now c.args.reader.now (walk_over_store c.args.store.now c.args.walk.now) (walk_over_store c.peek_marks.new.self c.peek_marks.new.walk)
-    (λ returned all a given w. (c.in_ok-marks.ensures.shown.gives_next_marks returned c.args.ask.now.list all a given w).0) (omega (arith, c.in_ok-marks.ensures.shown.remaining_is_same))
+    let shown = c.in_ok-marks.ensures.shown in
+    none_passed (λ returned all a given w. (shown.gives_next_marks returned c.args.ask.now.list all a given w).0) (omega (arith, shown.remaining_is_same))
 
 pub returns-clause-passed : goal.returns-clause-passed
 returns-clause-passed g c =
     let withheld : c.is_withheld.result ≡ true = cc in
-    let shown = subst (λ found. PeeksNextMarks g.S.ArchiveState (walk_over_store c.args.store.now c.args.walk.now) (walk_over_store c.peek_marks.new.self c.peek_marks.new.walk) (Ok found))
-    c.in-Some.is
-    c.in_ok-marks.ensures.shown in
-    one_passed g.S.ArchiveState c.args.ask.now c.args.reader.now (walk_over_store c.args.store.now c.args.walk.now) (walk_over_store c.peek_marks.new.self c.peek_marks.new.walk) c.pass.new.walk
-    c.in-Some.marks c.weighed.result shown
-    c.pass.ensures.passed c.pass.ensures.left c.weighed.ensures (λ m is. sym withheld ∙ c.is_withheld.ensures m is)
+    one_passed c.pass.new.walk (rw c.in-Some.is at c.in_ok-marks.ensures.shown) c.pass.ensures.passed c.pass.ensures.left c.weighed.ensures (λ m is. sym withheld ∙ c.is_withheld.ensures m is)

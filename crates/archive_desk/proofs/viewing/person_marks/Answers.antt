@@ -1,19 +1,16 @@
-use Rattle.std.proofs.Common.{◌≡◌, Bool, List, Ok, Err, true, false, option_map, refl, ap, sym, ◌∙◌, subst, inl, inr}
+use Rattle.std.proofs.Common.{◌≡◌, Bool, List, Ok, Err, true, false, option_map, ap, sym, ◌∙◌, subst, inr, rules}
 use Rattle.std.specs.Prelude.{string_bytes}
 use Rattle.std.specs.declared.alloc.Global.{Global}
 use Rattle.policy_core.specs.Facts.{Facts}
 use Rattle.policy_core.specs.Rules.{Rule, has_own_condition}
 use Rattle.policy_core.specs.Verdict.{verdict_of}
 use Rattle.archive_results.specs.Access.{Ask, ReaderFacts}
-use Rattle.archive_desk.proofs.MarkLemmas.{person_known, person_unasked}
-use Rattle.archive_desk.specs.Causes.{IsAddressUnreadable, IsPersonUnreadable, IsRankUnknown}
-use Rattle.archive_desk.proofs.EndLemmas.{ends_after, stops_as}
-use Rattle.archive_desk.proofs.CallLemmas.{asks_last}
-use Rattle.archive_model.specs.Questions.{address_of}
-use Rattle.archive_port.specs.Told.{HoldsTables}
-use Rattle.archive_desk.specs.Asking.{person_reason}
+use Rattle.archive_port.specs.Told.{StaysOpenUnlessDiskFails}
+use Rattle.archive_desk.specs.Causes.{IsAddressUnreadable, IsPersonUnreadable}
 use Rattle.archive_desk.specs.Faults.{IsAskFault, refusal_reason}
-use Rattle.policy_core.specs.declared.access.Standing.{Standing}
+use Rattle.archive_desk.proofs.MarkLemmas.{person_known, person_unasked}
+use Rattle.archive_desk.proofs.EndLemmas.{ends_after, stops_as}
+use Rattle.archive_desk.proofs.CallLemmas.{by_reason, unchanged}
 use Rattle.archive_desk.proofs.viewing.person_marks.Goals as goal
 
 pub returns-then-not-asks_own-clause-found : goal.returns-then-not-asks_own-clause-found
@@ -26,36 +23,25 @@ returns-then-not-asks_own-clause-found g c =
 pub returns-in-Ok-find_address-clause-found : goal.returns-in-Ok-find_address-clause-found
 returns-in-Ok-find_address-clause-found g c =
     person_known g.S.ArchiveState c.args.ask.now c.args.name.now c.in-Ok.standing c.args.store.now c.find_standing.new.store c.find_address.new.store
-    (λ address. option_map string_bytes address) (λ address. record { standing = c.in-Ok.standing; address = option_map string_bytes address }) (λ address. refl)
-    (Ok c.in-Ok-find_address.address) c.in-Ok.ensures.found c.in-Ok-find_address.ensures.found
+    (option_map (string_bytes {Z = Global})) (Ok c.in-Ok-find_address.address) c.in-Ok.ensures.found c.in-Ok-find_address.ensures.found
 
-pub returns-in-Err-find_address-clause-found : goal.returns-in-Err-find_address-clause-found
-returns-in-Err-find_address-clause-found g c =
-    rw c.in-Err-find_address.is at (person_known g.S.ArchiveState c.args.ask.now c.args.name.now c.in-Ok.standing c.args.store.now c.find_standing.new.store c.find_address.new.store
-    (λ address. option_map string_bytes address) (λ address. record { standing = c.in-Ok.standing; address = option_map string_bytes address }) (λ address. refl)
-    c.find_address.result c.in-Ok.ensures.found c.find_address.ensures.found)
-
-pub returns-in-Err-clause-ends : goal.returns-in-Err-clause-ends
-returns-in-Err-clause-ends g c =
-    let ask = c.args.ask.now in
-    let name = c.args.name.now in
-    stops_as g.S.ArchiveState c.args.store.now c.find_standing.new.store IsAskFault Standing ReaderFacts c.in-Err.fault (λ a. IsRankUnknown a ask name) (λ a. IsPersonUnreadable a ask name)
-    (λ a bad. inl bad) c.in-Err.ensures.ends
-
-pub returns-in-Err-find_address-clause-ends : goal.returns-in-Err-find_address-clause-ends
-returns-in-Err-find_address-clause-ends g c =
+pub returns-in-Err-find_address : goal.returns-in-Err-find_address
+returns-in-Err-find_address g c =
     let ask = c.args.ask.now in
     let name = c.args.name.now in
     let old = c.args.store.now in
     let mid = c.find_standing.new.store in
     let new = c.find_address.new.store in
     let fault = c.in-Err-find_address.fault in
+    let found = c.in-Err-find_address.ensures.found in
     let asked : c.asks_own.result ≡ true = cc in
     let own : has_own_condition ask.rules ≡ true = sym (c.asks_own.ensures.value ∙ ap (λ (ask : Ask). has_own_condition ask.rules) c.ask.view_is) ∙ asked in
-    let last = asks_last g.S.ArchiveState (HoldsTables g.S.ArchiveState) mid new refusal_reason (λ a. person_reason a name)
-    (λ a address. option_map (string_bytes {Z = Global}) address ≡ address_of a name)
-    (Err fault) c.in-Err-find_address.ensures.found in
-    ends_after g.S.ArchiveState old mid new (c.in-Ok.ensures.found.0, λ returned held. let there = c.in-Ok.ensures.found.1 returned held in (there.0, there.1.0)) last
-    c.in-Ok.ensures.ends.refusals_counted.0 IsAskFault {A = ReaderFacts} (Err fault) (λ a. IsAddressUnreadable a name) (λ a. IsPersonUnreadable a ask name) (λ a bad. inr (own, bad))
-    (stops_as g.S.ArchiveState mid new IsAskFault _ ReaderFacts fault (λ a. IsAddressUnreadable a name) (λ a. IsAddressUnreadable a name) (λ a bad. bad)
-    c.in-Err-find_address.ensures.ends)
+    let last : StaysOpenUnlessDiskFails g.S.ArchiveState mid new = by_reason (refusal_reason fault) found (λ it. it.0) (λ why it. it.0) in
+    record {
+      found = person_known g.S.ArchiveState ask name c.in-Ok.standing old mid new (option_map (string_bytes {Z = Global})) (Err fault) c.in-Ok.ensures.found found;
+      ends = ends_after g.S.ArchiveState old mid new (unchanged c.in-Ok.ensures.found) last c.in-Ok.ensures.ends.refusals_counted.0 IsAskFault {A = ReaderFacts} (Err fault)
+          (λ a. IsAddressUnreadable a name) (λ a. IsPersonUnreadable a ask name) (λ a bad. inr (own, bad))
+          (stops_as g.S.ArchiveState mid new IsAskFault _ ReaderFacts fault (λ a. IsAddressUnreadable a name) (λ a. IsAddressUnreadable a name) (λ a bad. bad)
+          c.in-Err-find_address.ensures.ends);
+      writes_nothing = search rules;
+    }
