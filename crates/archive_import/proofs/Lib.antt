@@ -4,4 +4,5 @@ pub mod ReadLemmas
 pub mod WantLemmas
 pub mod CrashLemmas
 pub mod EndLemmas
+pub mod TellLemmas
 pub mod RepeatLemmas

@@ -1,4 +1,4 @@
-use Rattle.archive_port.proofs.LastLemmas.{left_relates}
+use Rattle.archive_port.proofs.CrashLemmas.{all_safe}
 use Rattle.std.proofs.Common.{◌≤◌, [], ◌∷◌, arith, drop, length, subst, ap, Ok, Err}
 use Rattle.archive_model.specs.Commands.{list_full, no_list}
 use Rattle.archive_port.specs.Adding.{AddsAllMessages, RefusesAnItem}
@@ -9,11 +9,12 @@ use Rattle.archive_port.specs.declared.faults.StoreFault.TheVariants.{Memory}
 use Rattle.archive_desk.specs.declared.importing.ImportStop.{ImportStop}
 use Rattle.archive_desk.specs.declared.importing.ImportError.TheVariants.{Store as Stored}
 use Rattle.archive_desk.proofs.ImportEnds.{import_unbroken}
-use Rattle.archive_import.proofs.CrashLemmas.{held_crash, kept_crash, safe_added, safe_still, safe_left}
+use Rattle.archive_import.proofs.CrashLemmas.{held_crash, kept_crash}
+use Rattle.archive_import.proofs.TellLemmas.{behind_left, still}
 use Rattle.archive_import.specs.Intake.{RowsRefusePending}
 use Rattle.archive_import.specs.Streaming.{IsImportMemoryRefusal}
 use Rattle.archive_import.proofs.EndLemmas.{held_ends}
-use Rattle.archive_import.proofs.StopLemmas.{held_added, add_stopped, keeps_all, Keeps}
+use Rattle.archive_import.proofs.StopLemmas.{held_added, add_stopped}
 use Rattle.archive_import.proofs.importing.add_held.Goals as goal
 
 pub returns-in-Ok-add_owned-clause-adds : goal.returns-in-Ok-add_owned-clause-adds
@@ -57,17 +58,14 @@ pub returns-in-Err-clause-crash : goal.returns-in-Err-clause-crash
 returns-in-Err-clause-crash g c =
     let store = c.args.store.now in
     let intake = c.args.intake.now in
-    let new = c.count_refusal.new.self in
-    let leaves = c.count_refusal.ensures.counted.leaves_archive in
-    let Before = Keeps c.args.list.now intake intake in
-    kept_crash g.S.ArchiveState store new c.args.list.now intake intake
-    (safe_left g.S.ArchiveState store store new Before (keeps_all g.S.ArchiveState store c.args.list.now intake) (safe_still g.S.ArchiveState store) leaves c.count_refusal.ensures.writes_nothing)
-    (left_relates g.S.ArchiveState store store new leaves Before (keeps_all g.S.ArchiveState store c.args.list.now intake)) c.stop.result
-    (ap (λ (s : ImportStop). s.done) c.stop.ensures)
+    let counted = c.count_refusal.ensures.counted in
+    let after = behind_left g.S.ArchiveState (still g.S.ArchiveState store c.args.list.now intake) counted.leaves_archive c.count_refusal.ensures.writes_nothing
+    (omega (arith, counted.refusals_are)) in
+    kept_crash g.S.ArchiveState store c.count_refusal.new.self c.args.list.now intake intake after.safe after.before c.stop.result (ap (λ (s : ImportStop). s.done) c.stop.ensures)
 
 pub returns-in-Ok-add_owned-clause-crash : goal.returns-in-Ok-add_owned-clause-crash
 returns-in-Ok-add_owned-clause-crash g c =
-    safe_added g.S.ArchiveState c.args.store.now c.add_owned.new.store c.args.list.now c.args.intake.now
+    all_safe g.S.ArchiveState c.args.store.now c.add_owned.new.store c.args.list.now c.args.intake.now.held
     (g.met.S.ArchiveStore.leaves_what_is_held c.add_owned.new.store) c.in-Ok-add_owned.counts
     (subst (λ is. AddsAllMessages g.S.ArchiveState c.args.store.now c.add_owned.new.store (Ok c.in-Ok-add_owned.counts) c.args.list.now is) c.held.ensures
     c.in-Ok-add_owned.ensures.step)

@@ -1,199 +1,107 @@
-use Rattle.archive_port.proofs.LastLemmas.{left_relates}
-use Rattle.std.proofs.Common.{rules, arith, [], ◌++◌, ◌∙◌, sym, ap, Err, append-nil, append_assoc, inl, inr}
+use Rattle.std.proofs.Common.{◌≡◌, ◌+◌, rules, arith, [], ◌++◌, ◌∙◌, refl, sym, ap, subst, Err, append-nil, inl, inr}
+use Rattle.std.proofs.lemmas.Grind.{common_steps}
+use Rattle.mbox_core.specs.declared.faults.MboxFault.TheVariants.{Preamble, Memory}
 use Rattle.mbox_stream.specs.Stream.{settled_items}
 use Rattle.archive_model.specs.Records.{Archive}
-use Rattle.archive_import.specs.Intake.{IsUnderWay, RowsRefusePendingRead}
-use Rattle.archive_import.proofs.EndLemmas.{last_ends, uncut_ends, waiting_ends}
-use Rattle.archive_import.proofs.ReadLemmas.{Begun, begun_more, settled_taken, settled_given, preamble_stopped, memory_stopped, waiting_stopped, unread_stopped_read}
-use Rattle.archive_import.proofs.CrashLemmas.{last_crash, more_lasts, read_crash, safe_then, unread_lasts, waiting_crash, safe_left}
-use Rattle.archive_port.specs.Told.{memory_refusal_count}
-use Rattle.archive_port.proofs.WantLemmas.{raises_after}
-use Rattle.archive_import.proofs.WantLemmas.{IsStopWanting}
+use Rattle.archive_import.specs.Intake.{IsUnderWay}
+use Rattle.archive_import.proofs.StopLemmas.{Grows}
+use Rattle.archive_import.proofs.ReadLemmas.{Begun, reads_stopped, reads_unread, settled_taken, settled_given, settled_whole, told_more}
+use Rattle.archive_import.proofs.TellLemmas.{behind_then, uncut_tells, waiting_tells, unread_tells}
 use Rattle.archive_import.proofs.importing.add_settled.Goals as goal
 
 pub loop-preserved : goal.loop-preserved
 loop-preserved g c =
     let i = c.loop.invariant in
-    let read = c.read_from.new.self in
     let list = c.args.list.now in
-    let takes = c.in-Ok.ensures.takes in
+    let waiting = c.read_from.new.self.waiting in
     let r = c.read_from.ensures.read in
+    let it = c.in-Ok.ensures in
+    let after = c.add_waiting.new in
+    let all = it.takes.takes_waiting.0 ∙ ap (λ is. is ++ waiting) c.read_from.ensures.taken in
     record {
-      adds = begun_more g.S.ArchiveState c.args.store.now c.loop.store c.add_waiting.new.store list [] c.loop.cutter.taken c.args.intake.now c.loop.intake i.adds c.add_waiting.new.intake read.waiting
-          c.add_waiting.new.cutter.taken (takes.takes_waiting.0 ∙ ap (λ is. is ++ read.waiting) c.read_from.ensures.taken) c.in-Ok.ensures.adds;
-      told = r.1 ∙ ap (λ t. t ++ r.0) i.told ∙ append_assoc _ c.loop.cutter.stream r.0 ∙ ap (λ t. g.R.Source.told c.args.input.now ++ t) (sym r.2 ∙ sym takes.stream_is_same);
+      behind = behind_then g.S.ArchiveState (Grows list c.loop.intake after.intake waiting) (Begun list [] after.cutter.taken c.args.intake.now after.intake) i.behind it.adds
+          it.ends.refusals_counted.0 it.crash (λ x y z begun grown a w. subst (λ is. IsUnderWay list a z is after.intake) (sym all) (grown a c.loop.cutter.taken (begun a w)));
+      told = told_more _ _ _ i.told r.1 (it.takes.stream_is_same ∙ r.2);
       no_read_failed = search rules;
       no_end = search rules;
-      none_waits = takes.takes_waiting.1;
-      goes_on = takes.phase_is_same ∙ c.in-Ok-true.ensures.open;
-      given = takes.is_consistent;
-      grows = omega (arith, i.grows, c.in-Ok.ensures.ends.refusals_counted.0);
-      safe = safe_then g.S.ArchiveState c.args.store.now c.loop.store c.add_waiting.new.store (Begun list [] c.loop.cutter.taken c.args.intake.now c.loop.intake) i.safe i.adds c.in-Ok.ensures.adds.0
-          c.in-Ok.ensures.crash;
+      none_waits = it.takes.takes_waiting.1;
+      goes_on = it.takes.phase_is_same ∙ c.in-Ok-true.ensures.open;
+      given = it.takes.is_consistent;
     }
 
-pub returns-in-Err-Read-clause-adds : goal.returns-in-Err-Read-clause-adds
-returns-in-Err-Read-clause-adds g c =
+pub returns-in-Err-Read : goal.returns-in-Err-Read
+returns-in-Err-Read g c =
     let i = c.loop.invariant in
-    let cutter = c.loop.cutter in
-    unread_stopped_read g.S.ArchiveState c.args.store.now c.loop.store c.stop_unread.new.store c.args.list.now [] cutter.taken c.args.intake.now c.loop.intake i.adds
-    (λ b d _. (a : Archive) → IsUnderWay c.args.list.now a b [] c.args.intake.now → IsUnderWay c.args.list.now a d c.read_from.new.self.taken c.stop_unread.new.intake)
-    c.read_from.new.self.stream c.stop_unread.result c.stop_unread.ensures.stopped
-    (settled_taken cutter i.given i.goes_on i.none_waits ∙ ap settled_items
-    (sym (c.read_from.ensures.none (inr (c.in-Err-Read.is ∙ ap Err c.in-Err-Read.field-0-is))).0)) c.stop_unread.ensures.adds
-
-pub returns-in-Err-Preamble-clause-adds : goal.returns-in-Err-Preamble-clause-adds
-returns-in-Err-Preamble-clause-adds g c =
-    let i = c.loop.invariant in
-    let cutter = c.loop.cutter in
-    let r = c.read_from.ensures.read in
-    preamble_stopped g.S.ArchiveState c.args.store.now c.stop_uncut.new.store c.args.list.now [] cutter.taken c.args.intake.now c.loop.intake
-    (left_relates g.S.ArchiveState c.args.store.now c.loop.store c.stop_uncut.new.store c.stop_uncut.ensures.leaves (Begun c.args.list.now [] cutter.taken c.args.intake.now c.loop.intake) i.adds)
-    cutter.stream c.read_from.new.self.stream r.0 0 (settled_taken cutter i.given i.goes_on i.none_waits) r.2 c.in-Err-Preamble.at c.stop_uncut.result
-    (rw c.in-Err-Preamble.field-0-is at c.stop_uncut.ensures.stop)
-    (rw c.in-Err-Preamble.field-0-is at c.in-Err-Preamble.ensures.fault.0)
-
-pub returns-in-Err-Memory-clause-adds : goal.returns-in-Err-Memory-clause-adds
-returns-in-Err-Memory-clause-adds g c =
-    let i = c.loop.invariant in
-    let cutter = c.loop.cutter in
-    let r = c.read_from.ensures.read in
-    memory_stopped g.S.ArchiveState c.args.store.now c.stop_uncut-in-Err-Memory.new.store c.args.list.now [] cutter.taken c.args.intake.now c.loop.intake
-    (left_relates g.S.ArchiveState c.args.store.now c.loop.store c.stop_uncut-in-Err-Memory.new.store c.stop_uncut-in-Err-Memory.ensures.leaves
-    (Begun c.args.list.now [] cutter.taken c.args.intake.now c.loop.intake) i.adds)
-    cutter.stream c.read_from.new.self.stream r.0 0 (settled_taken cutter i.given i.goes_on i.none_waits) r.2 c.stop_uncut-in-Err-Memory.result c.stop_uncut-in-Err-Memory.ensures.stop
-
-pub returns-in-Err-Failed-clause-adds : goal.returns-in-Err-Failed-clause-adds
-returns-in-Err-Failed-clause-adds g c = absurd (c.read_from.ensures.closed.0 (c.in-Err-Failed.is ∙ ap Err c.in-Err-Failed.field-0-is) c.loop.invariant.goes_on)
-
-pub returns-in-Err-clause-adds : goal.returns-in-Err-clause-adds
-returns-in-Err-clause-adds g c =
-    let i = c.loop.invariant in
-    let cutter = c.loop.cutter in
+    let stop = c.stop_unread.ensures in
     let read = c.read_from.new.self in
-    waiting_stopped g.S.ArchiveState c.args.store.now c.loop.store c.add_waiting.new.store c.args.list.now [] cutter.taken c.args.intake.now c.loop.intake i.adds
-    c.add_waiting.new.intake c.add_waiting.new.cutter.stream 0 read.waiting c.in-Err.stop
-    (inl (settled_given read cutter.taken c.read_from.ensures.given c.in-Ok-true.ensures.open c.read_from.ensures.taken ∙ ap settled_items (sym c.add_waiting.ensures.takes.stream_is_same)))
-    c.in-Err.ensures.adds
-
-pub returns-clause-adds : goal.returns-clause-adds
-returns-clause-adds g c =
-    let i = c.loop.invariant in
-    let cutter = c.loop.cutter in
-    memory_stopped g.S.ArchiveState c.args.store.now c.stop_uncut-2.new.store c.args.list.now [] cutter.taken c.args.intake.now c.loop.intake
-    (left_relates g.S.ArchiveState c.args.store.now c.loop.store c.stop_uncut-2.new.store c.stop_uncut-2.ensures.leaves (Begun c.args.list.now [] cutter.taken c.args.intake.now c.loop.intake) i.adds)
-    cutter.stream cutter.stream [] 0 (settled_taken cutter i.given i.goes_on i.none_waits) (sym (append-nil _)) c.stop_uncut-2.result c.stop_uncut-2.ensures.stop
-
--- ---- how it ends
-
-pub returns-in-Err-Read-clause-ends : goal.returns-in-Err-Read-clause-ends
-returns-in-Err-Read-clause-ends g c =
-    let i = c.loop.invariant in
-    let cutter = c.loop.cutter in
-    last_ends g.S.ArchiveState c.args.store.now c.loop.store c.args.list.now [] cutter.taken c.args.intake.now c.loop.intake i.adds i.grows c.stop_unread.new.store
-    (unread_lasts g.S.ArchiveState c.loop.store c.stop_unread.new.store c.args.list.now c.loop.intake c.stop_unread.result c.stop_unread.ensures.adds) c.read_from.new.self.stream 0
-    c.stop_unread.result
-    (inl (settled_taken cutter i.given i.goes_on i.none_waits ∙ ap settled_items (sym (c.read_from.ensures.none (inr (c.in-Err-Read.is ∙ ap Err c.in-Err-Read.field-0-is))).0)))
-    c.stop_unread.ensures.ends
-
-pub returns-in-Err-Preamble-clause-ends : goal.returns-in-Err-Preamble-clause-ends
-returns-in-Err-Preamble-clause-ends g c =
-    uncut_ends g.S.ArchiveState c.args.store.now _ (RowsRefusePendingRead g.S.ArchiveState c.args.list.now c.read_from.new.self.stream 0 [] c.args.intake.now) _ _ c.stop_uncut.result
-    c.stop_uncut.ensures.stop
-    (raises_after {A = Unit {0}} IsStopWanting (memory_refusal_count g.S.ArchiveState c.args.store.now) (memory_refusal_count g.S.ArchiveState c.loop.store)
-    (memory_refusal_count g.S.ArchiveState c.stop_uncut.new.store) (Err c.stop_uncut.result)
-    c.loop.invariant.grows c.stop_uncut.ensures.counted)
-
-pub returns-in-Err-Memory-clause-ends : goal.returns-in-Err-Memory-clause-ends
-returns-in-Err-Memory-clause-ends g c =
-    uncut_ends g.S.ArchiveState c.args.store.now _ (RowsRefusePendingRead g.S.ArchiveState c.args.list.now c.read_from.new.self.stream 0 [] c.args.intake.now) _ _ c.stop_uncut-in-Err-Memory.result
-    c.stop_uncut-in-Err-Memory.ensures.stop
-    (raises_after {A = Unit {0}} IsStopWanting (memory_refusal_count g.S.ArchiveState c.args.store.now) (memory_refusal_count g.S.ArchiveState c.loop.store)
-    (memory_refusal_count g.S.ArchiveState c.stop_uncut-in-Err-Memory.new.store)
-    (Err c.stop_uncut-in-Err-Memory.result) c.loop.invariant.grows c.stop_uncut-in-Err-Memory.ensures.counted)
-
-pub returns-in-Err-Failed-clause-ends : goal.returns-in-Err-Failed-clause-ends
-returns-in-Err-Failed-clause-ends g c =
-    uncut_ends g.S.ArchiveState c.args.store.now _ (RowsRefusePendingRead g.S.ArchiveState c.args.list.now c.read_from.new.self.stream 0 [] c.args.intake.now) _ _ c.stop_uncut-in-Err-Failed.result
-    c.stop_uncut-in-Err-Failed.ensures.stop
-    (raises_after {A = Unit {0}} IsStopWanting (memory_refusal_count g.S.ArchiveState c.args.store.now) (memory_refusal_count g.S.ArchiveState c.loop.store)
-    (memory_refusal_count g.S.ArchiveState c.stop_uncut-in-Err-Failed.new.store)
-    (Err c.stop_uncut-in-Err-Failed.result) c.loop.invariant.grows c.stop_uncut-in-Err-Failed.ensures.counted)
-
-pub returns-clause-ends : goal.returns-clause-ends
-returns-clause-ends g c =
-    uncut_ends g.S.ArchiveState c.args.store.now _ (RowsRefusePendingRead g.S.ArchiveState c.args.list.now c.loop.cutter.stream 0 [] c.args.intake.now) _ _ c.stop_uncut-2.result
-    c.stop_uncut-2.ensures.stop
-    (raises_after {A = Unit {0}} IsStopWanting (memory_refusal_count g.S.ArchiveState c.args.store.now) (memory_refusal_count g.S.ArchiveState c.loop.store)
-    (memory_refusal_count g.S.ArchiveState c.stop_uncut-2.new.store) (Err c.stop_uncut-2.result)
-    c.loop.invariant.grows c.stop_uncut-2.ensures.counted)
-
-pub returns-in-Err-clause-ends : goal.returns-in-Err-clause-ends
-returns-in-Err-clause-ends g c =
-    let i = c.loop.invariant in
-    let cutter = c.loop.cutter in
-    let read = c.read_from.new.self in
-    waiting_ends g.S.ArchiveState c.args.store.now c.loop.store c.args.list.now [] cutter.taken c.args.intake.now c.loop.intake i.adds i.grows c.add_waiting.new.store
-    (more_lasts g.S.ArchiveState c.loop.store c.add_waiting.new.store c.args.list.now c.loop.intake c.add_waiting.new.intake read.waiting c.in-Err.stop c.in-Err.ensures.adds)
-    c.add_waiting.new.cutter.stream 0 read.waiting (Err c.in-Err.stop)
-    (inl (settled_given read cutter.taken c.read_from.ensures.given c.in-Ok-true.ensures.open c.read_from.ensures.taken ∙ ap settled_items (sym c.add_waiting.ensures.takes.stream_is_same)))
-    c.in-Err.ensures.ends
-
--- ---- what a stop of the machine leaves
-
-pub returns-in-Err-Read-clause-crash : goal.returns-in-Err-Read-clause-crash
-returns-in-Err-Read-clause-crash g c =
-    let i = c.loop.invariant in
-    let cutter = c.loop.cutter in
-    last_crash g.S.ArchiveState c.args.store.now c.loop.store c.args.list.now [] cutter.taken c.args.intake.now c.loop.intake i.safe i.adds c.stop_unread.new.store
-    (unread_lasts g.S.ArchiveState c.loop.store c.stop_unread.new.store c.args.list.now c.loop.intake c.stop_unread.result c.stop_unread.ensures.adds) c.read_from.new.self.stream 0
-    c.stop_unread.result
-    (inl (settled_taken cutter i.given i.goes_on i.none_waits ∙ ap settled_items (sym (c.read_from.ensures.none (inr (c.in-Err-Read.is ∙ ap Err c.in-Err-Read.field-0-is))).0)))
-    c.stop_unread.ensures.crash
-
-pub returns-in-Err-Preamble-clause-crash : goal.returns-in-Err-Preamble-clause-crash
-returns-in-Err-Preamble-clause-crash g c =
-    let i = c.loop.invariant in
-    let cutter = c.loop.cutter in
     let r = c.read_from.ensures.read in
-    read_crash g.S.ArchiveState c.args.store.now c.stop_uncut.new.store c.args.list.now [] cutter.taken c.args.intake.now c.loop.intake
-    (safe_left g.S.ArchiveState c.args.store.now c.loop.store c.stop_uncut.new.store (Begun c.args.list.now [] cutter.taken c.args.intake.now c.loop.intake) i.adds i.safe
-    c.stop_uncut.ensures.leaves c.stop_uncut.ensures.writes_nothing)
-    (left_relates g.S.ArchiveState c.args.store.now c.loop.store c.stop_uncut.new.store c.stop_uncut.ensures.leaves (Begun c.args.list.now [] cutter.taken c.args.intake.now c.loop.intake) i.adds)
-    cutter.stream c.read_from.new.self.stream r.0 0 (settled_taken cutter i.given i.goes_on i.none_waits) r.2 c.stop_uncut.result _ c.stop_uncut.ensures.stop
+    let same = (c.read_from.ensures.none (inr (c.in-Err-Read.is ∙ ap Err c.in-Err-Read.field-0-is))).0 in
+    let ended : g.R.Source.ends c.read_from.new.input ≡ g.R.Source.ends c.args.input.now = grind (arith, common_steps) in
+    let failed : g.R.Source.failures c.read_from.new.input ≡ g.R.Source.failures c.args.input.now + 1 = grind (arith, common_steps) in
+    let all = unread_tells g.S.ArchiveState i.behind read.stream (settled_taken c.loop.cutter i.given i.goes_on i.none_waits ∙ ap settled_items (sym same))
+    (λ b d _. (a : Archive) → IsUnderWay c.args.list.now a b [] c.args.intake.now → IsUnderWay c.args.list.now a d read.taken c.stop_unread.new.intake) c.stop_unread.result stop.stopped
+    (record { adds = stop.adds; crash = stop.crash; ends = stop.ends }) in
+    record {
+      adds = all.adds;
+      crash = all.crash;
+      read = reads_unread (told_more _ _ _ i.told r.1 r.2) ended _ failed stop.stopped stop.kind;
+      ends = all.ends;
+    }
 
-pub returns-in-Err-Memory-clause-crash : goal.returns-in-Err-Memory-clause-crash
-returns-in-Err-Memory-clause-crash g c =
+pub returns-in-Err-Preamble : goal.returns-in-Err-Preamble
+returns-in-Err-Preamble g c =
     let i = c.loop.invariant in
-    let cutter = c.loop.cutter in
+    let stop = c.stop_uncut.ensures in
     let r = c.read_from.ensures.read in
-    read_crash g.S.ArchiveState c.args.store.now c.stop_uncut-in-Err-Memory.new.store c.args.list.now [] cutter.taken c.args.intake.now c.loop.intake
-    (safe_left g.S.ArchiveState c.args.store.now c.loop.store c.stop_uncut-in-Err-Memory.new.store (Begun c.args.list.now [] cutter.taken c.args.intake.now c.loop.intake) i.adds i.safe
-    c.stop_uncut-in-Err-Memory.ensures.leaves c.stop_uncut-in-Err-Memory.ensures.writes_nothing)
-    (left_relates g.S.ArchiveState c.args.store.now c.loop.store c.stop_uncut-in-Err-Memory.new.store c.stop_uncut-in-Err-Memory.ensures.leaves
-    (Begun c.args.list.now [] cutter.taken c.args.intake.now c.loop.intake) i.adds)
-    cutter.stream c.read_from.new.self.stream r.0 0 (settled_taken cutter i.given i.goes_on i.none_waits) r.2 c.stop_uncut-in-Err-Memory.result _ c.stop_uncut-in-Err-Memory.ensures.stop
+    let why = rw c.in-Err-Preamble.field-0-is at c.in-Err-Preamble.ensures.fault.0 in
+    let text = c.read_from.new.self.stream in
+    let stop_is = rw c.in-Err-Preamble.field-0-is at stop.stop in
+    let all = uncut_tells g.S.ArchiveState i.behind text 0 c.loop.cutter.stream r.0 (settled_taken c.loop.cutter i.given i.goes_on i.none_waits) r.2 (Preamble c.in-Err-Preamble.at)
+    (why.0, settled_whole text why.0 why.1, why.2) (λ it. cc) c.stop_uncut.result stop_is stop.counted stop.leaves stop.writes_nothing in
+    record {
+      adds = all.adds;
+      crash = all.crash;
+      read = reads_stopped (told_more _ _ _ i.told r.1 r.2) (grind (arith, common_steps)) (grind (arith, common_steps)) (rw stop_is refl);
+      ends = all.ends;
+    }
 
-pub returns-in-Err-Failed-clause-crash : goal.returns-in-Err-Failed-clause-crash
-returns-in-Err-Failed-clause-crash g c = absurd (c.read_from.ensures.closed.0 (c.in-Err-Failed.is ∙ ap Err c.in-Err-Failed.field-0-is) c.loop.invariant.goes_on)
-
-pub returns-in-Err-clause-crash : goal.returns-in-Err-clause-crash
-returns-in-Err-clause-crash g c =
+pub returns-in-Err-Memory : goal.returns-in-Err-Memory
+returns-in-Err-Memory g c =
     let i = c.loop.invariant in
-    let cutter = c.loop.cutter in
+    let stop = c.stop_uncut-in-Err-Memory.ensures in
+    let r = c.read_from.ensures.read in
+    let all = uncut_tells g.S.ArchiveState i.behind c.read_from.new.self.stream 0 c.loop.cutter.stream r.0 (settled_taken c.loop.cutter i.given i.goes_on i.none_waits) r.2 Memory tt (λ it. cc)
+    c.stop_uncut-in-Err-Memory.result stop.stop stop.counted stop.leaves stop.writes_nothing in
+    record {
+      adds = all.adds;
+      crash = all.crash;
+      read = reads_stopped (told_more _ _ _ i.told r.1 r.2) (grind (arith, common_steps)) (grind (arith, common_steps)) (rw stop.stop refl);
+      ends = all.ends;
+    }
+
+pub returns-in-Err-Failed : goal.returns-in-Err-Failed
+returns-in-Err-Failed g c = absurd (c.read_from.ensures.closed.0 (c.in-Err-Failed.is ∙ ap Err c.in-Err-Failed.field-0-is) c.loop.invariant.goes_on)
+
+pub returns-in-Err : goal.returns-in-Err
+returns-in-Err g c =
+    let i = c.loop.invariant in
+    let it = c.in-Err.ensures in
     let read = c.read_from.new.self in
-    waiting_crash g.S.ArchiveState c.args.store.now c.loop.store c.args.list.now [] cutter.taken c.args.intake.now c.loop.intake i.safe i.adds c.add_waiting.new.store
-    (more_lasts g.S.ArchiveState c.loop.store c.add_waiting.new.store c.args.list.now c.loop.intake c.add_waiting.new.intake read.waiting c.in-Err.stop c.in-Err.ensures.adds)
-    c.add_waiting.new.cutter.stream 0 read.waiting c.in-Err.stop
-    (inl (settled_given read cutter.taken c.read_from.ensures.given c.in-Ok-true.ensures.open c.read_from.ensures.taken ∙ ap settled_items (sym c.add_waiting.ensures.takes.stream_is_same)))
-    c.in-Err.ensures.crash
+    let r = c.read_from.ensures.read in
+    let are = settled_given read c.loop.cutter.taken c.read_from.ensures.given c.in-Ok-true.ensures.open c.read_from.ensures.taken ∙ ap settled_items (sym it.takes.stream_is_same) in
+    let all = waiting_tells g.S.ArchiveState i.behind c.add_waiting.new.cutter.stream 0 read.waiting (inl are) c.in-Err.stop (record { adds = it.adds; crash = it.crash; ends = it.ends }) in
+    record {
+      adds = all.adds;
+      crash = all.crash;
+      read = reads_stopped (told_more _ _ _ i.told r.1 (it.takes.stream_is_same ∙ r.2)) (grind (arith, common_steps)) (grind (arith, common_steps)) it.takes.no_read_failure;
+      ends = all.ends;
+    }
 
-pub returns-clause-crash : goal.returns-clause-crash
-returns-clause-crash g c =
+pub returns : goal.returns
+returns g c =
     let i = c.loop.invariant in
-    let cutter = c.loop.cutter in
-    read_crash g.S.ArchiveState c.args.store.now c.stop_uncut-2.new.store c.args.list.now [] cutter.taken c.args.intake.now c.loop.intake
-    (safe_left g.S.ArchiveState c.args.store.now c.loop.store c.stop_uncut-2.new.store (Begun c.args.list.now [] cutter.taken c.args.intake.now c.loop.intake) i.adds i.safe
-    c.stop_uncut-2.ensures.leaves c.stop_uncut-2.ensures.writes_nothing)
-    (left_relates g.S.ArchiveState c.args.store.now c.loop.store c.stop_uncut-2.new.store c.stop_uncut-2.ensures.leaves (Begun c.args.list.now [] cutter.taken c.args.intake.now c.loop.intake) i.adds)
-    cutter.stream cutter.stream [] 0 (settled_taken cutter i.given i.goes_on i.none_waits) (sym (append-nil _)) c.stop_uncut-2.result _ c.stop_uncut-2.ensures.stop
+    let stop = c.stop_uncut-2.ensures in
+    let stream = c.loop.cutter.stream in
+    let all = uncut_tells g.S.ArchiveState i.behind stream 0 stream [] (settled_taken c.loop.cutter i.given i.goes_on i.none_waits) (sym (append-nil _)) Memory tt (λ it. cc)
+    c.stop_uncut-2.result stop.stop stop.counted stop.leaves stop.writes_nothing in
+    record { adds = all.adds; crash = all.crash; read = search rules; ends = all.ends }
