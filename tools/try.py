@@ -619,6 +619,15 @@ def of_two(wanted, /, *lines, tells):
     return says("quick.py", ["sift", "probe"], PROGRAMS, wanted, *lines, tells=tells + "cases=2 proved=no\n")
 
 
+def joined_by(joins, files, names):
+    """The texts of the repository that a script makes of crates of another one, by their paths."""
+    with repository({**files, "tools/joins.py": joins}) as (top, stand_in), tempfile.TemporaryDirectory() as room:
+        at = pathlib.Path(room)
+        (at / "crates.txt").write_text("low: memchr\n", encoding="utf-8")
+        run(top, stand_in, "joins.py", [room, *names])
+        return {str(it.relative_to(at)): it.read_text(encoding="utf-8") for it in at.glob("**/*") if it.is_file()}
+
+
 def is_one_program():
     """Each program is a module of one, and a case of it: its name before its input, its words, and what it has to write."""
     joins = """import pathlib, sys
@@ -627,22 +636,17 @@ top, *names = sys.argv[1:]
 quick.join_programs(pathlib.Path(top), names)
 quick.put_cases(pathlib.Path(top, "cases"), names)
 """
-    with repository({**PROGRAMS, "tools/joins.py": joins}) as (top, stand_in), tempfile.TemporaryDirectory() as room:
-        at = pathlib.Path(room)
-        (at / "crates.txt").write_text("low: memchr\n", encoding="utf-8")
-        run(top, stand_in, "joins.py", [room, "sift", "probe"])
-        texts = {str(it.relative_to(at)): it.read_text(encoding="utf-8") for it in at.glob("**/*") if it.is_file()}
-        source = "crates/joined_program/src"
-        root = texts.pop(f"{source}/main.rt")
-        calls = ['"sift" => Ok(sift::main(rt)),', '"probe" => probe::main(rt).map(|()| ExitCode::SUCCESS),']
-        return [f"lacks {it}" for it in ["mod sift;\nmod probe;\n", *calls] if it not in root] + equal(texts, {
-            "crates.txt": "low: memchr\njoined_program: low anyhow\n",
-            f"{source}/sift.rt": "//! Sifts.\n\nmod a;\n\npub fn main(rt: HostRuntime) -> ExitCode {\n    a::b(&rt)\n}\n",
-            f"{source}/sift/a.rt": "use crate::sift::c;\n",
-            f"{source}/probe.rt": "pub fn main(rt: HostRuntime) -> anyhow::Result<()> {\n}\n",
-            "cases/sift": "sift\nin\n", "cases/sift.stdout": "out\n",
-            "cases/probe": "probe\n", "cases/probe.stdout": "", "cases/probe.args": "one\ntwo\n",
-        })
+    texts, source = joined_by(joins, PROGRAMS, ["sift", "probe"]), "crates/joined_program/src"
+    root = texts.pop(f"{source}/main.rt")
+    calls = ['"sift" => Ok(sift::main(rt)),', '"probe" => probe::main(rt).map(|()| ExitCode::SUCCESS),']
+    return [f"lacks {it}" for it in ["mod sift;\nmod probe;\n", *calls] if it not in root] + equal(texts, {
+        "crates.txt": "low: memchr\njoined_program: low anyhow\n",
+        f"{source}/sift.rt": "//! Sifts.\n\nmod a;\n\npub fn main(rt: HostRuntime) -> ExitCode {\n    a::b(&rt)\n}\n",
+        f"{source}/sift/a.rt": "use crate::sift::c;\n",
+        f"{source}/probe.rt": "pub fn main(rt: HostRuntime) -> anyhow::Result<()> {\n}\n",
+        "cases/sift": "sift\nin\n", "cases/sift.stdout": "out\n",
+        "cases/probe": "probe\n", "cases/probe.stdout": "", "cases/probe.args": "one\ntwo\n",
+    })
 
 
 BOTH = {"writes": "test store_tests::a ... ok\ntest run_tests::b ... ok\n", "tells": "run=ended status=3 runners=1 proved=no\n"}
@@ -651,21 +655,16 @@ BOTH = {"writes": "test store_tests::a ... ok\ntest run_tests::b ... ok\n", "tel
 def is_joined():
     """Each crate is a module of one, and takes what it took, of itself and of another, out of a module."""
     joins = "import pathlib, sys\nimport quick\nquick.join(pathlib.Path(sys.argv[1]), sys.argv[2:])\n"
-    with repository({**TOGETHER, "tools/joins.py": joins}) as (top, stand_in), tempfile.TemporaryDirectory() as room:
-        at = pathlib.Path(room)
-        (at / "crates.txt").write_text("low: memchr\n", encoding="utf-8")
-        run(top, stand_in, "joins.py", [room, "store_tests", "run_tests"])
-        texts = {str(it.relative_to(at)): it.read_text(encoding="utf-8") for it in at.glob("**/*") if it.is_file()}
-        source = "crates/joined_tests/src"
-        return equal(texts, {
-            "crates.txt": "low: memchr\njoined_tests: low store_tests run_tests\n",
-            f"{source}/lib.rt": "#[cfg(test)]\npub mod store_tests;\n#[cfg(test)]\npub mod run_tests;\n",
-            f"{source}/store_tests.rt": "//! The store.\n\npub mod made;\n",
-            f"{source}/store_tests/made.rt": "#[test]\nfn a() {}\n",
-            f"{source}/run_tests.rt": "//! Runs.\n\nmod b;\nmod c;\n",
-            f"{source}/run_tests/b.rt": "use crate::run_tests::c::d;\nuse crate::store_tests::made::a;\nuse low::f;\n\n#[test]\nfn b() {}\n",
-            f"{source}/run_tests/c.rt": "pub fn d() {}\n",
-        })
+    source = "crates/joined_tests/src"
+    return equal(joined_by(joins, TOGETHER, ["store_tests", "run_tests"]), {
+        "crates.txt": "low: memchr\njoined_tests: low store_tests run_tests\n",
+        f"{source}/lib.rt": "#[cfg(test)]\npub mod store_tests;\n#[cfg(test)]\npub mod run_tests;\n",
+        f"{source}/store_tests.rt": "//! The store.\n\npub mod made;\n",
+        f"{source}/store_tests/made.rt": "#[test]\nfn a() {}\n",
+        f"{source}/run_tests.rt": "//! Runs.\n\nmod b;\nmod c;\n",
+        f"{source}/run_tests/b.rt": "use crate::run_tests::c::d;\nuse crate::store_tests::made::a;\nuse low::f;\n\n#[test]\nfn b() {}\n",
+        f"{source}/run_tests/c.rt": "pub fn d() {}\n",
+    })
 
 
 QUICK = {
