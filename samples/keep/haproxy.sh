@@ -32,9 +32,23 @@ point_to() {
   esac
 }
 
+# a column of what HAProxy says of the server
+column() {
+  tell 'show stat' | awk -F, -v name="$name" -v at="$1" '$1 "/" $2 == name { print $at }'
+}
+
 # how many connections there are to the server
 under_way() {
-  tell 'show stat' | awk -F, -v name="$name" '$1 "/" $2 == name { print $5 }'
+  column 5
+}
+
+# HAProxy serves its queue when a request ends. If the last request ended just before the next one was queued, as may happen while the
+# server refuses connections, 2.6.12 leaves that one in the queue, and all that come. It serves the queue when `maxconn` is set, even to
+# the same number.
+serve_queue() {
+  local most
+  most=$(column 7)
+  [ -z "$most" ] || tell "set maxconn server $name $most" > /dev/null
 }
 
 case $what in
@@ -42,6 +56,9 @@ case $what in
     point_to 1
     for ((at = 0; at < 30; at++)); do [ "$(under_way)" -gt 0 ] || break; sleep 0.05; done
     ;;
-  ready) point_to "$port" ;;
+  ready)
+    point_to "$port"
+    serve_queue
+    ;;
   *) echo "haproxy.sh: $what is no word of it" >&2; exit 2 ;;
 esac
