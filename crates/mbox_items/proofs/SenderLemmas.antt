@@ -1,11 +1,12 @@
 -- The senders of the code, and their written form.
 use Rattle.std.proofs.Common.{◌≡◌, ℕ, zero, suc, ◌<◌, ◌≤◌, Bool, true, false, ◌==◌, not, List, [], ◌∷◌, ◌++◌, length, take, drop}
-use Rattle.std.proofs.Common.{get_or, refl, arith, ap, ◌∙◌, sym, ℤ, codes, length-append, ◌⊎◌, inl, inr}
+use Rattle.std.proofs.Common.{get_or, refl, arith, ap, ◌∙◌, sym, ℤ, Option, Some, codes, length-append, ◌⊎◌, inl, inr}
+use Rattle.std.proofs.Math.Seq.{take-append_seam, drop-append-add}
 use Rattle.std.proofs.lemmas.List.{get_or_at, take_at, drop_at}
 use Rattle.civil_time.specs.Calendar.{is_instant}
 use Rattle.mbox_items.specs.Separator.{IsSenderText, is_sender_token, joined_by_spaces}
 use Rattle.mbox_items.specs.Written.{IsEnvelope}
-use Rattle.mbox_items.specs.Senders.{IsSender, sender_text}
+use Rattle.mbox_items.specs.Senders.{IsPlaceOfAt, IsSender, sender_text}
 use Rattle.mbox_items.specs.declared.senders.Sender.{Sender}
 use Rattle.mbox_items.specs.declared.senders.Sender.TheVariants.{One, At}
 use Rattle.civil_time.proofs.DateLemmas.{both}
@@ -19,6 +20,18 @@ sender_is (At a b) h = (a.now ∷ codes "at" ∷ b.now ∷ [], ((h.0, refl, h.1)
 -- a text that is written of a sender
 pub written_is : (s : Sender) (text : List ℕ) → IsSender s → text ≡ sender_text s → IsSenderText text
 written_is s text h e = rw e (sender_is s h)
+
+-- the place behind the first of two tokens, in the text that is written of them
+pub place_is : (left right : List ℕ) → is_sender_token left ≡ true → is_sender_token right ≡ true
+    → IsPlaceOfAt (Some (length left)) (joined_by_spaces (left ∷ codes "at" ∷ right ∷ []))
+place_is left right l r =
+    let behind : List ℕ = codes " at " ++ right in
+    rw (take-append_seam left behind) (rw (drop-append-add left behind 4) ((l, refl, r), refl))
+
+-- the same place, in a text that is written of the sender
+pub place_in : (s : Sender) (place : Option ℕ) (text : List ℕ) → (IsSender s → IsPlaceOfAt place (sender_text s)) → IsSender s → text ≡ sender_text s
+    → IsPlaceOfAt place text
+place_in s place text at h e = rw e (at h)
 
 pub envelope_is : (s : Sender) (z : ℤ) → IsSender s → is_instant z ≡ true → IsEnvelope (record { sender = sender_text s; arrival = z })
 envelope_is s z h g = record { is_sender_text = sender_is s h; arrival_is_instant = g }

@@ -1,6 +1,6 @@
 //! Messages that own their bytes.
 ghost use Rattle.std.specs.Prelude.{◌≡◌, IfOk};
-ghost use Rattle.mbox_items.specs.Senders.{sender_text};
+ghost use Rattle.mbox_items.specs.Senders.{IsPlaceOfAt, IsSender, sender_text};
 
 use crate::items::Item;
 use crate::senders::Sender;
@@ -13,6 +13,8 @@ use std::marker::Model;
 #[derive(Drop)]
 pub struct OwnedItem {
     sender: Vec<u8>,
+    /// Where the space before `at` stands in the written form. `None`: the sender is one token.
+    at: Option<usize>,
     arrival: Instant,
     text: Vec<u8>,
     complete: bool,
@@ -22,14 +24,14 @@ impl Model for OwnedItem {
     ghost use Rattle.std.specs.Prelude.{◌≡◌, true};
     ghost use Rattle.civil_time.specs.Calendar.{is_instant};
     ghost use Rattle.mail_core.specs.Lines.{lines};
-    ghost use Rattle.mbox_items.specs.Separator.{IsSenderText};
+    ghost use Rattle.mbox_items.specs.Senders.{IsPlaceOfAt};
     ghost use Rattle.mbox_items.specs.Division.{Item as Message, NoneSeparates, is_empty_or_ends_in_lf, whole};
 
     ghost Value = { Message };
 
     ghost view = { λ s. record { envelope = record { sender = s.sender.items; arrival = s.arrival }; text = s.text.items } };
 
-    ghost invariant = { λ s. IsSenderText s.sender.items × (is_instant s.arrival ≡ true) × (s.complete ≡ is_empty_or_ends_in_lf s.text.items) × NoneSeparates (lines (whole s.text.items)) };
+    ghost invariant = { λ s. IsPlaceOfAt s.at s.sender.items × (is_instant s.arrival ≡ true) × (s.complete ≡ is_empty_or_ends_in_lf s.text.items) × NoneSeparates (lines (whole s.text.items)) };
 }
 
 impl OwnedItem {
@@ -42,6 +44,7 @@ impl OwnedItem {
     {
         Ok(OwnedItem {
             sender: written_sender(alloc, item.envelope.sender)?,
+            at: place_of_at(item.envelope.sender),
             arrival: item.envelope.arrival,
             text: item.text.to_vec(alloc)?,
             complete: item.complete,
@@ -55,6 +58,7 @@ impl OwnedItem {
         ensures none { IfNone result (¬ IsItem (record { envelope = record { sender = sender.items; arrival = arrival }; text = text.items })) }
     {
         let read = Sender::read(&sender)?;
+        let at = place_of_at(read);
         let envelope = Envelope {
             sender: read,
             arrival,
@@ -62,6 +66,7 @@ impl OwnedItem {
         let complete = Item::new(envelope, &text)?.complete;
         Some(OwnedItem {
             sender,
+            at,
             arrival,
             text,
             complete,
@@ -86,9 +91,9 @@ impl OwnedItem {
     pub fn as_item(&self) -> Item<'_>
         ensures { result ≡ self.now }
     {
-        let sender = match Sender::read(&self.sender) {
-            Some(sender) => sender,
+        let sender = match self.at {
             None => Sender::One(&self.sender),
+            Some(at) => Sender::At(&self.sender[..at], &self.sender[at + b" at ".len()..]),
         };
         Item {
             envelope: Envelope {
@@ -98,6 +103,16 @@ impl OwnedItem {
             text: &self.text,
             complete: self.complete,
         }
+    }
+}
+
+/// Where the space before `at` stands in the written form of a sender. `None`: it is one token.
+fn place_of_at(sender: Sender<'_>) -> Option<usize>
+    ensures { IsSender sender.entry → IsPlaceOfAt result (sender_text sender.entry) }
+{
+    match sender {
+        Sender::One(_) => None,
+        Sender::At(left, _) => Some(left.len()),
     }
 }
 
