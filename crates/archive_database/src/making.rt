@@ -4,15 +4,15 @@ ghost use Rattle.sqlite.specs.Held.{state};
 ghost use Rattle.sqlite.specs.State.{HasCleanDisk};
 ghost use Rattle.archive_model.specs.Records.{Archive};
 ghost use Rattle.archive_tables.specs.Schema.{empty_schema, schema_with_persons, schema_with_messages, schema_1, schema_2, schema_of_version};
-ghost use Rattle.archive_tables.specs.Tables.{IsOpenArchiveInFormat, IsArchiveAtRest, IsKnownVersion, HasArchiveSchema};
+ghost use Rattle.archive_tables.specs.Tables.{IsOpenArchiveInFormat, IsArchiveAtRest, IsKnownVersion};
 ghost use Rattle.archive_tables.specs.Tables.{HasSchemaOfFormat, HasVersionRow, format_of_version, archive_of_version, archive_of};
-ghost use Rattle.archive_tables.specs.Calls.{FaultKeepsRows};
 ghost use Rattle.archive_tables.specs.Statements.{IsAnyStatementRefused, first_create_statements, second_create_statements, create_index_statements};
 ghost use Rattle.archive_tables.specs.Statements.{last_create_statements, all_create_statements, option_migration_statements, migration_statements};
 ghost use Rattle.archive_tables.specs.Crashes.{CrashAddsNothing, CrashAddsOnly, IsArchiveStored};
 ghost use Rattle.archive_tables.specs.Making.{IsCreatingTables, IsInTransactionWithSchema, IsMigratingTables, IsReadyToCommit, CreatesTables, CrashAddsNothingInTransaction};
 ghost use Rattle.archive_tables.specs.Making.{EndsSteps, CreationFailureCanRollBack, IsCommittedUnchanged, IsIdle, IsRolledBackIfOpen, IsRollbackPendingOrDone, empty_archive};
-ghost use Rattle.archive_database.specs.Adopting.{HasObjectCounts, HasObjectCountsOfVersion, IsSchemaOfSomeVersion, MayBeAdopted, IsAdoptionRefused, IsOlderVersion, CrashAddsNothingWhileCreating};
+ghost use Rattle.archive_database.specs.Adopting.{HasObjectCounts, HasObjectCountsOfVersion, IsSchemaOfSomeVersion, IsAdoptionRefused, IsOlderVersion, CrashAddsNothingWhileCreating};
+ghost use Rattle.archive_database.specs.Adopting.{IsMigrated, IsNotMigrated};
 ghost use Rattle.archive_database.specs.Faults.{EndsDatabaseCall};
 
 use crate::faults::DatabaseError;
@@ -88,28 +88,8 @@ pub fn check_version<S: Alter>(conn: &mut Connection<S>, number: u8) -> Result<(
 /// Takes tables of any version over: those of an older one become those of the newest. A database that has the objects of no
 /// version, or another number, is refused.
 pub fn migrate_tables<S: Alter>(conn: &mut Connection<S>) -> Result<(), DatabaseError>
-    ensures found { HasCleanDisk (state S.Store conn.new) → (number : _) → IsKnownVersion number
-        → IsOpenArchiveInFormat (format_of_version number) None (state S.Store conn.old)
-        → OnOk result (IsArchiveAtRest (state S.Store conn.new)
-        × (archive_of (state S.Store conn.new) ≡ archive_of_version number
-        (state S.Store conn.old).now.trees)) }
-    ensures back { HasCleanDisk (state S.Store conn.new) → IsIdle (state S.Store conn.old)
-        → (number : _) → IsKnownVersion number → (state S.Store conn.old).now.schema ≡ schema_of_version number
-        → OnErr result (IsRolledBackIfOpen (state S.Store conn.new) (state S.Store conn.old).now) }
-    ensures version { HasCleanDisk (state S.Store conn.new) → (number : _) → IsKnownVersion number
-        → HasSchemaOfFormat (format_of_version number) (state S.Store conn.old)
-        → OnOk result (HasVersionRow (pos number) (state S.Store conn.old).now.trees) }
-    ensures kept { HasCleanDisk (state S.Store conn.new) → IsArchiveAtRest (state S.Store conn.old)
-        → OnOk result (IsArchiveAtRest (state S.Store conn.new)
-        × (archive_of (state S.Store conn.new) ≡ archive_of (state S.Store conn.old))) }
-    ensures left { HasCleanDisk (state S.Store conn.new) → IsArchiveAtRest (state S.Store conn.old)
-        → OnErr result (FaultKeepsRows (state S.Store conn.old) (state S.Store conn.new)) }
-    ensures rows { HasCleanDisk (state S.Store conn.new) → HasArchiveSchema (state S.Store conn.old)
-        → OnOk result (IsRolledBackIfOpen (state S.Store conn.new) (state S.Store conn.old).now) }
-    ensures objects { OnOk result (MayBeAdopted (state S.Store conn.old).now.schema) }
-    ensures foreign { ¬ MayBeAdopted (state S.Store conn.old).now.schema → conn.new ≡ conn.old }
-    ensures why { ¬ MayBeAdopted (state S.Store conn.old).now.schema
-        → IfErr result (λ fault. fault ≡ DatabaseError.Database) }
+    ensures migrated { OnOk result (IsMigrated S.Store conn.old conn.new) }
+    ensures refused { IfErr result (λ fault. IsNotMigrated S.Store conn.old conn.new fault) }
     ensures crash { (number : _) → IsKnownVersion number
         → IsOpenArchiveInFormat (format_of_version number) None (state S.Store conn.old)
         → CrashAddsOnly S.Store conn.old conn.new (IsArchiveStored

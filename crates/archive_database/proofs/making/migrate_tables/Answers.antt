@@ -2,9 +2,12 @@ use Rattle.std.proofs.Common.{inl, rules}
 use Rattle.sqlite.specs.Held.{state}
 use Rattle.archive_tables.proofs.LastLemmas.{lasts_same}
 use Rattle.archive_database.specs.Adopting.{IsAdoptionRefused}
-use Rattle.archive_database.proofs.MakingLemmas.{told_version, told_none, idle_form}
+use Rattle.archive_database.proofs.MakingLemmas.{told_version, told_none, idle_form, migrates}
 use Rattle.archive_database.proofs.StepsLemmas.{passes}
 use Rattle.archive_database.proofs.making.migrate_tables.Goals as goal
+
+pub returns-clause-migrated : goal.returns-clause-migrated
+returns-clause-migrated g c = migrates g.S.Store c.args.conn.now c.bring_over.new.conn c.bring_over.result (search rules) (search rules) (search rules) (search rules)
 
 pub returns-in_default-clause-ends : goal.returns-in_default-clause-ends
 returns-in_default-clause-ends g c =
