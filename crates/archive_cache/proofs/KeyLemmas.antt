@@ -22,22 +22,22 @@ use Rattle.archive_cache.specs.Keyed.{IsKeyOrder, key_at, place_cmp}
 
 -- ---- the order
 
-total : (lines : List Line) → IsTotalOrder (place_cmp lines)
+pub total : (lines : List Line) → IsTotalOrder (place_cmp lines)
 total lines = then_total (on_total (key_at lines) nat_list_cmp_total) nat_cmp_total
 
-pub places_rank : (lines : List Line) → IsStrictWeakOrder (λ one other. is_lt (place_cmp lines one other))
+places_rank : (lines : List Line) → IsStrictWeakOrder (λ one other. is_lt (place_cmp lines one other))
 places_rank lines = ranks_by (total lines) (λ (place : ℕ). place)
 
 -- one place more
-pub one_more : (places : List ℕ) (n : ℕ) → ((place : ℕ) → place < n → Contains places place) → (place : ℕ) → place < n + 1 → Contains (places ++ n ∷ []) place
-one_more places n held place below = by_test (ltb place n) refl
+pub one_more : {X : Type 0} (f : ℕ → X) (xs : List X) (n : ℕ) → ((place : ℕ) → place < n → Contains xs (f place)) → (place : ℕ) → place < n + 1 → Contains (xs ++ f n ∷ []) (f place)
+one_more f xs n held place below = by_test (ltb place n) refl
   where
-    by_test : (b : Bool) → ltb place n ≡ b → Contains (places ++ n ∷ []) place
-    by_test true e = Contains-append_left places (n ∷ []) place (held place (ltb-true place n e))
+    by_test : (b : Bool) → ltb place n ≡ b → Contains (xs ++ f n ∷ []) (f place)
+    by_test true e = Contains-append_left xs (f n ∷ []) (f place) (held place (ltb-true place n e))
     by_test false e =
         let past : n ≤ place = ltb-false place n e in
         let is : n ≡ place = omega (arith, past, below) in
-        subst (λ p. Contains (places ++ n ∷ []) p) is (Contains-push places n)
+        subst (λ p. Contains (xs ++ f n ∷ []) (f p)) is (Contains-push xs (f n))
 
 -- ---- orderings
 

@@ -1,5 +1,6 @@
 pub mod OutlineLemmas
 pub mod KeyLemmas
+pub mod KeyStartLemmas
 pub mod StartLemmas
 pub mod ViewLemmas
 pub mod KeepLemmas

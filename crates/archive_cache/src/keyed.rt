@@ -1,11 +1,11 @@
 //! Lines of messages, one of which is found by its key.
-ghost use Rattle.std.specs.Prelude.{◌≡◌, ◌<◌, ℕ, IfOk, length, bytes_eq, slice_get, false};
-ghost use Rattle.std.specs.List.{Contains};
+ghost use Rattle.std.specs.Prelude.{◌≡◌, ◌<◌, ℕ, IfOk, length, bytes_eq, map, slice_get, slice_index, false};
+ghost use Rattle.std.specs.List.{All, Contains};
 ghost use Rattle.std.specs.Option.{option_map_or};
 ghost use Rattle.std.specs.Ordering.{is_lt, nat_cmp};
 ghost use Rattle.std.specs.Cmp.Lexicographic.{slice_cmp};
 ghost use Rattle.archive_results.specs.Results.{place_of_key};
-ghost use Rattle.archive_cache.specs.Keyed.{IsKeyOrder, key_at, place_cmp};
+ghost use Rattle.archive_cache.specs.Keyed.{AreBytes, IsKeyOrder, IsKeyStart, key_at, key_start, place_cmp, start_at, start_cmp};
 
 use archive_model::Key;
 use archive_results::Line;
@@ -33,6 +33,14 @@ impl Model for KeyedLines {
     ghost invariant = { λ k. IsKeyOrder k.lines.items k.by_key.items };
 }
 
+/// The place of a line, with how its key starts.
+#[derive(Clone, Copy)]
+struct KeyStart {
+    /// The first eight bytes of the key, as one number.
+    start: u64,
+    place: usize,
+}
+
 /// The key of the line at a place. Empty where no line is there.
 fn key_at(lines: &[Line], place: usize) -> &str
     ensures { result.now ≡ key_at lines.entry.now place }
@@ -52,15 +60,72 @@ fn compare(lines: &[Line], one: usize, other: usize) -> Ordering
         .then(one.cmp(&other))
 }
 
-/// The places of some lines.
-fn places_of(alloc: Global, lines: &[Line]) -> Result<Vec<usize>, Memory>
-    ensures { IfOk result (λ places. (place : ℕ) → place < length lines.now
-        → Contains places.items place) }
+/// The byte at a place of a key. Zero where the key has none there.
+fn byte_at(key: &str, at: usize) -> u8
+    ensures { result ≡ slice_index key.now at }
+{
+    key.as_bytes().get(at).copied().unwrap_or(0)
+}
+
+/// The first eight bytes of a key, as one number.
+fn start_of(key: &str) -> u64
+    ensures value { result ≡ key_start key.now }
+    ensures bytes { AreBytes key.now }
+{
+    u64::from_be_bytes([
+        byte_at(key, 0),
+        byte_at(key, 1),
+        byte_at(key, 2),
+        byte_at(key, 3),
+        byte_at(key, 4),
+        byte_at(key, 5),
+        byte_at(key, 6),
+        byte_at(key, 7),
+    ])
+}
+
+/// The place of a line, with how its key starts.
+fn start_at(lines: &[Line], place: usize) -> KeyStart
+    ensures value { result ≡ start_at lines.now place }
+    ensures bytes { AreBytes (key_at lines.now place) }
+{
+    KeyStart {
+        start: start_of(key_at(lines, place)),
+        place,
+    }
+}
+
+/// How two places stand by the keys of their lines. It looks at the keys only where they start alike.
+fn compare_starts(lines: &[Line], one: &KeyStart, other: &KeyStart) -> Ordering
+    ensures { result ≡ start_cmp lines.now one.now other.now }
+{
+    match one.start.cmp(&other.start) {
+        Ordering::Equal => compare(lines, one.place, other.place),
+        unlike => unlike,
+    }
+}
+
+/// The places of some lines, each with how its key starts.
+fn starts_of(alloc: Global, lines: &[Line]) -> Result<Vec<KeyStart>, Memory>
+    ensures each { IfOk result (λ starts. (place : ℕ) → place < length lines.now
+        → Contains starts.items (start_at lines.now place)) }
+    ensures right { IfOk result (λ starts. All (IsKeyStart lines.now) starts.items) }
 {
     let count = lines.len();
-    let mut places = Vec::with_capacity(alloc, count)?;
+    let mut starts = Vec::with_capacity(alloc, count)?;
     for place in 0..count {
-        places.push(place)?;
+        starts.push(start_at(lines, place))?;
+    }
+    Ok(starts)
+}
+
+/// The places alone.
+fn places_of(alloc: Global, starts: &[KeyStart]) -> Result<Vec<usize>, Memory>
+    ensures { IfOk result (λ places. places.items ≡ map (λ s. s.place) starts.now) }
+{
+    let mut places = Vec::with_capacity(alloc, starts.len())?;
+    for start in starts {
+        places.push(start.place)?;
     }
     Ok(places)
 }
@@ -69,9 +134,9 @@ fn places_of(alloc: Global, lines: &[Line]) -> Result<Vec<usize>, Memory>
 fn key_order(alloc: Global, lines: &[Line]) -> Result<Vec<usize>, Memory>
     ensures { IfOk result (λ order. IsKeyOrder lines.now order.items) }
 {
-    let mut order = places_of(alloc, lines)?;
-    order.sort_unstable_by(|one, other| compare(lines, *one, *other));
-    Ok(order)
+    let mut starts = starts_of(alloc, lines)?;
+    starts.sort_unstable_by(|one, other| compare_starts(lines, one, other));
+    places_of(alloc, &starts)
 }
 
 /// Whether the line at a place stands before a key.

@@ -1,6 +1,5 @@
-use Rattle.std.proofs.Common.{ℕ, ◌<◌}
-use Rattle.std.specs.List.{Contains}
+use Rattle.std.proofs.Common.{◌≡◌, map, take}
 use Rattle.archive_cache.proofs.keyed.places_of.Given as goal
 
-abbrev pub invariant-loop-place : goal.invariant-loop-place
-invariant-loop-place l = (place : ℕ) → place < l.place → Contains l.places.items place
+abbrev pub invariant-loop-start : goal.invariant-loop-start
+invariant-loop-start l = l.places.items ≡ map (λ s. s.place) (take l.start-index l.starts)
