@@ -2,7 +2,7 @@
 use Rattle.std.proofs.Common.{◌≡◌, ℕ, suc, ◌+◌, ◌<◌, ◌≤◌, Bool, true, false, not, cond, ◌&&◌, ◌||◌, ◌⊎◌, inl, inr, List, [], ◌∷◌, ◌++◌, length, take, take_all}
 use Rattle.std.proofs.Common.{get_or, filter, is_none, Option, Some, None, refl, sym, ◌∙◌, ap, subst, arith, add-one, append_assoc, length-append}
 use Rattle.std.specs.List.{list_any}
-use Rattle.std.specs.Option.{option_map_or}
+use Rattle.std.specs.Option.{option_map_or, unwrap_or}
 use Rattle.std.proofs.lemmas.List.{append-nil, take_more}
 use Rattle.std.proofs.lemmas.List.Elements.{filter-append}
 use Rattle.std.proofs.lemmas.List.Folds.{list_any-append}
@@ -22,6 +22,17 @@ same_id-sym a b = by_tests (same_id a b) (same_id b a) refl refl
     by_tests false false e f = e ∙ sym f
     by_tests true false e f = let x = same_id-exact a b e in λ i. same_id (x i) (sym x i)
     by_tests false true e f = let x = same_id-exact b a f in λ i. same_id (sym x i) (x i)
+
+-- at an id is written the number that it has, or a new one
+pub id_put : (get get' : MessageId → Option ℕ) (r : MessageId) (held n : ℕ) → held ≡ unwrap_or (get r) n → ((o : MessageId) → get' o ≡ cond (same_id r o) (Some held) (get o))
+    → (o : MessageId) → get' o ≡ cond (is_none (get r) && same_id r o) (Some n) (get o)
+id_put get get' r held n is now o = now o ∙ by_tests (get r) refl (same_id r o) refl
+  where
+    by_tests : (h : Option ℕ) → get r ≡ h → (t : Bool) → same_id r o ≡ t → cond t (Some held) (get o) ≡ cond (is_none h && t) (Some n) (get o)
+    by_tests None e true f = ap (λ (k : ℕ). Some k) (is ∙ ap (λ (h : Option ℕ). unwrap_or h n) e)
+    by_tests (Some k) e true f = ap (λ (j : ℕ). Some j) (is ∙ ap (λ (h : Option ℕ). unwrap_or h n) e) ∙ sym e ∙ ap get (same_id-exact r o f)
+    by_tests None e false f = refl
+    by_tests (Some k) e false f = refl
 
 -- the owner among one message more
 owner-last : (k : ℕ) (es : List Entry) (e : Entry) (id : MessageId) → place_of_container (owner_from k (es ++ e ∷ []) id) ≡ option_map_or (λ p. Some p) (place_of_container (owner_from k es id))

@@ -33,11 +33,9 @@ fn add<'a>(
         ≡ (if is_none (get_by (same_id id.entry) numbers.old) && same_id id.entry other
         then Some number else get_by (same_id other) numbers.old)) }
 {
-    if numbers.contains_key(&id) {
-        return Ok(false);
-    }
-    numbers.insert(id, number)?;
-    Ok(true)
+    let before = numbers.len();
+    let _held = *numbers.entry(id)?.or_insert(number);
+    Ok(numbers.len() != before)
 }
 
 /// Gives the id of a message its place, unless a message before it has that id.

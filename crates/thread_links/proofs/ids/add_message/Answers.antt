@@ -1,4 +1,4 @@
-use Rattle.std.proofs.Common.{Option, Some, sym, ap, ◌∙◌}
+use Rattle.std.proofs.Common.{Some, sym, ap, ◌∙◌}
 use Rattle.std.specs.HashMap.{get_by}
 use Rattle.mail_core.specs.MsgIds.{MessageId}
 use Rattle.thread_links.specs.Containers.{same_id}

@@ -1,7 +1,4 @@
-use Rattle.std.proofs.Common.{◌++◌, List, take, arith}
-use Rattle.std.specs.HashMap.{get_by}
-use Rattle.mail_core.specs.MsgIds.{MessageId}
-use Rattle.thread_links.specs.Containers.{same_id}
+use Rattle.std.proofs.Common.{◌++◌, take, arith}
 use Rattle.thread_links.proofs.IdLemmas.{noted_at, noted_all}
 use Rattle.thread_links.proofs.ids.Ids.note_all.Goals as goal
 
