@@ -1,18 +1,19 @@
 -- Ids are numbered in one pass.
-use Rattle.std.proofs.Common.{◌≡◌, ℕ, suc, ◌+◌, ◌<◌, ◌≤◌, Bool, true, false, not, cond, ◌&&◌, ◌||◌, ◌⊎◌, inl, inr, List, [], ◌∷◌, ◌++◌, length, take, take_all}
-use Rattle.std.proofs.Common.{get_or, filter, is_none, Option, Some, None, refl, sym, ◌∙◌, ap, subst, arith, add-one, append_assoc, length-append}
+use Rattle.std.proofs.Common.{◌≡◌, ℕ, suc, ◌+◌, ◌<◌, Bool, true, false, not, cond, ◌&&◌, ◌||◌, ◌⊎◌, inl, inr, List, [], ◌∷◌, ◌++◌, length, take}
+use Rattle.std.proofs.Common.{get_or, filter, map, is_none, Option, Some, None, refl, sym, ◌∙◌, ap, subst, arith, add-one, append_assoc, length-append}
 use Rattle.std.specs.List.{list_any}
 use Rattle.std.specs.Option.{option_map_or, unwrap_or}
-use Rattle.std.proofs.lemmas.List.{append-nil, take_more}
+use Rattle.std.proofs.lemmas.List.{append-nil, map-append, take_more}
 use Rattle.std.proofs.lemmas.List.Elements.{filter-append}
 use Rattle.std.proofs.lemmas.List.Folds.{list_any-append}
 use Rattle.std.proofs.lemmas.Grind.{flat_map-append}
 use Rattle.mail_core.specs.MsgIds.{MessageId}
 use Rattle.thread_links.specs.Containers.{Container, real, dummy, is_dummy, same_id, has_id, owner}
 use Rattle.thread_links.specs.Containers.{owner_from, distinct_ids, index_of, referenced_ids, dummy_ids, container_number, container_count, container_number_of_id}
-use Rattle.thread_links.specs.Ids.{place_of_container, dummy_ids_of_references, number_among_references, NumbersContainers}
+use Rattle.thread_links.specs.Ids.{AreNumbered, place_of_container, dummy_ids_of_references, number_among_references, NumbersContainers}
+use Rattle.thread_links.specs.Parts.{HaveContainerNumbers}
 use Rattle.thread_links.specs.declared.entry.Entry.{Entry}
-use Rattle.thread_links.proofs.NumberLemmas.{same_id-exact, any-filter, any-distinct, owner_is}
+use Rattle.thread_links.proofs.NumberLemmas.{same_id-exact, same_id-self, any-filter, any-distinct, owner_is}
 
 pub same_id-sym : (a b : MessageId) → same_id a b ≡ same_id b a
 same_id-sym a b = by_tests (same_id a b) (same_id b a) refl refl
@@ -33,6 +34,44 @@ id_put get get' r held n is now o = now o ∙ by_tests (get r) refl (same_id r o
     by_tests (Some k) e true f = ap (λ (j : ℕ). Some j) (is ∙ ap (λ (h : Option ℕ). unwrap_or h n) e) ∙ sym e ∙ ap get (same_id-exact r o f)
     by_tests None e false f = refl
     by_tests (Some k) e false f = refl
+
+-- numbers that were given stay
+numbered_still : (get get' : MessageId → Option ℕ) (r : MessageId) (n : ℕ) → ((o : MessageId) → get' o ≡ cond (is_none (get r) && same_id r o) (Some n) (get o))
+    → (id : MessageId) (k : ℕ) → get id ≡ Some k → get' id ≡ Some k
+numbered_still get get' r n now id k some = now id ∙ by_tests (get r) refl (same_id r id) refl
+  where
+    by_tests : (h : Option ℕ) → get r ≡ h → (t : Bool) → same_id r id ≡ t → cond (is_none h && t) (Some n) (get id) ≡ Some k
+    by_tests None e true f = absurd (let bad : None ≡ Some k = sym e ∙ ap get (same_id-exact r id f) ∙ some in cc)
+    by_tests (Some j) e true f = some
+    by_tests None e false f = some
+    by_tests (Some j) e false f = some
+
+all_still : (get get' : MessageId → Option ℕ) → ((id : MessageId) (k : ℕ) → get id ≡ Some k → get' id ≡ Some k) → (ids : List MessageId) (ns : List ℕ)
+    → AreNumbered get ids ns → AreNumbered get' ids ns
+all_still get get' still [] [] h = refl
+all_still get get' still [] (n ∷ ns) h = absurd (let bad : [] ≡ Some n ∷ map (λ k. Some k) ns = h in cc)
+all_still get get' still (id ∷ ids) [] h = absurd (let bad : get id ∷ map get ids ≡ [] = h in cc)
+all_still get get' still (id ∷ ids) (n ∷ ns) h =
+    let both : get id ∷ map get ids ≡ Some n ∷ map (λ k. Some k) ns = h in
+    let one : get id ≡ Some n = cc in
+    let more : map get ids ≡ map (λ k. Some k) ns = cc in
+    λ i. still id n one i ∷ all_still get get' still ids ns more i
+
+-- one number more
+pub numbered_more : (get get' : MessageId → Option ℕ) (r : MessageId) (own n : ℕ) (ids : List MessageId) (ns : List ℕ) → own ≡ unwrap_or (get r) n
+    → ((o : MessageId) → get' o ≡ cond (is_none (get r) && same_id r o) (Some n) (get o))
+    → AreNumbered get ids ns → AreNumbered get' (ids ++ r ∷ []) (ns ++ own ∷ [])
+numbered_more get get' r own n ids ns is now all =
+    map-append get' ids (r ∷ [])
+    ∙ (λ i. all_still get get' (numbered_still get get' r n now) ids ns all i ++ has i ∷ [])
+    ∙ sym (map-append (λ k. Some k) ns (own ∷ []))
+  where
+    by_had : (h : Option ℕ) → get r ≡ h → cond (is_none h && true) (Some n) (get r) ≡ Some (unwrap_or h n)
+    by_had None e = refl
+    by_had (Some k) e = e
+
+    has : get' r ≡ Some own
+    has = now r ∙ ap (λ (t : Bool). cond (is_none (get r) && t) (Some n) (get r)) (same_id-self r) ∙ by_had (get r) refl ∙ ap (λ (k : ℕ). Some k) (sym is)
 
 -- the owner among one message more
 owner-last : (k : ℕ) (es : List Entry) (e : Entry) (id : MessageId) → place_of_container (owner_from k (es ++ e ∷ []) id) ≡ option_map_or (λ p. Some p) (place_of_container (owner_from k es id))
@@ -307,10 +346,17 @@ pub number_found : (entries : List Entry) (id : MessageId) (count n : ℕ) (get 
     → get id ≡ Some n → n ≡ container_number_of_id entries id
 number_found entries id count n get noted h e = let same : Some n ≡ Some (container_number_of_id entries id) = sym e ∙ noted.number_is id ∙ number_is entries id h in cc
 
-pub number_missed : (entries : List Entry) (id : MessageId) (count : ℕ) (get : MessageId → Option ℕ) → NumbersContainers entries (referenced_ids entries) count get
-    → container_number_of_id entries id < container_count entries
-    → get id ≡ None → 0 ≡ container_number_of_id entries id
-number_missed entries id count get noted h e = absurd (let bad : None ≡ Some (container_number_of_id entries id) = sym e ∙ noted.number_is id ∙ number_is entries id h in cc)
+-- what is noted for mentioned ids is the numbers of their containers
+pub numbers_found : (entries : List Entry) (count : ℕ) (get : MessageId → Option ℕ) (ids : List MessageId) (ns : List ℕ) → NumbersContainers entries (referenced_ids entries) count get
+    → HaveContainerNumbers entries ids → AreNumbered get ids ns → ns ≡ map (container_number_of_id entries) ids
+numbers_found entries count get [] [] noted all h = refl
+numbers_found entries count get [] (n ∷ ns) noted all h = absurd (let bad : [] ≡ Some n ∷ map (λ k. Some k) ns = h in cc)
+numbers_found entries count get (id ∷ ids) [] noted all h = absurd (let bad : get id ∷ map get ids ≡ [] = h in cc)
+numbers_found entries count get (id ∷ ids) (n ∷ ns) noted all h =
+    let both : get id ∷ map get ids ≡ Some n ∷ map (λ k. Some k) ns = h in
+    let one : get id ≡ Some n = cc in
+    let more : map get ids ≡ map (λ k. Some k) ns = cc in
+    λ i. number_found entries id count n get noted all.0 one i ∷ numbers_found entries count get ids ns noted all.1 more i
 
 pub ids_noted : (entries : List Entry) (refs ids : List MessageId) (i : ℕ) (d : MessageId) (count : ℕ) (get : MessageId → Option ℕ) → i < length ids → NumbersContainers entries
     ((refs ++ take i ids) ++ get_or ids i d ∷ []) count get
@@ -334,7 +380,16 @@ noted_at entries refs ids at id count get lt is noted =
     subst (λ (all : List MessageId). NumbersContainers entries all count get)
     (append_assoc refs (take at ids) (id ∷ []) ∙ ap (λ (some : List MessageId). refs ++ some) ((λ i. take at ids ++ is id i ∷ []) ∙ sym (take_more ids at id lt))) noted
 
--- all of them
-pub noted_all : (entries : List Entry) (refs ids : List MessageId) (at : ℕ) (count : ℕ) (get : MessageId → Option ℕ) → length ids ≤ at
-    → NumbersContainers entries (refs ++ take at ids) count get → NumbersContainers entries (refs ++ ids) count get
-noted_all entries refs ids at count get past noted = subst (λ (all : List MessageId). NumbersContainers entries (refs ++ all) count get) (take_all at ids past) noted
+-- the same of the numbers of some ids
+pub numbered_at_id : (get : MessageId → Option ℕ) (refs ids : List MessageId) (at : ℕ) (id : MessageId) (ns : List ℕ) → at < length ids → ((other : MessageId) → id ≡ get_or ids at other)
+    → AreNumbered get ((refs ++ take at ids) ++ id ∷ []) ns → AreNumbered get (refs ++ take (at + 1) ids) ns
+numbered_at_id get refs ids at id ns lt is all =
+    subst (λ (some : List MessageId). AreNumbered get some ns)
+    (append_assoc refs (take at ids) (id ∷ []) ∙ ap (λ (some : List MessageId). refs ++ some) ((λ i. take at ids ++ is id i ∷ []) ∙ sym (take_more ids at id lt))) all
+
+pub numbered_entry : (entries : List Entry) (i : ℕ) (d : Entry) (refs : List MessageId) (get : MessageId → Option ℕ) (ns : List ℕ) → i < length entries → refs ≡ (get_or entries i d).refs
+    → AreNumbered get (referenced_ids (take i entries) ++ refs) ns → AreNumbered get (referenced_ids (take (i + 1) entries)) ns
+numbered_entry entries i d refs get ns h is =
+    subst (λ (rs : List MessageId). AreNumbered get rs ns)
+    (ap (λ (rs : List MessageId). referenced_ids (take i entries) ++ rs) (is ∙ sym (append-nil (get_or entries i d).refs))
+    ∙ sym (flat_map-append (λ (entry : Entry). entry.refs) (take i entries) (get_or entries i d ∷ [])) ∙ ap referenced_ids (sym (take_more entries i d h)))

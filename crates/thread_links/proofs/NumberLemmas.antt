@@ -1,5 +1,5 @@
 -- The numbers of containers.
-use Rattle.std.proofs.Common.{◌≡◌, ℕ, zero, suc, ◌+◌, ◌-◌, ◌<◌, ◌≤◌, Bool, true, false, not, cond, ◌&&◌, ◌||◌, ◌⊎◌, inl, inr, List, []}
+use Rattle.std.proofs.Common.{◌≡◌, ℕ, suc, ◌+◌, ◌-◌, ◌<◌, ◌≤◌, Bool, true, false, not, cond, ◌&&◌, ◌||◌, ◌⊎◌, inl, inr, List, []}
 use Rattle.std.proofs.Common.{◌∷◌, ◌++◌, length, take, drop, get_or, filter, refl, sym, ◌∙◌, ap, subst, arith}
 use Rattle.std.specs.List.{list_any}
 use Rattle.std.specs.Str.{bytes_eq}
@@ -12,7 +12,7 @@ use Rattle.thread_links.specs.Containers.{real, dummy, has_id, owner, owner_from
 use Rattle.thread_links.specs.Containers.{distinct_ids, index_of, referenced_ids, dummy_ids, container_number, container_count, container_number_of_id}
 use Rattle.std.proofs.Common.{append_assoc, fold}
 use Rattle.std.proofs.lemmas.Grind.{flat_map-append}
-use Rattle.std.proofs.lemmas.List.{take-append-drop}
+use Rattle.std.proofs.lemmas.List.{append-nil, take-append-drop}
 use Rattle.thread_links.specs.Links.{Link, links_after_request, LinkRequest, id_link_requests, link_requests_from, link_request_of_message}
 use Rattle.thread_links.specs.Parts.{HaveContainerNumbers, distinct_ids_before}
 use Rattle.thread_links.specs.declared.entry.Entry.{Entry}
@@ -129,13 +129,6 @@ onto_step ids others old new left d some within item before is =
     ∙ ap (λ (v : MessageId). v ∷ filter (λ other. not (same_id v other)) (distinct_ids_before (drop (left - 1 + 1) ids) others)) item
     ∙ sym step
 
--- each of these ids is mentioned
-pub numbered_at : (entries : List Entry) (refs : List MessageId) (i : ℕ) (d : MessageId) → i < length refs → HaveContainerNumbers entries refs
-    → container_number_of_id entries (get_or refs i d) < container_count entries
-numbered_at entries [] i d h all = absurd (let bad : i < 0 = h in omega (arith, bad))
-numbered_at entries (r ∷ refs) zero d h all = all.0
-numbered_at entries (r ∷ refs) (suc i) d h all = numbered_at entries refs i d (let g : suc i < suc (length refs) = h in omega (arith, g)) all.1
-
 pub same_id-self : (a : MessageId) → same_id a a ≡ true
 same_id-self a = let l = (bytes_decides a.left a.left).1 refl in let r = (bytes_decides a.right a.right).1 refl in rw (l, r) refl
 
@@ -160,6 +153,10 @@ numbered_refs entries i d h =
     numbered_part entries (referenced_ids (take i entries)) (get_or entries i d).refs (referenced_ids (drop (i + 1) entries))
     (ap referenced_ids (sym (take-append-drop i entries)) ∙ flat_map-append (λ (entry : Entry). entry.refs) (take i entries) (drop i entries)
     ∙ ap (λ (es : List Entry). referenced_ids (take i entries) ++ referenced_ids es) (drop_more entries i d h))
+
+-- each mentioned id
+pub numbered_mentioned : (entries : List Entry) → HaveContainerNumbers entries (referenced_ids entries)
+numbered_mentioned entries = numbered_part entries [] (referenced_ids entries) [] (sym (append-nil (referenced_ids entries)))
 
 pub requests_more : (num : MessageId → ℕ) (entries : List Entry) (i : ℕ) (d : Entry) → i < length entries
     → link_requests_from num i (drop i entries)

@@ -1,5 +1,5 @@
 -- The numbers of containers, while ids are read.
-use Rattle.std.specs.Prelude.{◌≡◌, ℕ, ◌+◌, if◌then◌else◌, List, length, filter, Option, Some, None}
+use Rattle.std.specs.Prelude.{◌≡◌, ℕ, ◌+◌, if◌then◌else◌, List, length, map, filter, Option, Some, None}
 use Rattle.std.specs.Option.{option_map_or}
 use Rattle.std.specs.List.{list_any}
 use Rattle.mail_core.specs.MsgIds.{MessageId}
@@ -26,3 +26,7 @@ number_among_references entries refs id =
 pub record NumbersContainers (entries : List Entry) (refs : List MessageId) (count : ℕ) (number : MessageId → Option ℕ) : Type 0 where
   pub count_is_total : count ≡ length entries + length (dummy_ids_of_references entries refs)
   pub number_is : (id : MessageId) → number id ≡ number_among_references entries refs id
+
+-- these ids have these numbers, one by one
+abbrev pub AreNumbered : (MessageId → Option ℕ) → List MessageId → List ℕ → Type 0
+AreNumbered number ids numbers = map number ids ≡ map (λ n. Some n) numbers
