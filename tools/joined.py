@@ -70,7 +70,7 @@ class Mistake:
         """Returns whether the prover's path of a function is that of this one: its module, or that of its type, the type with the trait, its name."""
         _, *modules, name = path.split("::")
         if self.type:
-            return name == self.function and bool(modules) and modules[-1] in (self.type, self.type + self.of[0], self.of[1])
+            return name == self.function and bool(modules) and modules[-1] in (self.type, self.type + self.of[0], *self.of[1:])
         return name == self.function and modules == [it for it in self.file.removeprefix("src/").removesuffix(".rt").split("/") if it not in ("lib", "main")]
 
 
@@ -89,13 +89,14 @@ def function_at(text, at):
             # (its head may have several lines)
             head = " ".join(text[text.rfind(f"{line}\n", 0, at):].split("{")[0].split())
             of = IMPL.match(head)
-            return (function, f"{of[3]}{of[1] or ''}", (of[2] or "", spelled(head))) if of else (None, "", ())
+            return (function, f"{of[3]}{of[1] or ''}", (of[2] or "", *spelled(head))) if of else (None, "", ())
     return None, "", ()
 
 
 def spelled(head):
-    """Returns the whole name that the prover gives an impl with this head: its type and then its trait, each with what it is of, without
-    lifetimes and the impl's own parameters."""
+    """Returns the whole names that the prover may give an impl with this head: its type and then its trait, each with what it is of, without
+    lifetimes and the impl's own parameters. A path goes by its last word, or by all, as `SqliteError` of `sqlite::Error`; and a type by itself
+    has a plus sign before what it is of."""
     depth, end = 0, len("impl")
     for end in range(len("impl"), len(head)):
         depth += (head[end] == "<") - (head[end] == ">")
@@ -103,8 +104,10 @@ def spelled(head):
             break
     own = {*re.findall(r"[<,] *(?:const )?(\w+)", head[:end])}
     trait, found, of = head[end + 1:].partition(" for ")
-    parts = (of, trait) if found else (trait,)
-    return "".join(it for part in parts for it in re.findall(r"(?<![\w'])(?:\w+::)*(\w+)", part) if it not in own)
+    paths = [it.split("::") for part in ((of, trait) if found else (trait,)) for it in re.findall(r"(?<![\w'])(?:\w+::)*\w+", part)]
+    paths = [it for it in paths if it[-1] not in own]
+    last = [it[-1] for it in paths]
+    return ("".join(last), "".join(word[0].upper() + word[1:] for it in paths for word in it), "" if found else "+".join(last))
 
 
 def rounds_of(mistakes):

@@ -483,10 +483,13 @@ FROM = {**BODIES, "crates/low/src/lib.rt": BODIES["crates/low/src/lib.rt"] + "\n
 FROM_FAILS = "fn low::{}::from: not proved; `search` did not prove `returns`\n"
 HELD = {**BODIES, "crates/low/src/lib.rt": BODIES["crates/low/src/lib.rt"] + "\nimpl<'a, R: Reads<u8>> Files<Store<Low>>\n    for Held<'a, R, Low> {\n    fn open(e: u8) -> Low {\n        LOW\n    }\n}\n",
     "crates/low/must-fail/open.is_high.edit": "file: src/lib.rt\nold:         LOW\nnew:         HIGH\n"}
+ALONE = {path: it.replace("impl<'a, R: Reads<u8>> Files<Store<Low>>\n    for Held<'a, R, Low> {", "impl<'a, R: Reads<u8>> Held<'a, R, Low> {") for path, it in HELD.items()}
 IN_ONE_CHECK = {
     "the trait's argument ends the name of an impl": tries(F_FAILS + G_FAILS + FROM_FAILS.format("LowFromAllocError"), 3, [], files=FROM),
+    "or with the module that it is named by": tries(F_FAILS + G_FAILS + FROM_FAILS.format("LowFromCoreAllocError"), 3, [], files=FROM),
     "an impl of another argument is another": tries(F_FAILS + G_FAILS + FROM_FAILS.format("LowFromError"), 0, ["from.is_high.edit", F_EDIT, G_EDIT], files=FROM),
     "an impl whose head takes two lines has its whole name": tries(F_FAILS + G_FAILS + FROM_FAILS.format("HeldLowFilesStoreLow").replace("::from", "::open"), 3, [], files=HELD),
+    "an impl of a type by itself has a plus sign before its argument": tries(F_FAILS + G_FAILS + FROM_FAILS.format("Held+Low").replace("::from", "::open"), 3, [], files=ALONE),
     "two functions are tried in one check": tries(F_FAILS + G_FAILS, 2, [], sources=[with_mistakes(f=("\n 1\n", "\n 3\n"), g=("+ 2", "+ 4"))]),
     "one that is proved is tried by itself": tries(F_FAILS + "fn low::g: proved\n", 1, [G_EDIT]),
     "and where it is proved, that has failed": tries(F_FAILS + "fn low::g: proved\n", 1, [G_EDIT], says_of="logic=proved\n", fails=1),
