@@ -4,7 +4,9 @@ ghost use Rattle.std.specs.Prelude.{◌≡◌, Ok, Err, MatchResult};
 ghost use Rattle.archive_listen.specs.Asking.{after_accept_call, no_accept_calls};
 
 use crate::errors::Errors;
+use crate::handles::StreamHandle;
 use byte_device::Transcript;
+use std::alloc::Global;
 use std::io::{self, ErrorKind};
 use std::marker::Model;
 use std::net::{OpenListener, OpenStream};
@@ -14,22 +16,23 @@ use std::time::Instant;
 /// A connection that the system gave.
 #[derive(Drop)]
 pub(crate) struct Given<S> {
-    /// The socket that is read.
-    pub read: S,
-    /// A second descriptor of the same socket, which is written to.
-    pub written: S,
+    /// The handle that is read.
+    pub read: StreamHandle<S>,
+    /// The handle of the same stream that is written to.
+    pub written: StreamHandle<S>,
     /// When it was given.
     pub at: Instant,
 }
 
-/// Asks for a connection, for the time, and for a second descriptor of its socket.
+/// Asks for a connection and for the time, and makes two handles of its stream.
 fn ask<R: Clock, S: OpenStream + Drop, L: OpenListener<Stream = S>>(
     listener: &L,
     clock: &R,
+    alloc: Global,
 ) -> io::Result<Given<S>> {
-    let (read, _) = listener.accept()?;
+    let (stream, _) = listener.accept()?;
     let at = Instant::now(clock)?;
-    let written = read.try_clone()?;
+    let (read, written) = StreamHandle::pair(alloc, stream)?;
     Ok(Given { read, written, at })
 }
 
@@ -70,6 +73,7 @@ impl<L> Asked<L> {
     pub(crate) fn next<R: Clock, S: OpenStream + Drop>(
         &mut self,
         clock: &R,
+        alloc: Global,
     ) -> Result<Given<S>, ErrorKind>
     where
         L: OpenListener<Stream = S>,
@@ -77,7 +81,7 @@ impl<L> Asked<L> {
             (λ kind. self.new ≡ after_accept_call (Err kind) self.old) }
     {
         self.times.note(&[0]);
-        match ask(&self.inner, clock) {
+        match ask(&self.inner, clock, alloc) {
             Ok(given) => {
                 self.at = Some(given.at);
                 Ok(given)

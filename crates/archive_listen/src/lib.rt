@@ -7,6 +7,7 @@ mod errors;
 mod exchanges;
 mod faults;
 mod gathered;
+mod handles;
 pub mod laws;
 mod open;
 mod peeked;

@@ -13,6 +13,7 @@ use crate::connections::{BoundListener, Connection, Listener, Ports};
 use crate::exchanges::Exchanges;
 use crate::faults::{AcceptError, ListenError};
 use crate::gathered::{ROOM, WriteBuffer};
+use crate::handles::StreamHandle;
 use crate::open::StillOpen;
 use crate::peeked::Peeked;
 use crate::streams::{Ends, Reading};
@@ -54,7 +55,7 @@ const LINGER_BYTES: usize = 1_048_576;
 /// socket, so that the system resets the connection if it is closed before its end.
 #[derive(Drop)]
 pub struct DeadlineReader<'a, R, S> {
-    stream: Peeked<'a, R, S>,
+    stream: Peeked<'a, R, StreamHandle<S>>,
     begun: bool,
     ends: Transcript,
     faults: Transcript,
@@ -79,7 +80,7 @@ impl<'a, R, S> Model for DeadlineReader<'a, R, S> {
 
 impl<'a, R: Clock, S: Read + OpenStream> DeadlineReader<'a, R, S> {
     /// Nothing was read yet. The time that a request may take begins.
-    fn new(clock: &'a R, stream: S, since: Instant) -> DeadlineReader<'a, R, S>
+    fn new(clock: &'a R, stream: StreamHandle<S>, since: Instant) -> DeadlineReader<'a, R, S>
         ensures { result ≡ nothing_read since }
     {
         DeadlineReader {
@@ -147,7 +148,7 @@ fn reply_span(written: u64) -> Span
 /// What is written to a peer, within the times that a reply may take. A write past them fails.
 #[derive(Drop)]
 pub struct DeadlineWriter<'a, R, S> {
-    stream: Timed<'a, R, S>,
+    stream: Timed<'a, R, StreamHandle<S>>,
     written: u64,
     faults: Transcript,
 }
@@ -170,7 +171,7 @@ impl<'a, R, S> Model for DeadlineWriter<'a, R, S> {
 
 impl<'a, R: Clock, S: Write + OpenStream> DeadlineWriter<'a, R, S> {
     /// Nothing was written yet.
-    fn new(clock: &'a R, stream: S) -> DeadlineWriter<'a, R, S>
+    fn new(clock: &'a R, stream: StreamHandle<S>) -> DeadlineWriter<'a, R, S>
         ensures { result ≡ nothing_written }
     {
         DeadlineWriter {
@@ -264,9 +265,10 @@ fn listen_at<R: HasPorts>(
 #[derive(Drop)]
 pub struct Loopback<'a, R: Net> {
     rt: &'a R,
+    alloc: Global,
     listener: Asked<R::Listener>,
     address: SocketAddr,
-    still_open: StillOpen<R::Stream>,
+    still_open: StillOpen<StreamHandle<R::Stream>>,
     exchanges: Exchanges,
     ended: Ends,
     waited: Waited,
@@ -295,6 +297,7 @@ impl<'a, R: HasPorts> Loopback<'a, R> {
         let (listener, address) = listen_at(rt, asked)?;
         Ok(Loopback {
             rt,
+            alloc,
             listener: Asked::new(listener),
             address,
             still_open: StillOpen::new(alloc),
@@ -335,7 +338,7 @@ impl<'a, R> Model for LoopbackPorts<'a, R> {
 }
 
 impl<'a, R> LoopbackPorts<'a, R> {
-    /// Those of a system, where no listener was ended yet. The memory is for connections that stay open.
+    /// Those of a system, where no listener was ended yet. The memory is for connections.
     pub fn new(rt: &'a R, alloc: Global) -> LoopbackPorts<'a, R>
         ensures { result ≡ record { system = rt.now; exchanges = [] } }
     {
@@ -456,7 +459,7 @@ impl<'a, R: Net + Clock> Listener for Loopback<'a, R> {
             (λ fault. CallsAcceptOnce self.old self.new (Some fault)) }
         ensures since { IfOk result (λ c. c.input.since ≡ self.new.asked.at) }
     {
-        let given = match self.listener.next(self.rt) {
+        let given = match self.listener.next(self.rt, self.alloc) {
             Ok(given) => given,
             Err(kind) => return Err(accept_fault(kind)),
         };
