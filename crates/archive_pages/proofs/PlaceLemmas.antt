@@ -1,13 +1,11 @@
 -- A page out of the outline at a place of what is kept.
-use Rattle.std.proofs.Common.{◌≡◌, ◌∙◌, ◌++◌, refl, sym, ap, subst, cond, ℕ, Bool, true, false, List, Option, Some, None, codes}
+use Rattle.std.proofs.Common.{◌≡◌, ◌∙◌, ◌++◌, refl, sym, ap, subst, ℕ, List, Option, Some, None, codes}
 use Rattle.std.specs.Prelude.{flat_map, option_map}
 use Rattle.std.specs.Option.{option_map_or}
 use Rattle.archive_port.specs.declared.state.ArchiveState.{Ghosts}
-use Rattle.civil_time.specs.Calendar.{month_of_text}
 use Rattle.civil_time.specs.Texts.{month_text}
 use Rattle.archive_model.specs.Records.{Archive}
 use Rattle.archive_model.specs.Questions.{merge_of}
-use Rattle.archive_model.specs.Keys.{is_key}
 use Rattle.archive_desk.specs.Holding.{RelatesTableArchives}
 use Rattle.archive_port.specs.Told.{HoldsTables}
 use Rattle.archive_port.proofs.Joins.{goes_in_as}
@@ -15,14 +13,16 @@ use Rattle.archive_results.specs.Access.{Ask}
 use Rattle.archive_results.specs.Results.{TreeLine, author_lines, month_lines, tree_lines, thread_lines, lines_of, thread_rows_of}
 use Rattle.archive_results.specs.Shown.{Line, ShownMessage}
 use Rattle.archive_html.specs.Texts.{html_escaped_text}
-use Rattle.archive_html.specs.Pages.{author_page, month_page, page, threads_page, thread_page, list_title}
+use Rattle.archive_html.specs.Pages.{author_page, page, threads_page, thread_page, list_title}
 use Rattle.archive_html.specs.Rows.{message_row, tree_row}
 use Rattle.archive_cache.specs.ListIndexes.{ListIndex, index_for_ask, index_of_lines, rendered_rows}
 use Rattle.archive_cache.proofs.OutlineLemmas.{text_is, top_rows_text}
 use Rattle.archive_cache.specs.Parts.{ViewPart, whole, month, author}
 use Rattle.archive_cache.specs.Views.{CacheState, cached_index_at}
-use Rattle.archive_pages.specs.Answers.{reply_if_list_exists, month_reply, shown_view, thread_reply}
+use Rattle.archive_pages.specs.Answers.{reply_if_list_exists, shown_view}
 use Rattle.archive_pages.specs.Calls.{IsCachedIndexPlace}
+use Rattle.archive_pages.specs.Listings.{wanted_reply}
+use Rattle.archive_pages.specs.declared.listing.Wanted.TheVariants.{Month, Thread}
 use Rattle.archive_pages.specs.Replies.{Reply, not_found, page_reply}
 use Rattle.archive_pages.specs.Serving.{IsTrueOfEveryArchive}
 use Rattle.archive_pages.proofs.DeskLemmas.{on_listed, on_unlisted}
@@ -39,22 +39,21 @@ module _ {S W : Type 0} (g : Ghosts S W) (old new : S) (If : Archive → Type 0)
     (λ returned shut a. more a (found.1 returned shut a)),
   )
 
-  module _ (ask : Ask) (kept : CacheState) (part : ViewPart) (o : Option ℕ) (made : Archive → Reply)
+  module _ (ask : Ask) (kept : CacheState) (part : ViewPart) (o : Option ℕ) (made said : Archive → Reply)
+      (same : (a : Archive) → said a ≡ reply_if_list_exists a ask.list (made a))
       (found : RelatesTableArchives g old new (λ a b. (b ≡ a) × (If a → IsCachedIndexPlace a ask kept part o)) × IsTrueOfEveryArchive g old new (λ a. IsCachedIndexPlace a ask kept part o)) where
     -- there is no such list
-    pub found_none : o ≡ None → RelatesTableArchives g old new (λ a b. (b ≡ a) × (If a → not_found ≡ reply_if_list_exists a ask.list (made a)))
-        × IsTrueOfEveryArchive g old new (λ a. not_found ≡ reply_if_list_exists a ask.list (made a))
-    found_none is = finds_as (λ a. IsCachedIndexPlace a ask kept part o) (λ a. not_found ≡ reply_if_list_exists a ask.list (made a))
-        (λ a at. sym (on_unlisted a ask (made a) (subst (λ x. IsCachedIndexPlace a ask kept part x) is at))) found
+    pub found_none : o ≡ None → RelatesTableArchives g old new (λ a b. (b ≡ a) × (If a → not_found ≡ said a)) × IsTrueOfEveryArchive g old new (λ a. not_found ≡ said a)
+    found_none is = finds_as (λ a. IsCachedIndexPlace a ask kept part o) (λ a. not_found ≡ said a)
+        (λ a at. sym (same a ∙ on_unlisted a ask (made a) (subst (λ x. IsCachedIndexPlace a ask kept part x) is at))) found
 
     pub found_at : (place : ℕ) (outline : ListIndex) (reply : Reply) → o ≡ Some place → Some outline ≡ cached_index_at kept place
         → ((a : Archive) → outline ≡ index_for_ask a ask part → reply ≡ made a)
-        → RelatesTableArchives g old new (λ a b. (b ≡ a) × (If a → reply ≡ reply_if_list_exists a ask.list (made a)))
-        × IsTrueOfEveryArchive g old new (λ a. reply ≡ reply_if_list_exists a ask.list (made a))
-    found_at place outline reply is there of = finds_as (λ a. IsCachedIndexPlace a ask kept part o) (λ a. reply ≡ reply_if_list_exists a ask.list (made a))
+        → RelatesTableArchives g old new (λ a b. (b ≡ a) × (If a → reply ≡ said a)) × IsTrueOfEveryArchive g old new (λ a. reply ≡ said a)
+    found_at place outline reply is there of = finds_as (λ a. IsCachedIndexPlace a ask kept part o) (λ a. reply ≡ said a)
         (λ a at.
         let it = subst (λ x. IsCachedIndexPlace a ask kept part x) is at in
-        of a (some_is outline (index_for_ask a ask part) (there ∙ it.1)) ∙ sym (on_listed a ask (made a) it.0)) found
+        of a (some_is outline (index_for_ask a ask part) (there ∙ it.1)) ∙ sym (same a ∙ on_listed a ask (made a) it.0)) found
 
 module _ (a : Archive) (ask : Ask) (outline : ListIndex) (list : List ℕ) (same_list : list ≡ ask.list) where
   abbrev view : List ShownMessage
@@ -79,11 +78,10 @@ module _ (a : Archive) (ask : Ask) (outline : ListIndex) (list : List ℕ) (same
   thread_by text None is = absurd (cc)
   thread_by text (Some trees) is = let same : text ≡ flat_map (tree_row ask.list) trees = cc in ap (λ rows. page_reply (page (list_title ask.list (codes "thread")) rows)) same
 
-  pub thread_placed : (key text made : List ℕ) → is_key key ≡ true → made ≡ page (list_title list (codes "thread")) text
-      → Some text ≡ texts (thread_lines (merge_of a ask.list) key view) → page_reply made ≡ thread_reply (merge_of a ask.list) ask.list key view
-  thread_placed key text made keyed is same =
+  pub thread_placed : (key text made : List ℕ) → made ≡ page (list_title list (codes "thread")) text
+      → Some text ≡ texts (thread_lines (merge_of a ask.list) key view) → page_reply made ≡ wanted_reply a ask (Thread key)
+  thread_placed key text made is same =
       ap page_reply (is ∙ ap (λ l. page (list_title l (codes "thread")) text) same_list) ∙ thread_by text (thread_lines (merge_of a ask.list) key view) same
-      ∙ ap (λ b. option_map_or shown (cond b (thread_lines (merge_of a ask.list) key view) None) not_found) (sym keyed)
 
 -- the rows of a month, and those of an author
 module _ (a : Archive) (ask : Ask) (outline : ListIndex) (list text : List ℕ) (same_list : list ≡ ask.list) (same_text : text ≡ rendered_rows outline outline.rows) where
@@ -94,23 +92,19 @@ module _ (a : Archive) (ask : Ask) (outline : ListIndex) (list text : List ℕ) 
       ∙ ap (λ rows. page (list_title ask.list rest) rows)
       (same_text ∙ (ap (λ (o : ListIndex). rendered_rows o o.rows) of ∙ top_rows_text ask.list lines)))
 
-  pub month_placed : (m : ℕ) (path made : List ℕ) → outline ≡ index_for_ask a ask (month m) → Some m ≡ month_of_text path → made ≡ page (list_title list (month_text m)) text
-      → page_reply made ≡ month_reply ask.list path (shown_view a ask)
-  month_placed m path made of read is =
-      ap page_reply (lines_placed (month_text m) made (month_lines m (shown_view a ask)) of is)
-      ∙ ap (λ o. option_map_or (λ n. page_reply (month_page ask.list n (month_lines n (shown_view a ask)))) o not_found) read
+  pub month_placed : (m : ℕ) (made : List ℕ) → outline ≡ index_for_ask a ask (month m) → made ≡ page (list_title list (month_text m)) text
+      → page_reply made ≡ wanted_reply a ask (Month m)
+  month_placed m made of is = ap page_reply (lines_placed (month_text m) made (month_lines m (shown_view a ask)) of is)
 
   pub author_placed : (key made : List ℕ) → outline ≡ index_for_ask a ask (author key) → made ≡ page (list_title list (codes "by " ++ html_escaped_text key)) text
       → page_reply made ≡ page_reply (author_page ask.list key (author_lines key (shown_view a ask)))
   author_placed key made of is = ap page_reply (lines_placed (codes "by " ++ html_escaped_text key) made (author_lines key (shown_view a ask)) of is)
 
 module _ (ask : Ask) where
-  none_by : (b : Bool) (x : Option (List TreeLine)) → None ≡ option_map (flat_map (tree_row ask.list)) x → not_found ≡ option_map_or (λ trees. page_reply (thread_page ask.list trees))
-      (cond b x None) not_found
-  none_by true None is = refl
-  none_by true (Some trees) is = absurd (cc)
-  none_by false x is = refl
+  none_by : (x : Option (List TreeLine)) → None ≡ option_map (flat_map (tree_row ask.list)) x → not_found ≡ option_map_or (λ trees. page_reply (thread_page ask.list trees)) x not_found
+  none_by None is = refl
+  none_by (Some trees) is = absurd (cc)
 
   pub thread_none : (a : Archive) (key : List ℕ) → None ≡ option_map (flat_map (tree_row ask.list)) (thread_lines (merge_of a ask.list) key (shown_view a ask))
-      → not_found ≡ thread_reply (merge_of a ask.list) ask.list key (shown_view a ask)
-  thread_none a key none = none_by (is_key key) (thread_lines (merge_of a ask.list) key (shown_view a ask)) none
+      → not_found ≡ wanted_reply a ask (Thread key)
+  thread_none a key none = none_by (thread_lines (merge_of a ask.list) key (shown_view a ask)) none

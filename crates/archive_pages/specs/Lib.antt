@@ -8,3 +8,4 @@ pub mod KeptServing
 pub mod Answered
 pub mod Headline
 pub mod Calls
+pub mod Listings

@@ -1,5 +1,5 @@
 //! The answer of a route.
-ghost use Rattle.std.specs.Prelude.{◌≡◌, ◌≤◌, MatchResult};
+ghost use Rattle.std.specs.Prelude.{◌≡◌, ◌≤◌, MatchResult, option_map};
 ghost use Rattle.archive_requests.specs.Routes.{mbox};
 ghost use Rattle.archive_requests.specs.Routing.{model_route};
 ghost use Rattle.archive_results.specs.Access.{reader_name};
@@ -11,13 +11,14 @@ ghost use Rattle.archive_pages.specs.Answers.{ask_of_reader, list_reply, reply_u
 ghost use Rattle.archive_pages.specs.Calls.{IsCacheCoherentForAsk, IsPagesCacheCoherent, EndsReplyFromPages, EndsReply};
 ghost use Rattle.archive_pages.specs.Calls.{EndsFindingReply, FindsReplyIf, ChangesOnlyPagesCache, ServesReplyIf, WritesReply};
 ghost use Rattle.archive_pages.specs.Causes.{IsListDataUnreadable, IsRouteDataUnreadable, IsUnreadableOrReaderUnknown, SendsOr503, ServesOr503};
+ghost use Rattle.archive_pages.specs.Listings.{list_of_route};
 ghost use Rattle.archive_pages.specs.Replies.{IsReplyOr503, mbox_reply, unavailable};
 ghost use Rattle.archive_pages.specs.Seen.{model_reply};
 ghost use Rattle.archive_pages.specs.Serving.{SendsFromArchive};
 
 use crate::faults::ServeFault;
 use crate::finding::{find_lists, find_message};
-use crate::listing::{find_author, find_month, find_place, find_thread, find_threads};
+use crate::listing::{find_listing, find_place};
 use crate::pages::Pages;
 use crate::replies::{Failure, Reply, Unavailable};
 use crate::writing::{write_failure, write_reply};
@@ -49,6 +50,21 @@ fn ask_of<'a>(policy: &'a Policy, reader: Reader<'a>, day: Day, list: &'a str) -
     }
 }
 
+/// The list that a route leads to. `None`: all lists.
+fn list_of<'p>(route: &Route<'p>) -> Option<&'p str>
+    ensures { option_map (λ l. l.now) result ≡ list_of_route (model_route route.now) }
+{
+    match route {
+        Route::Lists => None,
+        Route::Message { list, .. } => Some(list),
+        Route::Month { list, .. } => Some(list),
+        Route::Threads { list } => Some(list),
+        Route::Thread { list, .. } => Some(list),
+        Route::Author { list, .. } => Some(list),
+        Route::Mbox { list } => Some(list),
+    }
+}
+
 /// The reply of a route, made in memory: a page out of what is kept, or a message. An mbox is not, which is written message by message: of
 /// that route it is 404.
 fn find_page<'a: 'p, 'p, T: Threader, S: ArchiveStore>(
@@ -67,32 +83,16 @@ fn find_page<'a: 'p, 'p, T: Threader, S: ArchiveStore>(
     ensures writes_nothing { WritesNothing S.ArchiveState store.old store.new }
 {
     let alloc = pages.alloc;
-    let policy = pages.policy;
-    let threader = pages.threader;
-    let day = pages.day;
+    let Some(list) = list_of(route) else {
+        return find_lists(store, alloc);
+    };
+    let ask = ask_of(pages.policy, reader, pages.day, list);
     match route {
-        Route::Lists => find_lists(store, alloc),
-        Route::Message { list, key } => {
-            let ask = ask_of(policy, reader, day, list);
-            find_message(store, &mut pages.kept, alloc, &ask, key)
+        Route::Message { key, .. } => find_message(store, &mut pages.kept, alloc, &ask, key),
+        _ => {
+            let threader = pages.threader;
+            find_listing(store, &mut pages.kept, alloc, &ask, threader, route)
         }
-        Route::Month { list, month } => {
-            let ask = ask_of(policy, reader, day, list);
-            find_month(store, &mut pages.kept, alloc, &ask, threader, month)
-        }
-        Route::Threads { list } => {
-            let ask = ask_of(policy, reader, day, list);
-            find_threads(store, &mut pages.kept, alloc, &ask, threader)
-        }
-        Route::Thread { list, key } => {
-            let ask = ask_of(policy, reader, day, list);
-            find_thread(store, &mut pages.kept, alloc, &ask, threader, key)
-        }
-        Route::Author { list, author } => {
-            let ask = ask_of(policy, reader, day, list);
-            find_author(store, &mut pages.kept, alloc, &ask, threader, author)
-        }
-        Route::Mbox { .. } => Ok(Reply::Failed(Failure::NotFound)),
     }
 }
 
