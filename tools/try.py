@@ -1100,17 +1100,17 @@ pub fn copied(alloc: Global, bytes: &[u8]) -> Result<Vec<u8>, Fault>
         other => Ok(text),
     }
 }
-pub struct Refused(());
-impl From<AllocError> for Refused {
-    fn from(_refused: AllocError) -> Refused {
-        Refused(())
+pub struct MemoryRefusal(());
+impl From<AllocError> for MemoryRefusal {
+    fn from(_refused: AllocError) -> MemoryRefusal {
+        MemoryRefusal(())
     }
 }
 fn counted(told: Result<Text, AllocError>) -> Result<Text, Unavailable> {
     match told {
         Ok(text) => Ok(text),
         Err(refused) => {
-            wants.raise(refused.into());
+            wants.increment(refused.into());
             Err(Unavailable)
         }
     }
@@ -1132,7 +1132,7 @@ BY_HAND = HANDED_ON + """fn pushed(all: &mut Vec<u8>) -> Result<(), Fault> {
             done(&more);
         }
         Err(_) => {
-            wants.raise(Refused(()));
+            wants.increment(MemoryRefusal(()));
             Err(Fault::Memory)
         }
     }
@@ -1166,7 +1166,7 @@ WANTS = {
     "the places": lambda: equal(output_of("wants.py", ["--list"], WANTING), PLACES),
     "a body that gives up": says("wants.py", [], with_more("fn f(list: &str) -> Result<(), Fault> {\n    if list.is_empty() {\n        return Err(Fault::Memory);\n    }\n    Ok(())\n}\n"), 1,
         "wants: low::lib::f tells of a want of memory by hand (bare): hand on what was refused by `?` or `From`"),
-    "a denial that is counted": says("wants.py", [], with_more("fn f() -> Found {\n    match asked() {\n        Ok(Asked::Denied(_)) => {\n            store.wants.raise(Refused(()));\n            Err(Unavailable)\n        }\n        _ => Ok(()),\n    }\n}\n"), 1,
+    "a denial that is counted": says("wants.py", [], with_more("fn f() -> Found {\n    match asked() {\n        Ok(Asked::Denied(_)) => {\n            store.wants.increment(MemoryRefusal(()));\n            Err(Unavailable)\n        }\n        _ => Ok(()),\n    }\n}\n"), 1,
         "wants: low::lib::f tells of a want of memory by hand (bare): hand on what was refused by `?` or `From`"),
     "a refusal that is let go": says("wants.py", [], with_more("fn f() -> Result<(), Fault> {\n    match copied() {\n        Ok(text) => Ok(()),\n        Err(_) => Err(Fault::Memory),\n    }\n}\n"), 1,
         "wants: low::lib::f tells of a want of memory by hand (refused): hand on what was refused by `?` or `From`"),

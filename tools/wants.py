@@ -6,8 +6,8 @@ is written down, is in the list `wants.txt`. Status 1 where one is not, or where
   wants.py --list     prints the line of each place as the list has it; for one that is bare the reason is to be written
 
 A growth that is refused comes as `AllocError`, `AllocFailed`, a library's own type for the same, or an error of the database; `?` and
-`From` hand it on. Whoever counts a want (`raise`, `refuse`) hands over a `Refused`, whose field is private: it is made by `From` of such a
-refusal, and by hand, `Refused(())`, in the file that declares it alone. Whoever writes that, or `X::Memory`, has to be believed. Such a
+`From` hand it on. Whoever counts a want (`increment`, `count_refusal`) hands over a `MemoryRefusal`, whose field is private: it is made by
+`From` of such a refusal, and by hand, `MemoryRefusal(())`, in the file that declares it alone. Whoever writes that, or `X::Memory`, has to be believed. Such a
 place is, by the innermost arm, `else` or test around it,
 
   refused   in an arm `Err(_)` or `Err(refused)`, in the `else` of `let Ok`, or behind `is_err()`: a call refused
@@ -25,7 +25,7 @@ import clauses, part
 
 LIST = part.ROOT / "tools" / "wants.txt"
 MADE = re.compile(
-    r"\b(?:[A-Z]\w*::)+(?:Memory|OutOfMemory|NoMemory)\b|(?<![\w:])(?:AllocError|Memory)\b(?!\s*(?:::|>|\{|\())|\bAllocFailed\b(?=\s*\{)|\bRefused\b(?=\(\(\)\))"
+    r"\b(?:[A-Z]\w*::)+(?:Memory|OutOfMemory|NoMemory)\b|(?<![\w:])(?:AllocError|Memory)\b(?!\s*(?:::|>|\{|\())|\bAllocFailed\b(?=\s*\{)|\bMemoryRefusal\b(?=\(\(\)\))"
 )
 GIVEN = re.compile(r"Err\((?:refused|(?:\w+::)*Refused\(refused\))\)")
 NAMED = re.compile(r"\b(?:Memory|OutOfMemory|NoMemory)\b|\.is_memory\(\)")
@@ -91,7 +91,7 @@ def is_told(text, found):
     before, after = text[:start].rstrip(), text[end:].lstrip()
     if before.endswith(("==", "!=")) or re.match(r"[=!]=", after):
         return False
-    if found[0] == "Refused" and before.endswith("struct"):
+    if found[0] == "MemoryRefusal" and before.endswith("struct"):
         return False
     if re.fullmatch(r"AllocError|Memory", found[0]):
         around = level(text, start)[0]
