@@ -10,6 +10,7 @@ ghost use Rattle.archive_database.specs.Taking.{InsertsMessage, FailsToInsertMes
 use crate::faults::DatabaseError;
 use crate::filing::file;
 use archive_model::Key;
+use archive_tables::rows::{IndexColumns, NewMessage};
 use archive_tables::texts;
 use mbox_items::{Item, Sender, written_sender};
 use sqlite::{Alter, Connection, Error};
@@ -113,18 +114,18 @@ fn write_down<S: Alter>(
 {
     let sender = sender_of(alloc, item)?;
     let filing = file(alloc, text, item.envelope.arrival)?;
-    let arrival = arrival_of(item);
-    texts::messages::add_message(
-        conn,
-        list,
-        key.as_str(),
-        &sender,
-        arrival,
+    let message = NewMessage {
+        key: key.as_str(),
+        sender: &sender,
+        arrival: arrival_of(item),
         text,
-        filing.sent,
-        filing.month,
-        &filing.author,
-    )?;
+    };
+    let columns = IndexColumns {
+        sent: filing.sent,
+        month: filing.month,
+        author: &filing.author,
+    };
+    texts::messages::add_message(conn, list, &message, &columns)?;
     Ok(())
 }
 

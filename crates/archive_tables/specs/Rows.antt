@@ -7,16 +7,25 @@ use Rattle.sqlite.specs.Tree.{Trees}
 use Rattle.sqlite.specs.declared.error.Error.{Error}
 use Rattle.sqlite.specs.declared.error.Error.TheVariants.{SqliteFailure, Utf8Error}
 use Rattle.sqlite.specs.declared.error.ErrorCode.TheVariants.{OutOfMemory}
-use Rattle.archive_model.specs.Records.{Grant, Message, ListOption}
+use Rattle.archive_model.specs.Records.{Grant, Message, IndexColumns as Filed, ListOption}
 use Rattle.archive_model.specs.Filing.{IndexedMessage, is_indexed_in_month, is_indexed_by_author, is_sent_before}
 use Rattle.archive_tables.specs.Tables.{int_or_null_value, merge_flag, NumberedRecord, numbered_from_row, indexed_message_from_row}
 use Rattle.archive_tables.specs.declared.rows.MessageRow.{MessageRow}
+use Rattle.archive_tables.specs.declared.rows.NewMessage.{NewMessage}
+use Rattle.archive_tables.specs.declared.rows.IndexColumns.{IndexColumns}
 use Rattle.archive_tables.specs.declared.rows.DatedMarksRow.{DatedMarksRow}
 use Rattle.archive_tables.specs.declared.rows.GrantRow.{GrantRow}
 
 -- a message as it comes in: not withdrawn, and under no embargo
 abbrev pub unmarked_message : List ℕ → List ℕ → List ℕ → ℤ → List ℕ → Message
 unmarked_message list key sender arrival text = record { list = list; key = key; sender = sender; arrival = arrival; text = text; withdrawn = pos 0; embargo = None }
+
+-- that message as the code has it, and what it is filed under
+abbrev pub added_message : List ℕ → NewMessage → Message
+added_message list m = unmarked_message list m.key.now m.sender.now m.arrival m.text.now
+
+abbrev pub model_index_columns : IndexColumns → Filed
+model_index_columns c = record { sent = c.sent; month = c.month; author = c.author.now }
 
 -- the numbers of all versions
 abbrev pub version_result_rows : Trees → List Row

@@ -1,4 +1,4 @@
-//! Rows of the tables as values, each read column by column.
+//! Rows of the tables as values: the message that is added, and what is read, column by column.
 
 ghost use Rattle.std.specs.Prelude.{◌≡◌, ◌∷◌, string_bytes, IfOk, IfErr};
 ghost use Rattle.archive_model.specs.Records.{Grant, Message, ListOption};
@@ -23,6 +23,30 @@ pub struct MessageRow {
     pub withdrawn: i64,
     /// A day; `None` where nothing holds it back.
     pub embargo: Option<i64>,
+}
+
+/// A message that is added, without its list: it is neither withdrawn nor under embargo.
+#[derive(Clone, Copy)]
+pub struct NewMessage<'a> {
+    /// The text's key, in hexadecimal.
+    pub key: &'a str,
+    /// The sender of the envelope.
+    pub sender: &'a [u8],
+    /// When it came, in seconds since 1970-01-01 00:00:00 UTC.
+    pub arrival: i64,
+    /// The whole text.
+    pub text: &'a [u8],
+}
+
+/// Under what a message is filed.
+#[derive(Clone, Copy)]
+pub struct IndexColumns<'a> {
+    /// The sent date, in seconds since 1970-01-01 00:00:00 UTC.
+    pub sent: i64,
+    /// The month of the sent date, as year times 12 plus month less 1.
+    pub month: i64,
+    /// The author key, in ASCII lower case; empty where there is no From field.
+    pub author: &'a [u8],
 }
 
 /// When a message came, and its two marks, as in `MessageRow`.

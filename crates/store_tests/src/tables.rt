@@ -1,6 +1,7 @@
 //! What each statement does, and what is read of its rows.
 use archive_tables::rows::{
-    DatedMarksRow, GrantRow, read_dated_marks, read_grant, read_message, read_name, read_rowid,
+    DatedMarksRow, GrantRow, IndexColumns, NewMessage, read_dated_marks, read_grant, read_message,
+    read_name, read_rowid,
 };
 use archive_tables::texts::{addresses, grants, lists, messages, options, persons, schema};
 use sqlite::{Alter, Connection, Error, ErrorCode, Row};
@@ -106,13 +107,34 @@ fn fill<S: Alter>(conn: &mut Connection<S>) -> Result<(), Error> {
     make(conn)?;
     lists::add_list(conn, "soc")?;
     persons::add_person(conn, "anna", "0123456789abcdef")?;
-    let sender = b"anna@example.org";
-    let arrival = 1_046_772_000;
-    messages::add_message(
-        conn, "soc", KEY, sender, arrival, b"hello\n", arrival, MARCH, b"",
-    )?;
-    messages::add_message(conn, "soc", OTHER, b"-", 0, b"", 0, EPOCH, b"")?;
+    let first = NewMessage {
+        key: KEY,
+        sender: b"anna@example.org",
+        arrival: 1_046_772_000,
+        text: b"hello\n",
+    };
+    messages::add_message(conn, "soc", &first, &filed(first.arrival, MARCH, b""))?;
+    let second = short_message(OTHER, 0, b"");
+    messages::add_message(conn, "soc", &second, &filed(0, EPOCH, b""))?;
     Ok(())
+}
+
+/// A message whose sender is `-`.
+fn short_message<'a>(key: &'a str, arrival: i64, text: &'a [u8]) -> NewMessage<'a> {
+    NewMessage {
+        key,
+        sender: b"-",
+        arrival,
+        text,
+    }
+}
+
+fn filed(sent: i64, month: i64, author: &[u8]) -> IndexColumns<'_> {
+    IndexColumns {
+        sent,
+        month,
+        author,
+    }
 }
 
 fn is_constraint(outcome: Result<usize, Error>) -> bool {
@@ -254,12 +276,14 @@ fn messages_come_in_the_order_of_the_mailbox<S: Alter>(
 ) -> Result<(), Fail> {
     fill(conn)?;
     lists::add_list(conn, "news")?;
-    messages::add_message(conn, "news", KEY, b"-", 1, b"hello\n", 1, EPOCH, b"")?;
+    let first = short_message(KEY, 1, b"hello\n");
+    messages::add_message(conn, "news", &first, &filed(1, EPOCH, b""))?;
     for (key, is_there) in [(KEY, true), (OTHER, false)] {
         let found = messages::has_message(conn, "news", key)?;
         assert_eq!(rt; found, is_there, "{key}");
     }
-    let added = messages::add_message(conn, "soc", KEY, b"-", 1, b"", 1, EPOCH, b"");
+    let again = short_message(KEY, 1, b"");
+    let added = messages::add_message(conn, "soc", &again, &filed(1, EPOCH, b""));
     assert!(rt; is_constraint(added));
     assert_eq!(rt; messages::count_messages(conn, "soc")?, 2);
     let places = messages::places(conn, "soc")?;
@@ -298,8 +322,10 @@ fn numbers_come_by_what_is_filed<S: Alter>(
     lists::add_list(conn, "soc")?;
     lists::add_list(conn, "news")?;
     for (key, (sent, month, author)) in ["1", "2", "3", "4", "5", "6"].iter().zip(FILED.iter()) {
-        messages::add_message(conn, "soc", key, b"-", 0, b"", *sent, *month, author)?;
-        messages::add_message(conn, "news", key, b"-", 0, b"", *sent, *month, author)?;
+        let message = short_message(key, 0, b"");
+        let columns = filed(*sent, *month, author);
+        messages::add_message(conn, "soc", &message, &columns)?;
+        messages::add_message(conn, "news", &message, &columns)?;
     }
     let numbers = messages::places(conn, "soc")?;
     assert_eq!(rt; numbers.len(), FILED.len());
@@ -358,7 +384,8 @@ fn marks_are_those_of_the_message<S: Alter>(
 ) -> Result<(), Fail> {
     fill(conn)?;
     lists::add_list(conn, "news")?;
-    messages::add_message(conn, "news", KEY, b"-", 1, b"hello\n", 1, EPOCH, b"")?;
+    let message = short_message(KEY, 1, b"hello\n");
+    messages::add_message(conn, "news", &message, &filed(1, EPOCH, b""))?;
     messages::set_withdrawn(conn, "news", KEY, 1)?;
     messages::set_embargo(conn, "news", KEY, -25567)?;
     for (list, key, want) in [
@@ -376,7 +403,8 @@ fn numbers_reach_a_limit<S: Alter>(rt: &impl Abort, conn: &mut Connection<S>) ->
     assert!(rt; !messages::reaches(conn, 1)?);
     lists::add_list(conn, "soc")?;
     for key in [KEY, OTHER] {
-        messages::add_message(conn, "soc", key, b"-", 0, b"", 0, EPOCH, b"")?;
+        let message = short_message(key, 0, b"");
+        messages::add_message(conn, "soc", &message, &filed(0, EPOCH, b""))?;
     }
     for (limit, is_reached) in [(2, true), (3, false)] {
         assert_eq!(rt; messages::reaches(conn, limit)?, is_reached, "{limit}");

@@ -7,39 +7,43 @@ ghost use Rattle.archive_model.specs.Questions.{is_message_at_key};
 ghost use Rattle.sqlite.specs.Held.{state};
 ghost use Rattle.sqlite.specs.State.{HasCleanDisk};
 ghost use Rattle.archive_tables.specs.Tables.{IsArchiveAtRest, has_rowid_at_least};
-ghost use Rattle.archive_tables.specs.Rows.{unmarked_message, message_from_result_row, decoded_dated_marks};
+ghost use Rattle.archive_tables.specs.Rows.{added_message, model_index_columns, message_from_result_row, decoded_dated_marks};
 ghost use Rattle.archive_tables.specs.Rows.{message_rowids_in, month_rowids, author_rowids, message_at, rowid_result_row};
 ghost use Rattle.archive_tables.specs.Statements.{insert_message_statement, set_withdrawn_statement, set_embargo_statement, clear_embargo_statement};
 ghost use Rattle.archive_tables.specs.Calls.{AnswersFromDatabase, AnswersOrFailsByFault, AnswersFromRows, WritesByStatement};
 
-use crate::rows::{DatedMarksRow, MessageRow, read_dated_marks, read_message};
+use crate::rows::{
+    DatedMarksRow, IndexColumns, MessageRow, NewMessage, read_dated_marks, read_message,
+};
 use sqlite::{Alter, Connection, Error, Row, params};
 
-/// Adds a message after the others, neither withdrawn nor under embargo, and files it under a sent date, a month and an author
-/// key.
+/// Adds a message after the others, neither withdrawn nor under embargo, and files it.
 pub fn add_message<S: Alter>(
     conn: &mut Connection<S>,
     list: &str,
-    key: &str,
-    sender: &[u8],
-    arrival: i64,
-    text: &[u8],
-    sent: i64,
-    month: i64,
-    author: &[u8],
+    message: &NewMessage<'_>,
+    columns: &IndexColumns<'_>,
 ) -> Result<usize, Error>
     ensures { WritesByStatement S.Store conn.old conn.new result
-        (λ a. list_any (is_message_at_key list.now key.now) a.messages ≡ false)
+        (λ a. list_any (is_message_at_key list.now message.now.key.now) a.messages ≡ false)
         (λ a. record a {
-          messages = a.messages ++ unmarked_message list.now key.now sender.now arrival text.now ∷ [];
-          index_columns = a.index_columns ++ record { sent = sent; month = month; author = author.now } ∷ [];
+          messages = a.messages ++ added_message list.now message.now ∷ [];
+          index_columns = a.index_columns ++ model_index_columns columns.now ∷ [];
         })
-        (insert_message_statement (unmarked_message list.now key.now sender.now arrival text.now)
-        (record { sent = sent; month = month; author = author.now })) }
+        (insert_message_statement (added_message list.now message.now) (model_index_columns columns.now)) }
 {
     conn.execute(
         "INSERT INTO message (list, key, sender, arrival, text, withdrawn, embargo, sent, month, author) VALUES (?1, ?2, ?3, ?4, ?5, 0, NULL, ?6, ?7, ?8)",
-        params![list, key, sender, arrival, text, sent, month, author],
+        params![
+            list,
+            message.key,
+            message.sender,
+            message.arrival,
+            message.text,
+            columns.sent,
+            columns.month,
+            columns.author
+        ],
     )
 }
 
