@@ -54,31 +54,18 @@ pub fn checked_message(row: MessageRow) -> Result<Message, DatabaseError>
     ensures unread { IfErr result (λ fault. (fault ≡ DatabaseError.Database)
         × ((list : List ℕ) → ¬ IsReadable (message_from_result_row list row))) }
 {
-    match read(row) {
-        Some(message) => Ok(message),
-        None => Err(DatabaseError::Database),
-    }
-}
-
-/// The same. `None` where the row is of none.
-fn read(row: MessageRow) -> Option<Message>
-    ensures some { IfSome result (λ message. (list : List ℕ)
-        → archived_message list message ≡ message_from_result_row list row) }
-    ensures none { IfNone result ((list : List ℕ) → ¬ IsReadable (message_from_result_row list row)) }
-{
-    let key = Key::read(&row.key)?;
-    let arrival = Instant::new(row.arrival)?;
-    let withdrawn = withdrawn_by(row.withdrawn)?;
-    let embargo_until = match row.embargo {
-        Some(number) => Some(numbered_day(number)?),
-        None => None,
-    };
-    let item = OwnedItem::new(row.sender, arrival, row.text)?;
-    Some(Message {
+    let key = Key::read(&row.key).ok_or(DatabaseError::Database)?;
+    let marks = checked_dated_marks(DatedMarksRow {
+        arrival: row.arrival,
+        withdrawn: row.withdrawn,
+        embargo: row.embargo,
+    })?;
+    let item = OwnedItem::new(row.sender, marks.arrival, row.text);
+    Ok(Message {
         key,
-        item,
-        withdrawn,
-        embargo_until,
+        item: item.ok_or(DatabaseError::Database)?,
+        withdrawn: marks.withdrawn,
+        embargo_until: marks.embargo_until,
     })
 }
 
@@ -89,25 +76,13 @@ pub fn checked_dated_marks(row: DatedMarksRow) -> Result<DatedMarks, DatabaseErr
     ensures unread { IfErr result (λ fault. (fault ≡ DatabaseError.Database)
         × ((m : Remembered) → row ≡ decoded_dated_marks m → ¬ IsReadable m)) }
 {
-    match read_marks(row) {
-        Some(marks) => Ok(marks),
-        None => Err(DatabaseError::Database),
-    }
-}
-
-/// The same. `None` where no message has them.
-fn read_marks(row: DatedMarksRow) -> Option<DatedMarks>
-    ensures some { IfSome result (λ marks. (m : Remembered) → row ≡ decoded_dated_marks m
-        → AreDatedMarksOf marks m) }
-    ensures none { IfNone result ((m : Remembered) → row ≡ decoded_dated_marks m → ¬ IsReadable m) }
-{
-    let arrival = Instant::new(row.arrival)?;
-    let withdrawn = withdrawn_by(row.withdrawn)?;
+    let arrival = Instant::new(row.arrival).ok_or(DatabaseError::Database)?;
+    let withdrawn = withdrawn_by(row.withdrawn).ok_or(DatabaseError::Database)?;
     let embargo_until = match row.embargo {
-        Some(number) => Some(numbered_day(number)?),
+        Some(number) => Some(numbered_day(number).ok_or(DatabaseError::Database)?),
         None => None,
     };
-    Some(DatedMarks {
+    Ok(DatedMarks {
         arrival,
         withdrawn,
         embargo_until,
